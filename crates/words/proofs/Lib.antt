@@ -1,0 +1,9 @@
+pub mod Word
+pub mod Sums
+pub mod Rows
+pub mod Parity
+pub mod Span
+pub mod Ends
+pub mod Steps
+pub mod Choice
+pub mod Pigeonhole

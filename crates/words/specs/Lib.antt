@@ -1,0 +1,6 @@
+pub mod Word
+pub mod Sum
+pub mod Parity
+pub mod Span
+pub mod Ends
+pub mod Choice
