@@ -1,0 +1,6 @@
+pub mod Refusals
+pub mod Code
+pub mod Heads
+pub mod Profile
+pub mod Dimension
+pub mod Prepare

@@ -1,0 +1,90 @@
+-- What preparing replies to each matrix, and when a plate is prepared.
+use Prim.Native.Nat.{ℕ, _^_, _≤_, _<_}
+use lib.ListN.{length, getD, take, replicate}
+use mathlib.Core.Bool.{Bool, true, false}
+use mathlib.Core.List.{List, [], _∷_}
+use mathlib.Core.Logic.{_⊎_}
+use mathlib.Core.Path.{_≡_}
+use Rattle.words.specs.Ends.{firsts, lasts}
+use Rattle.plates.specs.declared.Kind.{Kind}
+use Rattle.plates.specs.declared.Kind.the-variants.{G, H}
+use Rattle.plates.specs.declared.Plate.{Plate}
+use Rattle.plates.specs.declared.Prepared.{Prepared}
+use Rattle.plates.specs.declared.Refusal.{Refusal}
+use Rattle.plates.specs.declared.Refusal.the-variants.{Length, TooManyRows, RowBeyond, TooWide, NotPrepared}
+use Rattle.plates.specs.declared.Verdict.the-variants.{Accepted, Refused}
+use Rattle.plates.specs.Code.{InCode}
+use Rattle.plates.specs.Heads.{RowsOf}
+use Rattle.plates.specs.Profile.{liveAt}
+use Rattle.plates.specs.Refusals.{Refuses, Passes}
+
+-- ---- the conditions of refusals 1 to 4
+
+-- 1: n is 0 or over 64
+abbrev pub badLength : ℕ → Refusal → Type 0
+badLength n q = ((n ≡ 0) ⊎ (64 < n)) × (q ≡ Length)
+
+-- 2: more than 64 rows
+abbrev pub tooManyRows : List ℕ → Refusal → Type 0
+tooManyRows rows q = (64 < length rows) × (q ≡ TooManyRows)
+
+-- 3: a row has a one at n or beyond; the place is the first such row
+pub record RowOver (n : ℕ) (rows : List ℕ) (q : Refusal) : Type 0 where
+  pub row : ℕ
+  pub there : row < length rows
+  pub over : 2 ^ n ≤ getD rows row 0
+  pub first : (j : ℕ) → j < row → getD rows j 0 < 2 ^ n
+  pub is : q ≡ RowBeyond row
+
+-- 4: some s(t) of the code's plate exceeds 12
+pub record Wide (C : ℕ → Type 0) (n : ℕ) (q : Refusal) : Type 0 where
+  pub rows : List ℕ
+  pub plate : RowsOf C rows (firsts rows) (lasts rows)
+  pub depth : ℕ
+  pub within : depth ≤ n
+  pub over : 12 < liveAt rows depth
+  pub is : q ≡ TooWide
+
+abbrev pub prepareConditions : ℕ → Kind → List ℕ → List (Refusal → Type 0)
+prepareConditions n kind rows = badLength n ∷ tooManyRows rows ∷ RowOver n rows ∷ Wide (InCode kind n rows) n ∷ []
+
+-- ---- the reply
+
+-- the rows in use
+abbrev pub rowsOf : Plate → List ℕ
+rowsOf plate = take (plate .k) (plate .rows)
+
+-- the plate of the code C of length n: its rows, the profile, and zero in the unused places
+pub record PlateOf (C : ℕ → Type 0) (n : ℕ) (plate : Plate) : Type 0 where
+  pub length-n : plate .n ≡ n
+  pub few : plate .k ≤ 64
+  pub table : length (plate .rows) ≡ 64
+  pub rows : RowsOf C (rowsOf plate) (firsts (rowsOf plate)) (lasts (rowsOf plate))
+  pub unused-rows : (j : ℕ) → plate .k ≤ j → getD (plate .rows) j 0 ≡ 0
+  pub entries : length (plate .profile) ≡ 65
+  pub profile : (t : ℕ) → t ≤ n → getD (plate .profile) t 0 ≡ liveAt (rowsOf plate) t
+  pub unused-entries : (t : ℕ) → n < t → getD (plate .profile) t 0 ≡ 0
+
+abbrev pub zeroPlate : Plate
+zeroPlate = record { n = 0; k = 0; rows = replicate 64 0; profile = replicate 65 0 }
+
+-- What preparing replies: the first refusal in order, with the zero plate beside it, or the plate of the matrix's code
+pub record Prepares (n : ℕ) (kind : Kind) (rows : List ℕ) (r : Prepared) : Type 0 where
+  pub refused : (q : Refusal) → Refuses (prepareConditions n kind rows) q → r ≡ record { verdict = Refused q; plate = zeroPlate }
+  pub accepted : Passes (prepareConditions n kind rows) → (r .verdict ≡ Accepted) × PlateOf (InCode kind n rows) n (r .plate)
+
+-- ---- refusal 5
+
+-- the plate has k at most 64, and is what preparing its own first k rows as G gives
+pub record IsPrepared (plate : Plate) : Type 0 where
+  pub few : plate .k ≤ 64
+  pub same : Prepares (plate .n) G (rowsOf plate) (record { verdict = Accepted; plate = plate })
+
+-- 5: it is not
+abbrev pub notPrepared : Plate → Refusal → Type 0
+notPrepared plate q = (IsPrepared plate → ⊥) × (q ≡ NotPrepared)
+
+-- what the test of a plate replies
+pub record Tests (plate : Plate) (r : Bool) : Type 0 where
+  pub yes-is : r ≡ true → IsPrepared plate
+  pub no-is : r ≡ false → IsPrepared plate → ⊥
