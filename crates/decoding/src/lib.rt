@@ -1,0 +1,7 @@
+// Decoding: the codeword of greatest correlation with soft samples.
+
+// What the steps counted: branches added, and comparisons made.
+pub struct Counts {
+    pub additions: u64,
+    pub comparisons: u64,
+}
