@@ -84,3 +84,13 @@ sum-agree (r ∷ rs) p u v h =
     one : (bit r p ≡ 0) ⊎ (u % 2 ≡ v % 2) → bit (taken (u % 2) r) p ≡ bit (taken (v % 2) r) p
     one (inl z) = zero-taken z (u % 2) ∙ sym (zero-taken z (v % 2))
     one (inr e) = ap (λ (d : ℕ). bit (taken d r) p) e
+
+-- a position where every row has 0 has 0 in every sum
+pub all-zero : (rows : List ℕ) (p : ℕ) → ((j : ℕ) → j < length rows → bit (getD rows j 0) p ≡ 0) → (u : ℕ) → bit (sumOf rows u) p ≡ 0
+all-zero [] p h u = bit-zero p
+all-zero (r ∷ rs) p h u =
+    bit-xor p (taken (u % 2) r) (sumOf rs (u / 2)) ∙ ap₂ differ (one (u % 2)) (all-zero rs p (λ j l. h (suc j) (suc-le-suc l)) (u / 2))
+  where
+    one : (d : ℕ) → bit (taken d r) p ≡ 0
+    one zero = bit-zero p
+    one (suc d) = h 0 (suc-le-suc zero-le)
