@@ -3,3 +3,6 @@ pub mod OnePlate
 pub mod OneCheck
 pub mod ProfileDimensions
 pub mod OneDimension
+pub mod Refusing
+pub mod LastOnesDiffer
+pub mod SoundIsPrepared
