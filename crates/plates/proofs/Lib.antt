@@ -6,3 +6,4 @@ pub mod OneDimension
 pub mod Refusing
 pub mod LastOnesDiffer
 pub mod SoundIsPrepared
+pub mod PrepareDetermined
