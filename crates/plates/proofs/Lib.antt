@@ -7,3 +7,4 @@ pub mod Refusing
 pub mod LastOnesDiffer
 pub mod SoundIsPrepared
 pub mod PrepareDetermined
+pub mod Live

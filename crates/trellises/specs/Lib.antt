@@ -1,1 +1,4 @@
+pub mod Graph
+pub mod States
 pub mod Numbers
+pub mod Branching

@@ -1,0 +1,4 @@
+pub mod Active
+pub mod Gluing
+pub mod NoneSmaller
+pub mod TrellisSpells
