@@ -1,0 +1,5 @@
+pub mod Integers
+pub mod EarlierWords
+pub mod StateChoice
+pub mod Leaving
+pub mod BestWay
