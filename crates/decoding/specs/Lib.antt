@@ -2,3 +2,4 @@ pub mod Taking
 pub mod Stepping
 pub mod Metric
 pub mod Backward
+pub mod Decode
