@@ -5,3 +5,7 @@ pub mod TrellisSpells
 pub mod OneMoreRow
 pub mod SectionAgrees
 pub mod ParityDigits
+pub mod Digits
+pub mod ActiveOnly
+pub mod SectionFits
+pub mod SectionBranches

@@ -1,16 +1,19 @@
 -- What one more row does to a section, by three tests of the row: it is active, it began before, it goes on.
-use borrow.Author.Tests.{eq-eqb, le-leb, le-ltb, lt-leb, lt-ltb, ne-eqb}
+use borrow.Author.Tests.{eq-eqb, le-leb, le-ltb, lt-leb, lt-ltb, ltb-false, ne-eqb}
 use lib.Dec.{T, eqb, leb, leb→le, ltb}
+use lib.ListN.{length}
 use mathlib.Core.Bool.{_&&_, Bool, cond, false, not, true, _||_}
+use mathlib.Core.List.{List, [], _∷_}
 use mathlib.Core.Path.{refl, subst, sym, _≡_}
 use native.Mathlib.Decide.{decLt}
 use native.Mathlib.Omega.{arith}
-use Prim.Native.Nat.{_*_, _+_, _<_, suc, ℕ, _≤_}
+use Prim.Native.Nat.{_*_, _+_, _<_, suc, suc-le-suc, zero-le, ℕ, _≤_}
 use Rattle.plates.proofs.Live.{and-left, and-right}
 use Rattle.trellises.specs.declared.Section.{Section}
-use Rattle.trellises.specs.SectionOf.{isActive, withActive, withRow}
+use Rattle.trellises.specs.SectionOf.{isActive, quiet, sectionOf, withActive, withRow}
 use Rattle.words.specs.Choice.{more}
-use Rattle.words.specs.Ends.{first, last}
+use Rattle.words.specs.Ends.{first, firsts, last, lasts}
+use Rattle.words.specs.Span.{Apart}
 use Rattle.words.specs.Word.{bit}
 
 -- the section with a row, by the three tests and the row's digit
@@ -71,3 +74,45 @@ module _ (t row : ℕ) where
     leb→le (first row) t (and-left (leb (first row) t) (leb t (last row)) (subst T (sym e) tt)),
     leb→le t (last row) (and-right (leb (first row) t) (leb t (last row)) (subst T (sym e) tt)),
   )
+
+-- ---- first ones that rise, and last ones that differ
+
+abbrev pub Rising : List ℕ → Type 0
+Rising rows = (i j : ℕ) → i < j → j < length rows → firsts rows i < firsts rows j
+
+abbrev pub LastsApart : List ℕ → Type 0
+LastsApart rows = Apart (length rows) (lasts rows)
+
+pub rising-rest : (row : ℕ) (rows : List ℕ) → Rising (row ∷ rows) → Rising rows
+rising-rest row rows h i j l m = h (suc i) (suc j) (suc-le-suc l) (suc-le-suc m)
+
+pub apart-rest : (row : ℕ) (rows : List ℕ) → LastsApart (row ∷ rows) → LastsApart rows
+apart-rest row rows h i j l m e = omega (arith, h (suc i) (suc j) (suc-le-suc l) (suc-le-suc m) e)
+
+module _ (t : ℕ) where
+  -- no row is active where all begin later
+  all-later : (rows : List ℕ) → ((j : ℕ) → j < length rows → t < firsts rows j) → sectionOf rows t ≡ quiet
+  unfolding withRow
+  all-later [] h = refl
+  all-later (row ∷ rows) h = rw (lt-leb (first row) t (h 0 (suc-le-suc zero-le))) (all-later rows (λ j l. h (suc j) (suc-le-suc l)))
+
+  -- a row that does not begin before t leaves no active row behind it
+  pub begins-alone : (row : ℕ) (rows : List ℕ) → Rising (row ∷ rows) → ltb (first row) t ≡ false → sectionOf rows t ≡ quiet
+  begins-alone row rows h e =
+      all-later rows (λ j l. omega (arith, ltb-false (first row) t e, h 0 (suc j) (suc-le-suc zero-le) (suc-le-suc l)))
+
+  -- no row ends at t where none has its last one there
+  none-ends : (rows : List ℕ) → ((j : ℕ) → j < length rows → t ≡ lasts rows j → ⊥) → sectionOf rows t .ends ≡ false
+  none-ends [] h = refl
+  none-ends (row ∷ rows) h =
+      rw (with-row t row (sectionOf rows t)) (go (isActive t row) (ltb t (last row)) refl refl (none-ends rows (λ j l. h (suc j) (suc-le-suc l))))
+    where
+      go : (a g : Bool) → isActive t row ≡ a → ltb t (last row) ≡ g → sectionOf rows t .ends ≡ false → taking a (ltb (first row) t) g (bit row t) (sectionOf rows t) .ends ≡ false
+      go false g e f ih = ih
+      go true true e f ih = ih
+      go true false e f ih = absurd (h 0 (suc-le-suc zero-le) (omega (arith, ltb-false t (last row) f, active-ends t row e)))
+
+  -- where a row ends at t, none behind it does
+  pub ends-alone : (row : ℕ) (rows : List ℕ) → LastsApart (row ∷ rows) → isActive t row ≡ true → ltb t (last row) ≡ false → sectionOf rows t .ends ≡ false
+  ends-alone row rows h e f =
+      none-ends rows (λ j k q. omega (arith, h 0 (suc j) (suc-le-suc zero-le) (suc-le-suc k) (omega (arith, q, ltb-false t (last row) f, active-ends t row e))))

@@ -1,110 +1,41 @@
 -- The section of plate rows, as numbers, agrees with their trellis: states, branches, bits, and where each branch leads.
-use borrow.Author.Tests.{lt-leb, ltb-false}
-use lib.Arith.{mod-mul}
+
 use lib.Bits.{bitXor, differ}
 use lib.Dec.{ltb}
 use lib.ListN.{length}
-use lib.Pow.{pow-pos, shr-shr}
 use mathlib.Core.Bool.{_&&_, Bool, cond, false, true}
 use mathlib.Core.List.{List, [], _∷_}
 use mathlib.Core.Path.{ap, ap₂, refl, sym, _∙_, _≡_}
-use native.Mathlib.Nat.{mul-assoc, pow-suc}
-use native.Mathlib.Numerals.{one-add}
+use native.Mathlib.Nat.{pow-suc}
 use native.Mathlib.Omega.{arith}
-use Prim.Native.Nat.{_%_, _*_, _+_, _/_, _<_, _^_, min, suc, suc-le-suc, zero, zero-le, ℕ}
+use Prim.Native.Nat.{_%_, _*_, _+_, _/_, _<_, _^_, min, suc, zero, ℕ}
 use Rattle.plates.specs.declared.Kind.the-variants.{G}
 use Rattle.plates.specs.Profile.{live, liveAt}
-use Rattle.trellises.proofs.OneMoreRow.{active-ends, live-next, live-now, taking, with-row}
+use Rattle.trellises.proofs.Digits.{gathered, mod-digit, mod-none, odd, one-more, put-half, put-odd, rest, without-zero}
+use Rattle.trellises.proofs.OneMoreRow.{LastsApart, Rising, apart-rest, begins-alone, ends-alone, live-next, live-now, rising-rest, taking, with-row}
 use Rattle.trellises.proofs.ParityDigits.{parity-digits}
 use Rattle.trellises.specs.declared.Section.{Section}
-use Rattle.trellises.specs.Numbers.{bitOf, leadsTo, leaves, without}
-use Rattle.trellises.specs.SectionOf.{isActive, quiet, sectionOf, withRow}
-use Rattle.trellises.specs.States.{active}
+use Rattle.trellises.specs.Numbers.{bitOf, branchCount, leadsTo, leaves, without}
+use Rattle.trellises.specs.SectionOf.{isActive, quiet, sectionOf}
+use Rattle.trellises.specs.States.{active, stateOf}
 use Rattle.words.proofs.Parity.{differ-mod, parity-zero}
-use Rattle.words.proofs.Word.{bit-lt, bit-xor, bit-zero, half}
-use Rattle.words.specs.Choice.{count, gather, more, pull, put, spread}
+use Rattle.words.proofs.Word.{bit-lt, bit-xor, bit-zero}
+use Rattle.words.specs.Choice.{count, more, pull, spread}
 use Rattle.words.specs.Ends.{first, firsts, last, lasts}
 use Rattle.words.specs.Parity.{parity}
-use Rattle.words.specs.Span.{Apart}
+use Rattle.words.specs.Span.{Spans}
 use Rattle.words.specs.Sum.{sumOf, taken}
 use Rattle.words.specs.Word.{bit}
 
--- ---- numbers spread over places: the digit at the first place, and what is left for the others
+-- the rows that branch v of section t takes
+abbrev pub chosen : List ℕ → ℕ → ℕ → ℕ
+chosen rows t v = spread (length rows) (active (firsts rows) (lasts rows) t) v
 
-abbrev odd : Bool → ℕ → ℕ
-odd true v = v % 2
-odd false v = 0
-
-abbrev rest : Bool → ℕ → ℕ
-rest true v = v / 2
-rest false v = v
-
-put-odd : (a : Bool) (S : ℕ → ℕ) (v : ℕ) → put a S v % 2 ≡ odd a v
-put-odd true S v = omega arith
-put-odd false S v = omega arith
-
-put-half : (a : Bool) (S : ℕ → ℕ) (v : ℕ) → put a S v / 2 ≡ S (rest a v)
-put-half true S v = half (S (v / 2)) (v % 2) (omega arith)
-put-half false S v = omega arith
-
-mod-digit : (v l : ℕ) → v % 2 ^ suc l ≡ v / 2 % 2 ^ l * 2 + v % 2
-mod-digit v l = ap (λ (x : ℕ). v % x) (pow-suc 2 l) ∙ mod-mul v (pow-pos l) (omega arith)
-
-mod-none : (v l : ℕ) → l ≡ 0 → v % 2 ^ l ≡ 0
-mod-none v l e = rw e (omega arith)
-
--- a digit taken out
-without-zero : (x : ℕ) → without 0 x ≡ x / 2
-without-zero x = omega arith
-
-without-suc : (e x : ℕ) → without (suc e) x ≡ without e (x / 2) * 2 + x % 2
-without-suc e x =
-    let hi : x / 2 / 2 ^ e ≡ x / 2 ^ suc e = shr-shr x 1 e ∙ ap (λ (i : ℕ). x / 2 ^ i) (one-add e) in
-    let p : x / 2 ^ suc e / 2 * 2 ^ suc e ≡ x / 2 / 2 ^ e / 2 * 2 ^ e * 2 =
-    ap₂ (λ (p z : ℕ). z / 2 * p) (pow-suc 2 e) (sym hi) ∙ sym (mul-assoc (x / 2 / 2 ^ e / 2) (2 ^ e) 2) in
-    omega (arith, mod-digit x e)
-
-one-more : (b : Bool) (e x : ℕ) → cond b (without (suc e) x) x ≡ cond b (without e (x / 2)) (x / 2) * 2 + x % 2
-one-more true e x = without-suc e x
-one-more false e x = omega arith
-
--- ---- one row more
-
-abbrev Rising : List ℕ → Type 0
-Rising rows = (i j : ℕ) → i < j → j < length rows → firsts rows i < firsts rows j
-
-abbrev LastsApart : List ℕ → Type 0
-LastsApart rows = Apart (length rows) (lasts rows)
-
-rising-rest : (row : ℕ) (rows : List ℕ) → Rising (row ∷ rows) → Rising rows
-rising-rest row rows h i j l m = h (suc i) (suc j) (suc-le-suc l) (suc-le-suc m)
-
-apart-rest : (row : ℕ) (rows : List ℕ) → LastsApart (row ∷ rows) → LastsApart rows
-apart-rest row rows h i j l m e = omega (arith, h (suc i) (suc j) (suc-le-suc l) (suc-le-suc m) e)
+-- how many rows are active in section t
+abbrev pub activeAt : List ℕ → ℕ → ℕ
+activeAt rows t = count (length rows) (active (firsts rows) (lasts rows) t)
 
 module _ (t : ℕ) where
-  -- no row is active where all begin later
-  all-later : (rows : List ℕ) → ((j : ℕ) → j < length rows → t < firsts rows j) → sectionOf rows t ≡ quiet
-  unfolding withRow
-  all-later [] h = refl
-  all-later (row ∷ rows) h = rw (lt-leb (first row) t (h 0 (suc-le-suc zero-le))) (all-later rows (λ j l. h (suc j) (suc-le-suc l)))
-
-  -- a row that does not begin before t leaves no active row behind it
-  begins-alone : (row : ℕ) (rows : List ℕ) → Rising (row ∷ rows) → ltb (first row) t ≡ false → sectionOf rows t ≡ quiet
-  begins-alone row rows h e =
-      all-later rows (λ j l. omega (arith, ltb-false (first row) t e, h 0 (suc j) (suc-le-suc zero-le) (suc-le-suc l)))
-
-  -- no row ends at t where none has its last one there
-  none-ends : (rows : List ℕ) → ((j : ℕ) → j < length rows → t ≡ lasts rows j → ⊥) → sectionOf rows t .ends ≡ false
-  none-ends [] h = refl
-  none-ends (row ∷ rows) h =
-      rw (with-row t row (sectionOf rows t)) (go (isActive t row) (ltb t (last row)) refl refl (none-ends rows (λ j l. h (suc j) (suc-le-suc l))))
-    where
-      go : (a g : Bool) → isActive t row ≡ a → ltb t (last row) ≡ g → sectionOf rows t .ends ≡ false → taking a (ltb (first row) t) g (bit row t) (sectionOf rows t) .ends ≡ false
-      go false g e f ih = ih
-      go true true e f ih = ih
-      go true false e f ih = absurd (h 0 (suc-le-suc zero-le) (omega (arith, ltb-false t (last row) f, active-ends t row e)))
-
   -- ---- the counts
 
   pub live-count : (rows : List ℕ) → sectionOf rows t .live ≡ liveAt rows t
@@ -116,11 +47,11 @@ module _ (t : ℕ) where
       go true b e = ap (more b) e
 
   -- the active rows are the live ones and the one that begins
-  active-count : (rows : List ℕ) → Rising rows → more (sectionOf rows t .begins) (sectionOf rows t .live) ≡ count (length rows) (active (firsts rows) (lasts rows) t)
+  pub active-count : (rows : List ℕ) → Rising rows → more (sectionOf rows t .begins) (sectionOf rows t .live) ≡ activeAt rows t
   active-count [] h = refl
   active-count (row ∷ rows) h =
       rw (with-row t row (sectionOf rows t))
-      (go (isActive t row) (ltb (first row) t) (begins-alone row rows h) (active-count rows (rising-rest row rows h)))
+      (go (isActive t row) (ltb (first row) t) (begins-alone t row rows h) (active-count rows (rising-rest row rows h)))
     where
       c : Section
       c = sectionOf rows t
@@ -137,26 +68,19 @@ module _ (t : ℕ) where
 
   -- ---- the branch v: the state that it leaves, its bit, and the state that it leads to
 
-  -- what is gathered from a number that is spread, with one row more
-  gathered : (k : ℕ) (P : ℕ → Bool) (S : ℕ → ℕ) (a p : Bool) (v : ℕ) → P 0 ≡ p
-      → gather (suc k) P (put a S v) ≡ pull p (odd a v) (gather k (λ j. P (suc j)) (S (rest a v)))
-  gathered k P S a p v e =
-      ap₂ (λ (d u : ℕ). pull (P 0) d (gather k (λ j. P (suc j)) u)) (put-odd a S v) (put-half a S v)
-      ∙ ap (λ (b : Bool). pull b (odd a v) (gather k (λ j. P (suc j)) (S (rest a v)))) e
-
   leaves-state : (rows : List ℕ) → Rising rows → (v : ℕ)
-      → leaves (sectionOf rows t) v ≡ gather (length rows) (live (firsts rows) (lasts rows) t) (spread (length rows) (active (firsts rows) (lasts rows) t) v)
+      → leaves (sectionOf rows t) v ≡ stateOf rows (firsts rows) (lasts rows) t (chosen rows t v)
   leaves-state [] h v = omega arith
   leaves-state (row ∷ rows) h v =
       ap (λ (z : Section). leaves z v) (with-row t row c)
-      ∙ go (isActive t row) (ltb (first row) t) (begins-alone row rows h) (leaves-state rows (rising-rest row rows h))
+      ∙ go (isActive t row) (ltb (first row) t) (begins-alone t row rows h) (leaves-state rows (rising-rest row rows h))
       ∙ sym (gathered (length rows) (live (firsts (row ∷ rows)) (lasts (row ∷ rows)) t) S (isActive t row) _ v (live-now t row))
     where
       c : Section
       c = sectionOf rows t
 
       S : ℕ → ℕ
-      S = spread (length rows) (active (firsts rows) (lasts rows) t)
+      S = chosen rows t
 
       go : (a b : Bool) {G : ℕ → ℕ} → (b ≡ false → c ≡ quiet) → ((v : ℕ) → leaves c v ≡ G v)
           → leaves (taking a b (ltb t (last row)) (bit row t) c) v ≡ pull (a && b) (odd a v) (G (rest a v))
@@ -165,7 +89,7 @@ module _ (t : ℕ) where
       go true false q ih =
           let e : c .live ≡ 0 = ap (λ (z : Section). z .live) (q refl) in mod-none v (c .live) e ∙ sym (mod-none (v / 2) (c .live) e) ∙ ih (v / 2)
 
-  bit-sum : (rows : List ℕ) (v : ℕ) → bitOf (sectionOf rows t) v ≡ bit (sumOf rows (spread (length rows) (active (firsts rows) (lasts rows) t) v)) t
+  bit-sum : (rows : List ℕ) (v : ℕ) → bitOf (sectionOf rows t) v ≡ bit (sumOf rows (chosen rows t v)) t
   bit-sum [] v = parity-zero v ∙ sym (bit-zero t)
   bit-sum (row ∷ rows) v =
       ap (λ (z : Section). bitOf z v) (with-row t row c)
@@ -176,7 +100,7 @@ module _ (t : ℕ) where
       c = sectionOf rows t
 
       S : ℕ → ℕ
-      S = spread (length rows) (active (firsts rows) (lasts rows) t)
+      S = chosen rows t
 
       bit-taken : (d : ℕ) → d < 2 → bit (taken d row) t ≡ min d (bit row t)
       bit-taken zero h = bit-zero t ∙ omega arith
@@ -196,8 +120,8 @@ module _ (t : ℕ) where
           ∙ ap₂ (λ (x y : ℕ). (x + y) % 2) (sym (bit-taken (v % 2) (omega arith))) (ih (v / 2))
           ∙ sym (differ-mod (bit (taken (v % 2) row) t) (bit (B (v / 2)) t) (bit-lt t (taken (v % 2) row)) (bit-lt t (B (v / 2))))
 
-  leads-state : (rows : List ℕ) → LastsApart rows → (v : ℕ) → v < 2 ^ count (length rows) (active (firsts rows) (lasts rows) t)
-      → leadsTo (sectionOf rows t) v ≡ gather (length rows) (live (firsts rows) (lasts rows) (suc t)) (spread (length rows) (active (firsts rows) (lasts rows) t) v)
+  leads-state : (rows : List ℕ) → LastsApart rows → (v : ℕ) → v < 2 ^ activeAt rows t
+      → leadsTo (sectionOf rows t) v ≡ stateOf rows (firsts rows) (lasts rows) (suc t) (chosen rows t v)
   leads-state [] h v l = omega arith
   leads-state (row ∷ rows) h v l =
       ap (λ (z : Section). leadsTo z v) (with-row t row c)
@@ -208,17 +132,35 @@ module _ (t : ℕ) where
       c = sectionOf rows t
 
       S : ℕ → ℕ
-      S = spread (length rows) (active (firsts rows) (lasts rows) t)
-
-      alone : isActive t row ≡ true → ltb t (last row) ≡ false → c .ends ≡ false
-      alone e f = none-ends rows (λ j k q. omega (arith, h 0 (suc j) (suc-le-suc zero-le) (suc-le-suc k) (omega (arith, q, ltb-false t (last row) f, active-ends t row e))))
+      S = chosen rows t
 
       C : ℕ
-      C = count (length rows) (active (firsts rows) (lasts rows) t)
+      C = activeAt rows t
 
       go : (a g : Bool) {G : ℕ → ℕ} → isActive t row ≡ a → ltb t (last row) ≡ g → v < 2 ^ more a C → ((v : ℕ) → v < 2 ^ C → leadsTo c v ≡ G v)
           → leadsTo (taking a (ltb (first row) t) g (bit row t) c) v ≡ pull (a && g) (odd a v) (G (rest a v))
       go false g e f l ih = ih v l
       go true true e f l ih = one-more (c .ends) (c .ending) v ∙ ap (λ (x : ℕ). x * 2 + v % 2) (ih (v / 2) (omega (arith, pow-suc 2 C)))
       go true false e f l ih =
-          without-zero v ∙ sym (ap (λ (b : Bool). cond b (without (c .ending) (v / 2)) (v / 2)) (alone e f)) ∙ ih (v / 2) (omega (arith, pow-suc 2 C))
+          without-zero v ∙ sym (ap (λ (b : Bool). cond b (without (c .ending) (v / 2)) (v / 2)) (ends-alone t row rows h e f)) ∙ ih (v / 2) (omega (arith, pow-suc 2 C))
+
+-- what it is for a section's numbers to agree with the trellis of some rows at depth t
+pub record Agrees (rows : List ℕ) (t : ℕ) (c : Section) : Type 0 where
+  pub states : c .live ≡ liveAt rows t
+  pub branches : branchCount c ≡ 2 ^ activeAt rows t
+  pub from-state : (v : ℕ) → leaves c v ≡ stateOf rows (firsts rows) (lasts rows) t (chosen rows t v)
+  pub spells : (v : ℕ) → bitOf c v ≡ bit (sumOf rows (chosen rows t v)) t
+  pub to-state : (v : ℕ) → v < 2 ^ activeAt rows t → leadsTo c v ≡ stateOf rows (firsts rows) (lasts rows) (suc t) (chosen rows t v)
+
+pub section-agrees : (rows : List ℕ) → Spans rows (firsts rows) (lasts rows) → (t : ℕ) → Agrees rows t (sectionOf rows t)
+section-agrees rows s t = record {
+  states = live-count t rows;
+  branches = doubled (sectionOf rows t .begins) (sectionOf rows t .live) ∙ ap (λ (n : ℕ). 2 ^ n) (active-count t rows (s .rising));
+  from-state = leaves-state t rows (s .rising);
+  spells = bit-sum t rows;
+  to-state = leads-state t rows (s .apart);
+}
+  where
+    doubled : (b : Bool) (n : ℕ) → cond b (2 ^ n + 2 ^ n) (2 ^ n) ≡ 2 ^ more b n
+    doubled true n = omega (arith, pow-suc 2 n)
+    doubled false n = refl
