@@ -2,3 +2,10 @@ pub mod Active
 pub mod Gluing
 pub mod NoneSmaller
 pub mod TrellisSpells
+pub mod OneMoreRow
+pub mod SectionAgrees
+pub mod ParityDigits
+pub mod Digits
+pub mod ActiveOnly
+pub mod SectionFits
+pub mod SectionBranches
