@@ -2,3 +2,4 @@ pub mod Active
 pub mod Gluing
 pub mod NoneSmaller
 pub mod TrellisSpells
+pub mod PathsOnce

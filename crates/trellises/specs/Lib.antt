@@ -2,3 +2,4 @@ pub mod Graph
 pub mod States
 pub mod Numbers
 pub mod Branching
+pub mod Smallest
