@@ -3,3 +3,5 @@ pub mod Gluing
 pub mod NoneSmaller
 pub mod TrellisSpells
 pub mod PathsOnce
+pub mod PlateGenerates
+pub mod AcceptedIsPrepared
