@@ -1,7 +1,7 @@
 -- The plate that preparing a matrix accepts is prepared, and the sums of its rows are the words of the matrix's code.
 use lib.ListN.{getD, length}
 use mathlib.Core.List.{List}
-use mathlib.Core.Logic.{_↔_}
+use mathlib.Core.Logic.{Iff·symm, _↔_}
 use mathlib.Core.Path.{refl, subst, sym, _≡_}
 use native.Mathlib.Decide.{decLt}
 use native.Mathlib.Omega.{arith}
@@ -84,7 +84,7 @@ module _ (n : ℕ) (kind : Kind) (rows : List ℕ) (r : Prepared) (p : Prepares 
       wide q w =
           accepted .0 .1 .1 .1 .0 q (record {
             rows = w .rows;
-            plate = rows-same (IsSum (rowsOf (r .plate))) (InCode kind n rows) (λ x. (accepted-code x .1, accepted-code x .0)) (w .rows) _ _ (w .plate);
+            plate = rows-same (IsSum (rowsOf (r .plate))) (InCode kind n rows) (λ x. Iff·symm (accepted-code x)) (w .rows) _ _ (w .plate);
             depth = w .depth;
             within = w .within;
             over = w .over;

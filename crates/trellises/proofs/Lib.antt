@@ -5,3 +5,5 @@ pub mod TrellisSpells
 pub mod PathsOnce
 pub mod PlateGenerates
 pub mod AcceptedIsPrepared
+pub mod ActiveNumber
+pub mod PlateTrellis

@@ -4,7 +4,9 @@ use mathlib.Core.List.{List}
 use mathlib.Core.Path.{_≡_}
 use Prim.Native.Nat.{_<_, ℕ, _≤_}
 use Rattle.trellises.specs.Graph.{Branch, Graph, Path, Spells, branchAt, noBranch}
-use Rattle.words.specs.Ends.{firsts}
+use Rattle.trellises.specs.States.{active}
+use Rattle.words.specs.Choice.{count}
+use Rattle.words.specs.Ends.{firsts, lasts}
 
 -- p and q take the same branch in every section, and so stand in the same state at every depth
 pub record SamePath (g : Graph) (n w : ℕ) (p q : Path g n w) : Type 0 where
@@ -28,6 +30,10 @@ pub record Smallest (g : Graph) (n : ℕ) (C : ℕ → Type 0) : Type 0 where
   pub states-least : (other : Graph) → Spells other n C → (t : ℕ) → t ≤ n → g .states t ≤ other .states t
   pub branches-least : (other : Graph) → Spells other n C → (t : ℕ) → t < n → (once : List Branch) → HasAll other t once
       → length (g .branches t) ≤ length once
+
+-- how many rows are active in section t
+abbrev pub activeAt : List ℕ → ℕ → ℕ
+activeAt rows t = count (length rows) (active (firsts rows) (lasts rows) t)
 
 -- a row begins at t
 pub record Begins (rows : List ℕ) (t : ℕ) : Type 0 where
