@@ -7,3 +7,4 @@ pub mod PlateGenerates
 pub mod AcceptedIsPrepared
 pub mod ActiveNumber
 pub mod PlateTrellis
+pub mod WolfMassey
