@@ -9,3 +9,9 @@ pub mod Digits
 pub mod ActiveOnly
 pub mod SectionFits
 pub mod SectionBranches
+pub mod PathsOnce
+pub mod PlateGenerates
+pub mod AcceptedIsPrepared
+pub mod ActiveNumber
+pub mod PlateTrellis
+pub mod WolfMassey

@@ -3,3 +3,5 @@ pub mod States
 pub mod Numbers
 pub mod Branching
 pub mod SectionOf
+pub mod Smallest
+pub mod Beginnings
