@@ -6,12 +6,13 @@ use mathlib.Core.Logic.{inl, inr, _⊎_}
 use mathlib.Core.Path.{ap, ap₂, refl, subst, sym, _∙_, _≡_}
 use native.Mathlib.Omega.{arith}
 use Prim.Native.Nat.{_%_, _*_, _+_, _/_, _<_, _^_, suc, ℕ}
-use Rattle.decoding.proofs.Leaving.{Chosen, bit-two, chosen}
+use Rattle.decoding.proofs.Leaving.{Chosen, best-branch, bit-two}
 use Rattle.decoding.proofs.StateChoice.{Beats, Under, under-beaten, under-behind}
 use Rattle.decoding.specs.Backward.{best, follow, word}
 use Rattle.decoding.specs.Metric.{metricOf}
 use Rattle.decoding.specs.Stepping.{SectionFits}
 use Rattle.decoding.specs.Taking.{added, signed}
+use Rattle.trellises.proofs.Digits.{rest}
 use Rattle.trellises.specs.declared.Section.{Section}
 use Rattle.trellises.specs.Numbers.{bitOf, branchCount, leadsTo, leaves}
 use Rattle.words.proofs.Word.{half}
@@ -33,7 +34,7 @@ module _ (sections : ℕ → Section) (n : ℕ) (chain : Chain sections n) where
   -- the branch chosen at state i of depth t
   module _ (y : ℤ) (ys : List ℤ) (t i : ℕ) (k : t < n) (h : i < 2 ^ (sections t) .live) where
     abbrev pub choice : (z : ℕ) × Chosen (sections t) (chain .fits t k) i h y (best sections ys (suc t)) z
-    choice = chosen (sections t) (chain .fits t k) i h y (best sections ys (suc t))
+    choice = best-branch (sections t) (chain .fits t k) i h y (best sections ys (suc t))
 
     -- the word read off begins with its bit, and goes on from where it leads
     pub word-is : word sections (y ∷ ys) t i ≡ word sections ys (suc t) (leadsTo (sections t) (choice .0)) * 2 + bitOf (sections t) (choice .0)
@@ -80,12 +81,12 @@ module _ (sections : ℕ → Section) (n : ℕ) (chain : Chain sections n) where
         (won (choice y ys t i k h .1 .beats x below-x leaves-x)))))
 
   -- no way to the end beats the best, and one that ties with the word read off is it or later
-  pub below : (ys : List ℤ) (t i w : ℕ) → t + length ys ≡ n → i < 2 ^ (sections t) .live → Way sections ys t i w
+  pub none-beats : (ys : List ℤ) (t i w : ℕ) → t + length ys ≡ n → i < 2 ^ (sections t) .live → Way sections ys t i w
       → Under (best sections ys t i) (word sections ys t i) w (metricOf ys w)
-  below [] t i w e h a = inr (refl, inl (sym a))
-  below (y ∷ ys) t i w e h (x, p, q, b, rest) =
+  none-beats [] t i w e h a = inr (refl, inl (sym a))
+  none-beats (y ∷ ys) t i w e h (x, p, q, b, rest) =
       let k : t < n = omega arith in
-      under-state y ys t i w k h x p q b (below ys (suc t) (leadsTo (sections t) x) (w / 2) (omega arith) (chain .leads t k x p) rest)
+      under-state y ys t i w k h x p q b (none-beats ys (suc t) (leadsTo (sections t) x) (w / 2) (omega arith) (chain .leads t k x p) rest)
 
   -- the word read off goes on from the branch chosen
   module _ (y : ℤ) (ys : List ℤ) (t i : ℕ) (k : t < n) (h : i < 2 ^ (sections t) .live) where

@@ -153,8 +153,8 @@ module _ (c : Section) (fits : SectionFits c) (i : ℕ) (h : i < 2 ^ c .live) wh
         other x (inl q) = inl q
         other x (inr (t, q)) = inr (subst (λ (x : ℕ). Beats (added c y old i) (bitOf c i) (added c y old x) (bitOf c x)) (sym q) won)
 
-    pub chosen : (z : ℕ) × Chosen z
-    chosen = go (c .begins) refl
+    pub best-branch : (z : ℕ) × Chosen z
+    best-branch = go (c .begins) refl
       where
         go : (b : Bool) → c .begins ≡ b → (z : ℕ) × Chosen z
         go true b = two-branches b _ refl
