@@ -10,3 +10,4 @@ pub mod CountSteps
 pub mod SameChoice
 pub mod Parts
 pub mod SweepSection
+pub mod SweepEnds
