@@ -15,6 +15,7 @@ use Rattle.words.proofs.Masks.{apart-zero, bit-or, zero-apart}
 use Rattle.words.proofs.Span.{lt-tri, zero-one}
 use Rattle.words.proofs.Word.{bit-lt, bit-zero}
 use Rattle.words.specs.Ends.{firsts, lasts}
+use Rattle.words.specs.Span.{Spans}
 use Rattle.words.specs.Word.{bit}
 
 -- ---- words with ones at heads
@@ -49,9 +50,9 @@ heads-join {rows} {w} {r} Q R j l hw some h keep new back = record { all = λ i 
 
 -- ---- the heads of all rows
 
-module _ (n : ℕ) (rows : List ℕ) (s : Standing n rows) where
+module _ (rows : List ℕ) (s : Spans rows (firsts rows) (lasts rows)) where
   positive : (j : ℕ) → j < length rows → 0 < getD rows j 0
-  positive j l = some-pos (getD rows j 0) (firsts rows j) (s .spans .first j l .one)
+  positive j l = some-pos (getD rows j 0) (firsts rows j) (s .first j l .one)
 
   pub heads-next : {i w r : ℕ} → i < length rows → HeadWord (getD rows i 0) r → HeadsOf rows (λ j. j < i) w → HeadsOf rows (λ j. j < i + 1) (bitOr w r)
   heads-next {i} l hw h = heads-join (λ j. j < i) (λ j. j < i + 1) i l hw (positive i l) h (λ j m b. omega arith) (omega arith) (λ j m b. side j b (decLt j i))
@@ -90,7 +91,7 @@ module _ (n : ℕ) (rows : List ℕ) (s : Standing n rows) where
           where
             which : (i : ℕ) → i < length rows → lasts rows i < t + 1 → Dec (lasts rows i < t) → (lasts rows i < t) ⊎ (i ≡ j)
             which i m b (yes d) = inl d
-            which i m b (no d) = inr (s .spans .apart i j m l (omega arith))
+            which i m b (no d) = inr (s .apart i j m l (omega arith))
 
             here : (i x : ℕ) → i < length rows → x < length rows → lasts rows x < lasts rows i → (lasts rows i < t) ⊎ (i ≡ j) → bit (getD rows i 0) (firsts rows x) ≡ 0
             here i x k m b (inl a) = c .clear i x k m a b
@@ -111,15 +112,9 @@ module _ (n : ℕ) (rows : List ℕ) (s : Standing n rows) where
                 subst (λ (x : ℕ). bit x p ≡ 0) (sym w)
                 (subst (λ (x : ℕ). bit (getD rows j 0) x ≡ 0) (i .3) (g .clear j (i .0) l (i .1) (omega (arith, i .2))))
 
-  pub last-below : (j : ℕ) → j < length rows → lasts rows j < n
-  last-below j l = one-before n (getD rows j 0) (lasts rows j) (s .below j l) (s .spans .last j l .one)
-
-  pub cleared-all : (t heads : ℕ) → n ≤ t → ClearedTo t heads → Cleared rows
-  cleared-all t heads h c = record { clear = λ i j k l b. c .clear i j k l (omega (arith, last-below i k)) b }
-
   -- rows are in reduced form exactly if they are cleared: a row has 0 before its head
   pub cleared-reduced : Cleared rows → Reduced rows (firsts rows) (lasts rows)
-  cleared-reduced c = record { spans = s .spans; reduced = λ i j h l b. c .clear i j (omega arith) l b }
+  cleared-reduced c = record { spans = s; reduced = λ i j h l b. c .clear i j (omega arith) l b }
 
   pub reduced-cleared : Reduced rows (firsts rows) (lasts rows) → Cleared rows
   reduced-cleared g = record { clear = λ i j k l b. side i j k l b (lt-tri i j) }
@@ -127,4 +122,12 @@ module _ (n : ℕ) (rows : List ℕ) (s : Standing n rows) where
       side : (i j : ℕ) → i < length rows → j < length rows → lasts rows j < lasts rows i → (i < j) ⊎ ((i ≡ j) ⊎ (j < i)) → bit (getD rows i 0) (firsts rows j) ≡ 0
       side i j k l b (inl h) = g .reduced i j h l b
       side i j k l b (inr (inl e)) = absurd (omega (arith, ap (lasts rows) e))
-      side i j k l b (inr (inr h)) = s .spans .first i k .zeros (firsts rows j) (s .spans .rising j i h k)
+      side i j k l b (inr (inr h)) = s .first i k .zeros (firsts rows j) (s .rising j i h k)
+
+-- rows below 2 ^ n have all ended at n
+module _ (n : ℕ) (rows : List ℕ) (s : Standing n rows) where
+  pub last-below : (j : ℕ) → j < length rows → lasts rows j < n
+  last-below j l = one-before n (getD rows j 0) (lasts rows j) (s .below j l) (s .spans .last j l .one)
+
+  pub cleared-all : (t heads : ℕ) → n ≤ t → ClearedTo rows (s .spans) t heads → Cleared rows
+  cleared-all t heads h c = record { clear = λ i j k l b. c .clear i j k l (omega (arith, last-below i k)) b }

@@ -13,3 +13,5 @@ pub mod Deciding
 pub mod RowsPlaced
 pub mod HeadsClear
 pub mod ProfileTested
+pub mod ZerosTested
+pub mod SoundParts

@@ -1,8 +1,7 @@
 -- The profile from depth to depth: from 0 at the start to 0 at the end, it gains 1 where a row begins and loses 1 where one ends.
 use borrow.Author.Tests.{eq-eqb, le-leb, le-ltb, lt-leb, lt-ltb, ne-eqb}
-use lib.Dec.{T, eqb, eqb-refl, eqb→eq, leb, leb→le, ltb, ltb→lt}
-use lib.ListN.{getD, length, length-take}
-use lib.Seq.{getD-take}
+use lib.Dec.{T, eqb, eqb-refl, eqb→eq, leb, ltb, ltb→lt}
+use lib.ListN.{getD, length}
 use mathlib.Core.Bool.{_&&_, Bool, false, true}
 use mathlib.Core.List.{List}
 use mathlib.Core.Logic.{inl, inr, _⊎_}
@@ -10,6 +9,8 @@ use mathlib.Core.Path.{ap, refl, subst, sym, _∙_, _≡_}
 use native.Mathlib.Decide.{decLt}
 use native.Mathlib.Omega.{arith}
 use Prim.Native.Nat.{_+_, _<_, _^_, suc, suc-le-suc, zero, zero-le, ℕ, _≤_}
+use Rattle.plates.proofs.Live.{live-is}
+use Rattle.plates.proofs.SoundIsPrepared.{used-row, used-rows}
 use Rattle.plates.specs.Counts.{before, here}
 use Rattle.plates.specs.declared.Plate.{Plate}
 use Rattle.plates.specs.Prepare.{rowsOf}
@@ -95,11 +96,7 @@ module _ (k : ℕ) (f l : ℕ → ℕ) (le : (j : ℕ) → j < k → f j ≤ l j
 
   -- no row is live where all have ended
   pub live-end : (t : ℕ) → ((j : ℕ) → j < k → l j < t) → count k (live f l t) ≡ 0
-  live-end t h = count-none k (live f l t) (λ j m q. one (ltb (f j) t) (leb t (l j)) q (λ b. omega (arith, h j m, leb→le t (l j) b)))
-    where
-      one : (a b : Bool) → T (a && b) → (T b → ⊥) → ⊥
-      one true b q n = n q
-      one false b q n = q
+  live-end t h = count-none k (live f l t) (λ j m q. omega (arith, h j m, live-is f l t j q .1))
 
 -- ---- the same of a plate for which all that can be tested holds
 
@@ -123,4 +120,6 @@ module _ (plate : Plate) (s : Sound plate) where
   profile-end = live-end (length (rowsOf plate)) (firsts (rowsOf plate)) (lasts (rowsOf plate)) le (plate .n) (λ j h. one-before (plate .n) (getD (rowsOf plate) j 0) (lasts (rowsOf plate) j) (below j h) (s .reduced .spans .last j h .one))
     where
       below : (j : ℕ) → j < length (rowsOf plate) → getD (rowsOf plate) j 0 < 2 ^ plate .n
-      below j h = let l : j < plate .k = omega (arith, length-take (plate .k) (plate .rows)) in rw (getD-take (plate .k) (plate .rows) j 0 l) (s .below j l)
+      below j h =
+          let l : j < plate .k = omega (arith, used-rows plate (s .few) (s .table)) in
+          subst (λ (x : ℕ). x < 2 ^ plate .n) (sym (used-row plate j l)) (s .below j l)

@@ -11,7 +11,7 @@ use native.Mathlib.Decide.{decLt, ℕ-discrete}
 use native.Mathlib.Omega.{arith}
 use Prim.Native.Nat.{_+_, _<_, _^_, suc, suc-le-suc, zero, zero-le, ℕ, _≤_}
 use Rattle.plates.proofs.Deciding.{alike, equal, fails, holds}
-use Rattle.plates.specs.Tested.{ByLast, Decides, MayFollow, Placed, Standing}
+use Rattle.plates.specs.Tested.{ByLast, Decides, MayFollow, Placed, RowEnding, Standing}
 use Rattle.words.proofs.Ends.{first-is, first-one-is, last-is, last-one-is, some-pos}
 use Rattle.words.proofs.Span.{zero-one}
 use Rattle.words.proofs.Word.{below-bits, bits-below}
@@ -153,3 +153,15 @@ seen-stop n rows i from table few s l no-follow = record {
   decides = fails (λ g. no-follow (standing-follows n rows i from table few s l g));
   by-last = λ e. absurd (false≢true e);
 }
+
+-- ---- the row that ends at a position, by the table of all rows
+
+module _ (rows table : List ℕ) (t : ℕ) (few : length rows ≤ 64) (b : ByLast rows (length rows) table) (h : t < 64) where
+  pub entry-le : getD table t 0 ≤ 64
+  entry-le = ⊎-elim (λ e. omega arith) (λ q. omega (arith, q .0)) (b .other t h)
+
+  pub some-ending : getD table t 0 < length rows → RowEnding rows t (getD rows (getD table t 0) 0)
+  some-ending l = record { is = inr (getD table t 0, l, ⊎-elim (λ e. absurd (omega arith)) (λ q. q .1) (b .other t h), refl) }
+
+  pub none-ending : length rows ≤ getD table t 0 → RowEnding rows t 0
+  none-ending l = record { is = inl ((λ j m e. omega (arith, sym (b .row j m) ∙ ap (λ (x : ℕ). getD table x 0) e)), refl) }

@@ -3,6 +3,8 @@ ghost use mathlib.Core.Path.{_≡_};
 ghost use mathlib.Core.Bool.{true};
 ghost use Prim.Native.Nat.{ℕ, _≤_, _<_};
 ghost use lib.ListN.{length, getD};
+ghost use Rattle.words.specs.Ends.{firsts, lasts};
+ghost use Rattle.words.specs.Span.{Spans};
 ghost use Rattle.plates.specs.Sound.{Sound};
 ghost use Rattle.plates.specs.Tested.{Decides, ByLast, MayFollow, Standing, Placed, RowEnding, HeadsOf, HeadWord, Cleared, endingAt, Profiled, UsedSound, ZeroFrom};
 use words::bit_at;
@@ -92,9 +94,8 @@ fn heads_clear(rows: &[u64], n: usize, by_last: &[u8; 64]) -> bool
 }
 
 // The heads of all rows, as a word.
-fn all_heads(rows: &[u64], n: usize) -> u64
-    requires { ⌜ n ≤ 64 ⌝ }
-    requires { ⌜ Standing n (now rows) ⌝ }
+fn all_heads(rows: &[u64]) -> u64
+    requires { ⌜ Spans (now rows) (firsts (now rows)) (lasts (now rows)) ⌝ }
     ensures { λ r. ⌜ HeadsOf (now (rows .entry)) (λ j. j < length (now (rows .entry))) r ⌝ }
 {
     let mut heads: u64 = 0;
@@ -135,7 +136,7 @@ fn profile_is(rows: &[u64], n: usize, by_last: &[u8; 64], profile: &[u8; 65]) ->
     requires { ⌜ ByLast (now rows) (length (now rows)) (now «by_last») ⌝ }
     ensures { λ r. ⌜ Decides (Profiled n (now (rows .entry)) (now (profile .entry))) r ⌝ }
 {
-    let heads = all_heads(rows, n);
+    let heads = all_heads(rows);
     let mut live: usize = 0;
     let mut t: usize = 0;
     while t < n {
@@ -180,6 +181,7 @@ fn rows_zero(rows: &[u64], from: usize) -> bool
 
 // Whether the entries of a profile from a place on are zero.
 fn entries_zero(entries: &[u8; 65], from: usize) -> bool
+    requires { ⌜ length (now entries) ≡ 65 ⌝ }
     ensures { λ r. ⌜ Decides (ZeroFrom from (now (entries .entry))) r ⌝ }
 {
     let mut i = from;
