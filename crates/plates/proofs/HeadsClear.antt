@@ -48,7 +48,12 @@ heads-join {rows} {w} {r} Q R j l hw some h keep new back = record { all = λ i 
         let i = h .only p z in
         (i .0, i .1, keep (i .0) (i .1) (i .2), i .3)
 
--- ---- the heads of all rows
+-- ---- the heads of rows taken one by one
+
+-- the rows that end before t are cleared, and the word has their heads
+pub record ClearedTo (rows : List ℕ) (t heads : ℕ) : Type 0 where
+  pub ended : HeadsOf rows (λ j. lasts rows j < t) heads
+  pub clear : (i j : ℕ) → i < length rows → j < length rows → lasts rows i < t → lasts rows j < lasts rows i → bit (getD rows i 0) (firsts rows j) ≡ 0
 
 module _ (rows : List ℕ) (s : Spans rows (firsts rows) (lasts rows)) where
   positive : (j : ℕ) → j < length rows → 0 < getD rows j 0
@@ -61,23 +66,17 @@ module _ (rows : List ℕ) (s : Spans rows (firsts rows) (lasts rows)) where
       side j b (yes d) = inl d
       side j b (no d) = inr (omega arith)
 
-  -- ---- the rows that end before t are cleared, and the word has their heads
-
-  pub record ClearedTo (t heads : ℕ) : Type 0 where
-    pub ended : HeadsOf rows (λ j. lasts rows j < t) heads
-    pub clear : (i j : ℕ) → i < length rows → j < length rows → lasts rows i < t → lasts rows j < lasts rows i → bit (getD rows i 0) (firsts rows j) ≡ 0
-
-  pub cleared-none : ClearedTo 0 0
+  pub cleared-none : ClearedTo rows 0 0
   cleared-none = record { ended = heads-none rows (λ j. lasts rows j < 0) (λ j l q. omega arith); clear = λ i j k l a b. absurd (omega arith) }
 
-  module _ (t heads row : ℕ) (c : ClearedTo t heads) where
-    pub cleared-more : {r : ℕ} → RowEnding rows t row → bitAnd row heads ≡ 0 → HeadWord row r → ClearedTo (t + 1) (bitOr heads r)
+  module _ (t heads row : ℕ) (c : ClearedTo rows t heads) where
+    pub cleared-more : {r : ℕ} → RowEnding rows t row → bitAnd row heads ≡ 0 → HeadWord row r → ClearedTo rows (t + 1) (bitOr heads r)
     cleared-more {r} e z hw = go (e .is)
       where
         sooner : (j : ℕ) → (lasts rows j ≡ t → ⊥) → lasts rows j < t + 1 → lasts rows j < t
         sooner j n b = omega (arith, n)
 
-        go : (((j : ℕ) → j < length rows → lasts rows j ≡ t → ⊥) × (row ≡ 0)) ⊎ ((j : ℕ) × (j < length rows) × (lasts rows j ≡ t) × (row ≡ getD rows j 0)) → ClearedTo (t + 1) (bitOr heads r)
+        go : (((j : ℕ) → j < length rows → lasts rows j ≡ t → ⊥) × (row ≡ 0)) ⊎ ((j : ℕ) × (j < length rows) × (lasts rows j ≡ t) × (row ≡ getD rows j 0)) → ClearedTo rows (t + 1) (bitOr heads r)
         go (inl n) = record {
           ended = subst (HeadsOf rows (λ j. lasts rows j < t + 1)) (sym (ap (bitOr heads) (hw .none (n .1)) ∙ or-zero-r heads))
               (heads-same (λ j. lasts rows j < t) (λ j. lasts rows j < t + 1) (c .ended) (λ j l b. omega arith) (λ j l b. sooner j (n .0 j l) b));
@@ -129,5 +128,5 @@ module _ (n : ℕ) (rows : List ℕ) (s : Standing n rows) where
   pub last-below : (j : ℕ) → j < length rows → lasts rows j < n
   last-below j l = one-before n (getD rows j 0) (lasts rows j) (s .below j l) (s .spans .last j l .one)
 
-  pub cleared-all : (t heads : ℕ) → n ≤ t → ClearedTo rows (s .spans) t heads → Cleared rows
+  pub cleared-all : (t heads : ℕ) → n ≤ t → ClearedTo rows t heads → Cleared rows
   cleared-all t heads h c = record { clear = λ i j k l b. c .clear i j k l (omega (arith, last-below i k)) b }

@@ -20,6 +20,13 @@ use Rattle.words.proofs.Word.{bit-cases}
 use Rattle.words.specs.Ends.{firsts, lasts}
 use Rattle.words.specs.Word.{bit}
 
+-- the entries before t are the rows' own, and `live` rows are live at t
+pub record ProfiledTo (n : ℕ) (rows profile : List ℕ) (t live : ℕ) : Type 0 where
+  pub within : t ≤ n
+  pub entry : (u : ℕ) → u < t → getD profile u 0 ≡ liveAt rows u
+  pub narrow : (u : ℕ) → u < t → liveAt rows u ≤ 12
+  pub live-is : live ≡ liveAt rows t
+
 module _ (n : ℕ) (rows : List ℕ) (s : Standing n rows) where
   -- the word of all heads, and the table of last ones, say where a row begins and ends
   pub heads-here : {w : ℕ} → HeadsOf rows (λ j. j < length rows) w → (t : ℕ) → bit w t ≡ here (length rows) (firsts rows) t
@@ -44,14 +51,7 @@ module _ (n : ℕ) (rows : List ℕ) (s : Standing n rows) where
       subst (λ (x : ℕ). liveAt rows x + here (length rows) (lasts rows) t ≡ liveAt rows t + here (length rows) (firsts rows) t) (sym (add-one t))
       (live-suc (length rows) (firsts rows) (lasts rows) (span-le rows (firsts rows) (lasts rows) (s .spans)) t)
 
-  -- the entries before t are the rows' own, and `live` rows are live at t
-  pub record ProfiledTo (profile : List ℕ) (t live : ℕ) : Type 0 where
-    pub within : t ≤ n
-    pub entry : (u : ℕ) → u < t → getD profile u 0 ≡ liveAt rows u
-    pub narrow : (u : ℕ) → u < t → liveAt rows u ≤ 12
-    pub live-is : live ≡ liveAt rows t
-
-  pub profiled-none : (profile : List ℕ) → ProfiledTo profile 0 0
+  pub profiled-none : (profile : List ℕ) → ProfiledTo n rows profile 0 0
   profiled-none profile = record {
     within = zero-le;
     entry = λ u h. absurd (omega arith);
@@ -60,12 +60,12 @@ module _ (n : ℕ) (rows : List ℕ) (s : Standing n rows) where
   }
 
   module _ (few : length rows ≤ 64) (short : n ≤ 64) (profile table : List ℕ) (t live heads : ℕ) (h : HeadsOf rows (λ j. j < length rows) heads) (b : ByLast rows (length rows) table)
-      (p : ProfiledTo profile t live) (l : t < n) where
+      (p : ProfiledTo n rows profile t live) (l : t < n) where
     -- what the next number is made of
     pub next-live : live + bit heads t ≡ liveAt rows (t + 1) + endingAt table t
     next-live = omega (arith, next t, heads-here h t, ending-here b few t (omega arith), p .live-is)
 
-    pub profiled-more : (getD profile t 0 ≡ live) × (live ≤ 12) → ProfiledTo profile (t + 1) (live + bit heads t - endingAt table t)
+    pub profiled-more : (getD profile t 0 ≡ live) × (live ≤ 12) → ProfiledTo n rows profile (t + 1) (live + bit heads t - endingAt table t)
     profiled-more e = record {
       within = omega arith;
       entry = one-more (λ u. getD profile u 0 ≡ liveAt rows u) t (p .entry) (e .0 ∙ p .live-is);
@@ -77,7 +77,7 @@ module _ (n : ℕ) (rows : List ℕ) (s : Standing n rows) where
     profiled-stop no-entry g = no-entry (g .entry t (omega arith) ∙ sym (p .live-is), omega (arith, g .narrow t (omega arith), p .live-is))
 
   -- at the end no row is live
-  pub profiled-all : (profile : List ℕ) (t live : ℕ) → n ≤ t → ProfiledTo profile t live → Decides (Profiled n rows profile) (eqb (getD profile n 0) 0)
+  pub profiled-all : (profile : List ℕ) (t live : ℕ) → n ≤ t → ProfiledTo n rows profile t live → Decides (Profiled n rows profile) (eqb (getD profile n 0) 0)
   profiled-all profile t live h p = alike
     (λ e. record {
       entry = λ u k. one-more (λ x. getD profile x 0 ≡ liveAt rows x) n (λ x j. p .entry x (omega arith)) (e ∙ sym none) u (omega arith);

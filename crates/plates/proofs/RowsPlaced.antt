@@ -12,7 +12,7 @@ use native.Mathlib.Omega.{arith}
 use Prim.Native.Nat.{_+_, _<_, _^_, suc, suc-le-suc, zero, zero-le, ℕ, _≤_}
 use Rattle.plates.proofs.Deciding.{alike, equal, fails, holds}
 use Rattle.plates.specs.Tested.{ByLast, Decides, MayFollow, Placed, RowEnding, Standing}
-use Rattle.words.proofs.Ends.{first-is, first-one-is, last-is, last-one-is, some-pos}
+use Rattle.words.proofs.Ends.{first-is, first-one-is, last-is, last-one-is, one-before, some-pos}
 use Rattle.words.proofs.Span.{zero-one}
 use Rattle.words.proofs.Word.{below-bits, bits-below}
 use Rattle.words.specs.Ends.{FirstOne, LastOne, firsts, last, lasts}
@@ -29,6 +29,12 @@ module _ (n from : ℕ) (table : List ℕ) (row : ℕ) (short : n ≤ 64) (fits 
 
   pub begins-soon : {r : ℕ} → FirstOne row r → r < from → MayFollow n from table row → ⊥
   begins-soon g h m = omega (arith, m .begins, first-one-is (m .some) fits g)
+
+  pub last-inside : {r : ℕ} → LastOne row r → MayFollow n from table row → r < 64
+  last-inside {r} g m = one-before 64 row r fits (g .some (m .some) .one)
+
+  pub first-inside : {r : ℕ} → FirstOne row r → MayFollow n from table row → r < 64
+  first-inside {r} g m = one-before 64 row r fits (g .some (m .some) .one)
 
   pub follows : {r s : ℕ} → LastOne row r → r < n → FirstOne row s → from ≤ s → Decides (MayFollow n from table row) (eqb (getD table r 0) 64)
   follows {r} {s} g h k b = alike
@@ -114,6 +120,14 @@ module _ (n : ℕ) (rows : List ℕ) (i from : ℕ) (table : List ℕ) (few : le
     tight = λ p h. (i, omega arith, omega arith);
     by-last = placed-by-last m;
   }
+
+  -- by the positions that `last_one` and `first_one` give
+  pub seen-next : {r q : ℕ} → getD rows i 0 < 2 ^ 64 → LastOne (getD rows i 0) r → FirstOne (getD rows i 0) q → MayFollow n from table (getD rows i 0)
+      → Seen n rows (i + 1) (q + 1) (set table r i)
+  seen-next {r} {q} fits g h m =
+      let a : r ≡ lasts rows i = last-one-is (m .some) fits g in
+      let b : q ≡ firsts rows i = first-one-is (m .some) fits h in
+      rw (a, b) (seen-more m)
 
   -- rows that stand as a plate's do: the next may follow
   pub standing-follows : Standing n rows → MayFollow n from table (getD rows i 0)

@@ -41,8 +41,9 @@ fn place_rows(rows: &[u64], n: usize, by_last: &mut [u8; 64]) -> bool
             return false;
         }
         let last = last_one(row);
+        let first = first_one(row);
         by_last[last] = i as u8;
-        from = first_one(row) + 1;
+        from = first + 1;
         i += 1;
     }
     true
