@@ -1,6 +1,6 @@
 -- Rows taken one after the other and placed in a table by their last ones: each may follow exactly if all of them stand as a plate's rows do.
 use lib.Dec.{eqb}
-use lib.ListN.{getD, length, length-set, set}
+use lib.ListN.{getD, getD-replicate, length, length-replicate, length-set, replicate, set}
 use lib.Pow.{pow-mono}
 use lib.Seq.{getD-set-other, getD-set-same}
 use mathlib.Core.Bool.{false, false≢true, true}
@@ -64,6 +64,14 @@ pub record Seen (n : ℕ) (rows : List ℕ) (i from : ℕ) (table : List ℕ) : 
   pub beyond : (j : ℕ) → j < i → firsts rows j < from
   pub tight : (p : ℕ) → p < from → (j : ℕ) × (j < i) × (p ≤ firsts rows j)
   pub by-last : ByLast rows i table
+
+-- no row is in a table of 64s
+pub empty-table : (rows : List ℕ) → ByLast rows 0 (replicate 64 64)
+empty-table rows = record {
+  size = length-replicate {A = ℕ} 64 64;
+  row = λ j h. absurd (omega arith);
+  other = λ p h. inl (getD-replicate {A = ℕ} 64 p 64 0 h);
+}
 
 pub seen-none : (n : ℕ) {rows table : List ℕ} → ByLast rows 0 table → Seen n rows 0 0 table
 seen-none n b = record {
