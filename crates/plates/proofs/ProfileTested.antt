@@ -79,11 +79,11 @@ module _ (n : ℕ) (rows : List ℕ) (s : Standing n rows) where
   -- at the end no row is live
   pub profiled-all : (profile : List ℕ) (t live : ℕ) → n ≤ t → ProfiledTo n rows profile t live → Decides (Profiled n rows profile) (eqb (getD profile n 0) 0)
   profiled-all profile t live h p = alike
-    (λ e. record {
-      entry = λ u k. one-more (λ x. getD profile x 0 ≡ liveAt rows x) n (λ x j. p .entry x (omega arith)) (e ∙ sym none) u (omega arith);
-      narrow = λ u k. one-more (λ x. liveAt rows x ≤ 12) n (λ x j. p .narrow x (omega arith)) (omega (arith, none)) u (omega arith);
-    })
-    (λ g. g .entry n (omega arith) ∙ none) (equal (getD profile n 0) 0)
+      (λ e. record {
+        entry = λ u k. one-more (λ x. getD profile x 0 ≡ liveAt rows x) n (λ x j. p .entry x (omega arith)) (e ∙ sym none) u (omega arith);
+        narrow = λ u k. one-more (λ x. liveAt rows x ≤ 12) n (λ x j. p .narrow x (omega arith)) (omega (arith, none)) u (omega arith);
+      })
+      (λ g. g .entry n (omega arith) ∙ none) (equal (getD profile n 0) 0)
     where
       none : liveAt rows n ≡ 0
       none = live-end (length rows) (firsts rows) (lasts rows) (span-le rows (firsts rows) (lasts rows) (s .spans)) n (last-below n rows s)

@@ -1,5 +1,4 @@
 -- Rows taken one after the other and placed in a table by their last ones: each may follow exactly if all of them stand as a plate's rows do.
-use lib.Dec.{eqb}
 use lib.ListN.{getD, getD-replicate, length, length-replicate, length-set, replicate, set}
 use lib.Pow.{pow-mono}
 use lib.Seq.{getD-set-other, getD-set-same}
@@ -10,8 +9,8 @@ use mathlib.Core.Path.{ap, refl, subst, sym, _∙_, _≡_}
 use native.Mathlib.Decide.{decLt, ℕ-discrete}
 use native.Mathlib.Omega.{arith}
 use Prim.Native.Nat.{_+_, _<_, _^_, suc, suc-le-suc, zero, zero-le, ℕ, _≤_}
-use Rattle.plates.proofs.Deciding.{alike, equal, fails, holds}
-use Rattle.plates.specs.Tested.{ByLast, Decides, MayFollow, Placed, RowEnding, Standing}
+use Rattle.plates.proofs.Deciding.{fails, holds}
+use Rattle.plates.specs.Tested.{ByLast, MayFollow, Placed, RowEnding, Standing}
 use Rattle.words.proofs.Ends.{first-is, first-one-is, last-is, last-one-is, one-before, some-pos}
 use Rattle.words.proofs.Span.{zero-one}
 use Rattle.words.proofs.Word.{below-bits, bits-below}
@@ -36,10 +35,16 @@ module _ (n from : ℕ) (table : List ℕ) (row : ℕ) (short : n ≤ 64) (fits 
   pub first-inside : {r : ℕ} → FirstOne row r → MayFollow n from table row → r < 64
   first-inside {r} g m = one-before 64 row r fits (g .some (m .some) .one)
 
-  pub follows : {r s : ℕ} → LastOne row r → r < n → FirstOne row s → from ≤ s → Decides (MayFollow n from table row) (eqb (getD table r 0) 64)
-  follows {r} {s} g h k b = alike
-    (λ e. record { some = some; below = below; begins = omega (arith, first-one-is some fits k); free = ap (λ (x : ℕ). getD table x 0) (sym is) ∙ e })
-    (λ m. ap (λ (x : ℕ). getD table x 0) is ∙ m .free) (equal (getD table r 0) 64)
+  pub ends-together : {r : ℕ} → LastOne row r → getD table r 0 < 64 → MayFollow n from table row → ⊥
+  ends-together g h m = omega (arith, h, m .free, ap (λ (x : ℕ). getD table x 0) (last-one-is (m .some) fits g))
+
+  pub follows : {r s : ℕ} → LastOne row r → r < n → FirstOne row s → from ≤ s → 64 ≤ getD table r 0 → MayFollow n from table row
+  follows {r} {s} g h k b e = record {
+    some = some;
+    below = below-bits n row (λ i m. g .some some .zeros i (omega arith));
+    begins = omega (arith, first-one-is some fits k);
+    free = subst (λ (x : ℕ). 64 ≤ getD table x 0) (last-one-is some fits g) e;
+  }
     where
       positive : (w : ℕ) → (w ≡ 0 → r ≡ 64) → 0 < w
       positive zero z = absurd (omega (arith, z refl))
@@ -47,12 +52,6 @@ module _ (n from : ℕ) (table : List ℕ) (row : ℕ) (short : n ≤ 64) (fits 
 
       some : 0 < row
       some = positive row (g .none)
-
-      below : row < 2 ^ n
-      below = below-bits n row (λ i m. g .some some .zeros i (omega arith))
-
-      is : r ≡ last row
-      is = last-one-is some fits g
 
 -- ---- the first i rows are placed, and the next begins at `from` or after
 
@@ -107,7 +106,7 @@ module _ (n : ℕ) (rows : List ℕ) (i from : ℕ) (table : List ℕ) (few : le
       earlier j h = getD-set-other table (lasts rows i) (lasts rows j) i 0 apart ∙ s .by-last .row j h
         where
           apart : lasts rows j ≢ lasts rows i
-          apart e = omega (arith, sym (s .by-last .row j h) ∙ ap (λ (x : ℕ). getD table x 0) e ∙ m .free)
+          apart e = omega (arith, sym (s .by-last .row j h) ∙ ap (λ (x : ℕ). getD table x 0) e, m .free)
 
       at : (p : ℕ) → p < 64 → Dec (p ≡ lasts rows i)
           → (getD (set table (lasts rows i) i) p 0 ≡ 64) ⊎ ((getD (set table (lasts rows i) i) p 0 < i + 1) × (lasts rows (getD (set table (lasts rows i) i) p 0) ≡ p))
@@ -143,7 +142,7 @@ module _ (n : ℕ) (rows : List ℕ) (i from : ℕ) (table : List ℕ) (few : le
     some = some-pos (getD rows i 0) (firsts rows i) (g .spans .first i l .one);
     below = g .below i l;
     begins = after (decLt (firsts rows i) from);
-    free = ⊎-elim (λ e. e) (λ q. absurd (omega (arith, q .0, g .spans .apart (getD table (lasts rows i) 0) i (omega (arith, q .0)) l (q .1)))) (s .by-last .other (lasts rows i) (last-lt (getD rows i 0)));
+    free = ⊎-elim (λ e. omega (arith, e)) (λ q. absurd (omega (arith, q .0, g .spans .apart (getD table (lasts rows i) 0) i (omega (arith, q .0)) l (q .1)))) (s .by-last .other (lasts rows i) (last-lt (getD rows i 0)));
   }
     where
       after : Dec (firsts rows i < from) → from ≤ firsts rows i

@@ -30,7 +30,7 @@ pub record MayFollow (n from : ℕ) (table : List ℕ) (row : ℕ) : Type 0 wher
   pub some : 0 < row
   pub below : row < 2 ^ n
   pub begins : from ≤ first row
-  pub free : getD table (last row) 0 ≡ 64
+  pub free : 64 ≤ getD table (last row) 0
 
 -- the first ones of the rows rise, their last ones differ, and no row has a one at n or beyond
 pub record Standing (n : ℕ) (rows : List ℕ) : Type 0 where

@@ -2,6 +2,7 @@
 ghost use mathlib.Core.Path.{_≡_};
 ghost use Rattle.plates.specs.Prepare.{Tests};
 ghost use Rattle.plates.specs.Refusals.{number, place};
+
 mod tested;
 
 // How a matrix gives its code: as generator, or as parity check.

@@ -23,7 +23,10 @@ fn may_follow(row: u64, from: usize, n: usize, by_last: &[u8; 64]) -> bool
     if first_one(row) < from {
         return false;
     }
-    by_last[last] == 64
+    if by_last[last] < 64 {
+        return false;
+    }
+    true
 }
 
 // Puts the rows into the table by their last ones, up to the first that may not follow.

@@ -48,8 +48,12 @@ sub-live : tie.Need-sub-live Inv-loop μ-loop
 sub-live c =
     let h = c .before .before .before .before .before in
     let p = h .before .before .before .before .pre in
-    omega (arith, c .ending-at .ensures, c .before .bit-at .ensures,
-      next-live _ _ (p .1 .1 .0) (p .1 .0) (p .0) _ _ _ _ _ (h .before .before .all-heads .ensures) (p .1 .1 .1) (h .before .loop .inv) (h .loop-test .taken))
+    omega (
+      arith,
+      c .ending-at .ensures,
+      c .before .bit-at .ensures,
+      next-live _ _ (p .1 .1 .0) (p .1 .0) (p .0) _ _ _ _ _ (h .before .before .all-heads .ensures) (p .1 .1 .1) (h .before .loop .inv) (h .loop-test .taken),
+    )
 
 add-t : tie.Need-add-t Inv-loop μ-loop
 add-t c = search needs
