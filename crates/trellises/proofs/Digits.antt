@@ -55,4 +55,3 @@ pub gathered : (k : ℕ) (P : ℕ → Bool) (S : ℕ → ℕ) (a p : Bool) (v : 
 gathered k P S a p v e =
     ap₂ (λ (d u : ℕ). pull (P 0) d (gather k (λ j. P (suc j)) u)) (put-odd a S v) (put-half a S v)
     ∙ ap (λ (b : Bool). pull b (odd a v) (gather k (λ j. P (suc j)) (S (rest a v)))) e
-

@@ -9,3 +9,4 @@ pub mod Digits
 pub mod ActiveOnly
 pub mod SectionFits
 pub mod SectionBranches
+pub mod HeldSection

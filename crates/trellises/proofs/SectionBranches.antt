@@ -36,7 +36,7 @@ module _ (rows : List ℕ) (t : ℕ) (c : Section) (g : Agrees rows t c) where
 
   pub has-number : (a b to : ℕ) → Has (trellis rows (firsts rows) (lasts rows)) t a b to → Numbered c a b to
   unfolding own
-  has-number a b to h = 
+  has-number a b to h =
       let l : h .place < 2 ^ activeAt rows t = subst (λ (n : ℕ). h .place < n) (table-length (2 ^ activeAt rows t) own) (h .there) in
       let e : branchAt (trellis rows (firsts rows) (lasts rows)) t (h .place) ≡ own (h .place) = table-at (2 ^ activeAt rows t) own (h .place) l in
       record {

@@ -3,3 +3,4 @@ pub mod States
 pub mod Numbers
 pub mod Branching
 pub mod SectionOf
+pub mod Following
