@@ -10,3 +10,4 @@ pub mod ActiveOnly
 pub mod SectionFits
 pub mod SectionBranches
 pub mod HeldSection
+pub mod NextIsBranch
