@@ -1,2 +1,5 @@
 pub mod Taking
 pub mod Stepping
+pub mod Metric
+pub mod Backward
+pub mod Decode

@@ -13,16 +13,17 @@ use Rattle.words.proofs.Pigeonhole.{pigeonhole}
 use Rattle.words.proofs.Word.{half}
 use Rattle.words.specs.Sum.{IsSum, sumOf, taken}
 
-trim : ℕ → ℕ → ℕ
+-- the first k digits of a number
+unfoldable pub trim : ℕ → ℕ → ℕ
 trim zero u = 0
 trim (suc k) u = trim k (u / 2) * 2 + u % 2
 
-trim-lt : (k u : ℕ) → trim k u < 2 ^ k
+pub trim-lt : (k u : ℕ) → trim k u < 2 ^ k
 unfolding trim
 trim-lt zero u = suc-le-suc zero-le
 trim-lt (suc k) u = omega (arith, trim-lt k (u / 2), pow-suc 2 k)
 
-sum-trim : (rows : List ℕ) (u : ℕ) → sumOf rows (trim (length rows) u) ≡ sumOf rows u
+pub sum-trim : (rows : List ℕ) (u : ℕ) → sumOf rows (trim (length rows) u) ≡ sumOf rows u
 unfolding trim
 sum-trim [] u = refl
 sum-trim (r ∷ rs) u =

@@ -11,3 +11,9 @@ pub mod SectionFits
 pub mod SectionBranches
 pub mod HeldSection
 pub mod NextIsBranch
+pub mod PathsOnce
+pub mod PlateGenerates
+pub mod AcceptedIsPrepared
+pub mod ActiveNumber
+pub mod PlateTrellis
+pub mod WolfMassey

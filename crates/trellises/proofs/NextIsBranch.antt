@@ -16,7 +16,7 @@ use Rattle.plates.specs.Refusals.{Passes}
 use Rattle.plates.specs.Sound.{Sound}
 use Rattle.trellises.proofs.SectionAgrees.{Agrees, section-agrees}
 use Rattle.trellises.proofs.SectionBranches.{Numbered, below-high, below-low, has-number, leaves-high, leaves-low, leaving-is, number-has, other-bit}
-use Rattle.trellises.proofs.SectionFits.{begins-with-one}
+use Rattle.trellises.proofs.SectionFits.{begun}
 use Rattle.trellises.specs.Branching.{Branches, branchConditions}
 use Rattle.trellises.specs.declared.Next.the-variants.{NoBranch, Refused, State}
 use Rattle.trellises.specs.declared.Section.{Section}
@@ -75,5 +75,5 @@ module _ (plate : Plate) (s : Sound plate) (depth state bit : ℕ) where
         go true b e f = answer state (below-low c state there) (leaves-low c state there) (eqb-true (bitOf c state) bit e)
         go false true e f =
             answer (state + 2 ^ c .live) (below-high c state there f) (leaves-high c state there)
-            (other-bit c state there (begins-with-one s depth (omega arith) f) ∙ omega (arith, eqb-false (bitOf c state) bit e))
+            (other-bit c state there (begun s depth (omega arith) f) ∙ omega (arith, eqb-false (bitOf c state) bit e))
         go false false e f = no-answer (eqb-false (bitOf c state) bit e) f

@@ -99,8 +99,8 @@ module _ {plate : Plate} (s : Sound plate) (t : ℕ) (h : t ≤ plate .n) where
   spans : Spans (rowsOf plate) (firsts (rowsOf plate)) (lasts (rowsOf plate))
   spans = s .reduced .spans
 
-  pub live-narrow : sectionOf (rowsOf plate) t .live ≤ 12
-  live-narrow = omega (arith, live-count t (rowsOf plate), s .narrow t h)
+  pub narrow : sectionOf (rowsOf plate) t .live ≤ 12
+  narrow = omega (arith, live-count t (rowsOf plate), s .narrow t h)
 
   pub few-active : activeAt (rowsOf plate) t ≤ suc (sectionOf (rowsOf plate) t .live)
   few-active = omega (arith, active-count t (rowsOf plate) (spans .rising), more-at-most (c .begins) (c .live))
@@ -110,8 +110,8 @@ module _ {plate : Plate} (s : Sound plate) (t : ℕ) (h : t ≤ plate .n) where
 
   pub column-small : sectionOf (rowsOf plate) t .column < 2 ^ 13
   column-small =
-      let a : activeAt (rowsOf plate) t ≤ 13 = omega (arith, few-active, live-narrow) in
+      let a : activeAt (rowsOf plate) t ≤ 13 = omega (arith, few-active, narrow) in
       lt-of-lt-of-le (column-below t (rowsOf plate)) (pow-mono a)
 
-  pub begins-with-one : sectionOf (rowsOf plate) t .begins ≡ true → bit (sectionOf (rowsOf plate) t .column) (sectionOf (rowsOf plate) t .live) ≡ 1
-  begins-with-one = begins-one t (rowsOf plate) (spans .first) (spans .rising)
+  pub begun : sectionOf (rowsOf plate) t .begins ≡ true → bit (sectionOf (rowsOf plate) t .column) (sectionOf (rowsOf plate) t .live) ≡ 1
+  begun = begins-one t (rowsOf plate) (spans .first) (spans .rising)

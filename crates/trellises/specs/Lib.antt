@@ -4,3 +4,5 @@ pub mod Numbers
 pub mod Branching
 pub mod SectionOf
 pub mod Following
+pub mod Smallest
+pub mod Beginnings

@@ -1,12 +1,14 @@
 -- The parity of a word with another is linear in each.
 use lib.Arith.{bin-ind, digits-div, digits-mod}
-use lib.Bits.{and-comm, and-step, and-zero-r, bitAnd, bitXor, differ}
+use lib.Bits.{and-comm, and-step, and-zero-l, and-zero-r, bitAnd, bitXor, differ}
 use lib.Count.{ones, ones-step}
 use mathlib.Core.Path.{ap, ap₂, refl, sym, _∙_, _≡_}
+use native.Mathlib.Nat.{pow-suc}
 use native.Mathlib.Omega.{arith}
-use Prim.Native.Nat.{_%_, _+_, _/_, _<_, min, suc, zero, ℕ}
+use Prim.Native.Nat.{_%_, _*_, _+_, _/_, _<_, _^_, min, suc, zero, ℕ}
 use Rattle.words.proofs.Word.{xor-half, xor-odd}
 use Rattle.words.specs.Parity.{parity}
+use Rattle.words.specs.Word.{bit}
 
 and-odd : (a b : ℕ) → bitAnd a b % 2 ≡ min (a % 2) (b % 2)
 and-odd a b = rw (and-step a b) (digits-mod (bitAnd (a / 2) (b / 2)) (omega arith))
@@ -14,7 +16,7 @@ and-odd a b = rw (and-step a b) (digits-mod (bitAnd (a / 2) (b / 2)) (omega arit
 and-half : (a b : ℕ) → bitAnd a b / 2 ≡ bitAnd (a / 2) (b / 2)
 and-half a b = rw (and-step a b) (digits-div (bitAnd (a / 2) (b / 2)) (omega arith))
 
-parity-step : (a b : ℕ) → parity a b ≡ (min (a % 2) (b % 2) + parity (a / 2) (b / 2)) % 2
+pub parity-step : (a b : ℕ) → parity a b ≡ (min (a % 2) (b % 2) + parity (a / 2) (b / 2)) % 2
 parity-step a b =
     let e : ones (bitAnd a b) ≡ min (a % 2) (b % 2) + ones (bitAnd (a / 2) (b / 2)) =
     ones-step (bitAnd a b) ∙ ap₂ (λ (x y : ℕ). x + ones y) (and-odd a b) (and-half a b) in
@@ -22,6 +24,10 @@ parity-step a b =
 
 pub parity-comm : (a b : ℕ) → parity a b ≡ parity b a
 parity-comm a b = ap (λ (x : ℕ). ones x % 2) (and-comm a b)
+
+pub parity-zero-left : (b : ℕ) → parity 0 b ≡ 0
+unfolding ones
+parity-zero-left b = ap (λ (x : ℕ). ones x % 2) (and-zero-l b)
 
 pub parity-zero : (a : ℕ) → parity a 0 ≡ 0
 unfolding ones
@@ -65,3 +71,18 @@ parity-sum =
 
 pub parity-xor : (a b c : ℕ) → parity (bitXor a b) c ≡ differ (parity a c) (parity b c)
 parity-xor a b c = parity-sum c a b ∙ sym (differ-mod (parity a c) (parity b c) (omega arith) (omega arith))
+
+-- the parity with a power of 2 is the bit there
+pub parity-power : (k b : ℕ) → parity (2 ^ k) b ≡ bit b k
+parity-power zero b = parity-step 1 b ∙ one-step (parity-zero-left (b / 2))
+  where
+    one-step : parity 0 (b / 2) ≡ 0 → (min 1 (b % 2) + parity 0 (b / 2)) % 2 ≡ b % 2
+    one-step e = omega arith
+parity-power (suc k) b =
+    let d : 2 ^ suc k ≡ 2 ^ k * 2 = pow-suc 2 k in
+    let h : 2 ^ suc k / 2 ≡ 2 ^ k = omega arith in
+    let e : 2 ^ suc k % 2 ≡ 0 = omega arith in
+    parity-step (2 ^ suc k) b ∙ ap₂ (λ (x y : ℕ). (min x (b % 2) + parity y (b / 2)) % 2) e h ∙ low (parity-power k (b / 2))
+  where
+    low : parity (2 ^ k) (b / 2) ≡ bit (b / 2) k → (min 0 (b % 2) + parity (2 ^ k) (b / 2)) % 2 ≡ bit (b / 2) k
+    low q = let r : parity (2 ^ k) (b / 2) < 2 = omega arith in omega arith

@@ -1,0 +1,4 @@
+pub mod SummingRows
+pub mod ReadingRows
+pub mod CodingDetermined
+pub mod RoundTrip

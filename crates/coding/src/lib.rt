@@ -1,0 +1,84 @@
+// Encoding information to a codeword, and reading a codeword back.
+use plates::Plate;
+use plates::Refusal;
+ghost use lib.Bits.{bitXor};
+ghost use lib.ListN.{length, take};
+ghost use mathlib.Core.Path.{_≡_};
+ghost use Prim.Native.Nat.{_^_, _≤_, _<_};
+ghost use Rattle.coding.specs.Coding.{Encodes, ReadsBack};
+ghost use Rattle.coding.specs.TakingOff.{Headed, Read, ReadOn};
+ghost use Rattle.words.specs.Sum.{sumOf, taken};
+
+// The codeword of an information word, or why there is none.
+pub enum Encoded {
+    Word(u64),
+    Refused(Refusal),
+}
+
+// The information word of a codeword, or why there is none.
+pub enum ReadBack {
+    Information(u64),
+    Refused(Refusal),
+}
+
+// What is left of a word once the rows before a place are taken off it, and the information that they make.
+pub struct Reading {
+    pub information: u64,
+    pub rest: u64,
+}
+
+// The row where the digit is 1, added to a sum.
+fn with_row(sum: u64, row: u64, digit: u64) -> u64
+    requires { ⌜ digit < 2 ⌝ }
+    ensures { λ r. ⌜ r ≡ bitXor (taken digit row) sum ⌝ }
+{
+    if digit == 0 {
+        return sum;
+    }
+    row ^ sum
+}
+
+// The sum of the first k rows that the information takes, from the last row to the first.
+fn sum_rows(rows: &[u64; 64], k: usize, information: u64) -> u64
+    requires { ⌜ (length (now rows) ≡ 64) × (k ≤ 64) ⌝ }
+    ensures { λ r. ⌜ r ≡ sumOf (take k (now (rows .entry))) information ⌝ }
+{
+    let mut sum = 0;
+    let mut j = k;
+    while 0 < j {
+        j -= 1;
+        sum = with_row(sum, rows[j], words::bit_at(information, j));
+    }
+    sum
+}
+
+// The rest without row j, and the information with it, where the rest has a one at the row's head.
+fn take_off(before: Reading, row: u64, j: usize) -> Reading
+    requires { ⌜ (j < 64) × (before .information < 2 ^ j) ⌝ }
+    ensures { λ r. ⌜ ReadOn before row j r ⌝ }
+{
+    if words::bit_at(before.rest, words::first_one(row)) == 0 {
+        return before;
+    }
+    Reading {
+        information: before.information | (1 << j),
+        rest: row ^ before.rest,
+    }
+}
+
+// The first k rows taken off a word by their heads, from the first row to the last.
+fn take_rows(rows: &[u64; 64], k: usize, word: u64) -> Reading
+    requires { ⌜ Headed (now rows) k ⌝ }
+    ensures { λ r. ⌜ Read (now (rows .entry)) k word k r ⌝ }
+{
+    let mut reading = Reading {
+        information: 0,
+        rest: word,
+    };
+    let mut j = 0;
+    while j < k {
+        reading = take_off(reading, rows[j], j);
+        j += 1;
+    }
+    reading
+}

@@ -1,0 +1,35 @@
+-- Decoding taken branch by branch: a step for each section, from the far end to the start.
+use Prim.Native.Nat.{ℕ, suc, _+_, _*_, _^_}
+use lib.Dec.{eqb}
+use lib.IntN.{ℤ, pos}
+use mathlib.Core.Bool.{cond, _&&_, not}
+use mathlib.Core.List.{List, [], _∷_}
+use Rattle.trellises.specs.declared.Section.{Section}
+use Rattle.trellises.specs.Numbers.{bitOf, leadsTo}
+use Rattle.decoding.specs.declared.Counts.{Counts}
+use Rattle.decoding.specs.Taking.{Taken, atState, counting}
+
+-- the state that the branch with bit b leads to, from state i
+abbrev pub follow : Section → ℕ → ℕ → ℕ
+follow c i b = leadsTo c (cond (c .begins && not (eqb (bitOf c i) b)) (i + 2 ^ c .live) i)
+
+-- the sections by depth, and the samples from depth t on
+module _ (sections : ℕ → Section) where
+  -- the greatest metric of a way to the end, from state i at depth t
+  abbrev pub best : List ℤ → ℕ → ℕ → ℤ
+  best [] t i = pos 0
+  best (y ∷ ys) t i = (atState (sections t) y (best ys (suc t)) i) .metric
+
+  -- what is decided at state i
+  abbrev pub decided : ℤ → List ℤ → ℕ → ℕ → ℕ
+  decided y ys t i = (atState (sections t) y (best ys (suc t)) i) .bit
+
+  -- the word read off from state i at depth t: its position 0 is position t
+  abbrev pub word : List ℤ → ℕ → ℕ → ℕ
+  word [] t i = 0
+  word (y ∷ ys) t i = word ys (suc t) (follow (sections t) i (decided y ys t i)) * 2 + decided y ys t i
+
+  -- what the steps counted, from the far end to depth t
+  abbrev pub counted : List ℤ → ℕ → Counts
+  counted [] t = record { additions = 0; comparisons = 0 }
+  counted (y ∷ ys) t = counting (sections t) y (best ys (suc t)) (2 ^ (sections t) .live) (counted ys (suc t))
