@@ -17,3 +17,5 @@ pub mod AcceptedIsPrepared
 pub mod ActiveNumber
 pub mod PlateTrellis
 pub mod WolfMassey
+pub mod BranchDetermined
+pub mod OneBegins
