@@ -49,7 +49,8 @@ fn next_of(section: Section, state: usize, bit: u64) -> Next
         return Next::State(next_state(section, state));
     }
     if section.begins {
-        return Next::State(next_state(section, state + weight_of(section.live)));
+        let weight = weight_of(section.live);
+        return Next::State(next_state(section, state + weight));
     }
     Next::NoBranch
 }

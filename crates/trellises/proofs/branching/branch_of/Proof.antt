@@ -2,23 +2,15 @@
 use borrow.Author.Needs.{needs}
 use lib.Seq.{length-take-le}
 use mathlib.Core.Logic.{inl, inr}
-use mathlib.Core.Path.{_≡_, _∙_, ap, subst, sym}
+use mathlib.Core.Path.{_∙_, ap, subst, sym}
 use native.Mathlib.Omega.{arith}
-use Prim.Native.Nat.{ℕ, _<_, _^_}
-use Rattle.plates.specs.Prepare.{rowsOf}
-use Rattle.plates.specs.Profile.{liveAt}
+use Prim.Native.Nat.{ℕ, _^_}
 use Rattle.trellises.specs.Branching.{Branches}
-use Rattle.trellises.specs.declared.Next.{Next}
 use Rattle.trellises.specs.declared.Section.{Section}
 use Rattle.trellises.specs.Following.{nextOf}
 use Rattle.trellises.proofs.NextIsBranch.{found, found-ending, found-live, next-branches, refused-twelve}
 use Rattle.trellises.proofs.branching.branch_of.Statement.{statement}
 use Rattle.trellises.proofs.branching.branch_of.Tie as tie
-use Rattle.trellises.proofs.branching.branch_of.Reads as reads
-use Rattle.trellises.proofs.branching.branch_of.Lts as lts
-use Rattle.trellises.proofs.branching.next_of.Reads as next-of-reads
-use Rattle.trellises.proofs.branching.weight_of.Reads as weight-of-reads
-use Rattle.trellises.proofs.sections.section_of.Reads as section-of-reads
 
 returns : tie.Need-returns
 returns c = let a = c .before .args in refused-twelve (a .plate) (c .before .pre) (a .depth) (a .state) (a .bit) (inl (c .if1 .taken))

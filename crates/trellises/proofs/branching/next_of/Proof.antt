@@ -2,18 +2,13 @@
 use borrow.Author.Needs.{needs}
 use borrow.Author.Tests.{eq-eqb, ne-eqb}
 use lib.Pow.{pow-mono}
-use mathlib.Core.Path.{_∙_, ap, refl, sym}
+use mathlib.Core.Path.{_∙_, ap, sym}
 use native.Mathlib.Omega.{arith}
 use Prim.Native.Nat.{ℕ, _+_}
 use Rattle.trellises.specs.declared.Next.the-variants.{State}
 use Rattle.trellises.specs.Numbers.{bitOf, leadsTo}
 use Rattle.trellises.proofs.branching.next_of.Statement.{statement}
 use Rattle.trellises.proofs.branching.next_of.Tie as tie
-use Rattle.trellises.proofs.branching.next_of.Reads as reads
-use Rattle.trellises.proofs.branching.next_of.Lts as lts
-use Rattle.trellises.proofs.branching.next_state.Reads as next-state-reads
-use Rattle.trellises.proofs.branching.weight_of.Reads as weight-of-reads
-use Rattle.words.proofs.parity_with.Reads as parity-with-reads
 
 parity-with-requires : tie.Need-parity-with-requires
 parity-with-requires c κs = search needs

@@ -2,9 +2,6 @@
 use borrow.Author.Needs.{needs}
 use Rattle.trellises.proofs.branching.next_state.Statement.{statement}
 use Rattle.trellises.proofs.branching.next_state.Tie as tie
-use Rattle.trellises.proofs.branching.next_state.Reads as reads
-use Rattle.trellises.proofs.branching.next_state.Lts as lts
-use Rattle.trellises.proofs.branching.without_digit.Reads as without-digit-reads
 
 without-digit-requires : tie.Need-without-digit-requires
 without-digit-requires c κs = search needs

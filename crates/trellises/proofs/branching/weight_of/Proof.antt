@@ -6,8 +6,6 @@ use native.Mathlib.Nat.{mod-eq-of-lt, one-mul}
 use Prim.Native.Nat.{ℕ, _%_, _^_}
 use Rattle.trellises.proofs.branching.weight_of.Statement.{statement}
 use Rattle.trellises.proofs.branching.weight_of.Tie as tie
-use Rattle.trellises.proofs.branching.weight_of.Reads as reads
-use Rattle.trellises.proofs.branching.weight_of.Lts as lts
 
 shl-result : tie.Need-shl-result
 shl-result c = search needs

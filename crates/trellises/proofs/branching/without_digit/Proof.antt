@@ -7,9 +7,6 @@ use Prim.Native.Nat.{ℕ, _%_, _*_, _+_, _/_}
 use Rattle.trellises.proofs.Digits.{without-at-most}
 use Rattle.trellises.proofs.branching.without_digit.Statement.{statement}
 use Rattle.trellises.proofs.branching.without_digit.Tie as tie
-use Rattle.trellises.proofs.branching.without_digit.Reads as reads
-use Rattle.trellises.proofs.branching.without_digit.Lts as lts
-use Rattle.trellises.proofs.branching.weight_of.Reads as weight-of-reads
 
 weight-of-requires : tie.Need-weight-of-requires
 weight-of-requires c κs = search needs
