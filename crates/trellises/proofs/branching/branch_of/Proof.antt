@@ -13,7 +13,7 @@ use Rattle.trellises.proofs.branching.branch_of.Statement.{statement}
 use Rattle.trellises.proofs.branching.branch_of.Tie as tie
 
 returns : tie.Need-returns
-returns c = let a = c .before .args in refused-twelve (a .plate) (c .before .pre) (a .depth) (a .state) (a .bit) (inl (c .if1 .taken))
+returns c = let a = c .before .args in refused-twelve (a .plate) (c .before .pre) (a .depth) (a .state) (a .bit) (inl (omega (arith, c .if1 .taken)))
 
 returns-2 : tie.Need-returns-2
 returns-2 c = let s = c .before .before in refused-twelve (s .args .plate) (s .pre) (s .args .depth) (s .args .state) (s .args .bit) (inr (inr (c .if2 .taken)))
