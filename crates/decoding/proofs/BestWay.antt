@@ -8,9 +8,8 @@ use native.Mathlib.Omega.{arith}
 use Prim.Native.Nat.{_%_, _*_, _+_, _/_, _<_, _^_, suc, ℕ}
 use Rattle.decoding.proofs.Leaving.{Chosen, best-branch, bit-two}
 use Rattle.decoding.proofs.StateChoice.{Beats, Under, under-beaten, under-behind}
-use Rattle.decoding.specs.Backward.{best, follow, word}
+use Rattle.decoding.specs.Backward.{Chain, best, follow, word}
 use Rattle.decoding.specs.Metric.{metricOf}
-use Rattle.decoding.specs.Stepping.{SectionFits}
 use Rattle.decoding.specs.Taking.{added, signed}
 use Rattle.trellises.proofs.Digits.{rest}
 use Rattle.trellises.specs.declared.Section.{Section}
@@ -24,11 +23,6 @@ module _ (sections : ℕ → Section) where
   Way (y ∷ ys) t i w =
       (x : ℕ) × (x < branchCount (sections t)) × (leaves (sections t) x ≡ i) × (bitOf (sections t) x ≡ w % 2)
       × Way ys (suc t) (leadsTo (sections t) x) (w / 2)
-
--- sections that follow one another, up to depth n
-pub record Chain (sections : ℕ → Section) (n : ℕ) : Type 0 where
-  pub fits : (t : ℕ) → t < n → SectionFits (sections t)
-  pub leads : (t : ℕ) → t < n → (x : ℕ) → x < branchCount (sections t) → leadsTo (sections t) x < 2 ^ (sections (suc t)) .live
 
 module _ (sections : ℕ → Section) (n : ℕ) (chain : Chain sections n) where
   -- the branch chosen at state i of depth t

@@ -6,3 +6,8 @@ pub mod BestWay
 pub mod PlateWays
 pub mod BestWord
 pub mod MetricBounds
+pub mod CountSteps
+pub mod SameChoice
+pub mod Parts
+pub mod SweepSection
+pub mod SweepEnds

@@ -8,14 +8,15 @@ use native.Mathlib.Nat.{div-eq-of-lt, pow-suc}
 use native.Mathlib.Numerals.{add-one}
 use native.Mathlib.Omega.{arith}
 use Prim.Native.Nat.{_%_, _+_, _/_, _<_, _^_, suc, zero, ℕ, _≤_}
-use Rattle.decoding.proofs.BestWay.{Chain, Way}
+use Rattle.decoding.proofs.BestWay.{Way}
+use Rattle.decoding.specs.Backward.{Chain}
 use Rattle.plates.proofs.SoundIsPrepared.{sound}
 use Rattle.plates.specs.declared.Plate.{Plate}
 use Rattle.plates.specs.Prepare.{IsPrepared, rowsOf}
 use Rattle.trellises.proofs.PlateTrellis.{plate-path-ends, plate-spans, plate-spells}
 use Rattle.trellises.proofs.SectionAgrees.{Agrees, chosen, section-agrees}
 use Rattle.trellises.proofs.SectionBranches.{has-number, number-has}
-use Rattle.trellises.proofs.SectionFits.{narrow, begun, column-small, ending-live}
+use Rattle.trellises.proofs.SectionFits.{narrow, begun, column-small, ending-live, narrow}
 use Rattle.trellises.specs.Branching.{trellisOf}
 use Rattle.trellises.specs.declared.Section.{Section}
 use Rattle.trellises.specs.Graph.{Has, Path}

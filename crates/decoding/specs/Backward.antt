@@ -1,13 +1,14 @@
 -- Decoding taken branch by branch: a step for each section, from the far end to the start.
-use Prim.Native.Nat.{ℕ, suc, _+_, _*_, _^_}
 use lib.Dec.{eqb}
-use lib.IntN.{ℤ, pos}
-use mathlib.Core.Bool.{cond, _&&_, not}
+use lib.IntN.{pos, ℤ}
+use mathlib.Core.Bool.{_&&_, cond, not}
 use mathlib.Core.List.{List, [], _∷_}
-use Rattle.trellises.specs.declared.Section.{Section}
-use Rattle.trellises.specs.Numbers.{bitOf, leadsTo}
+use Prim.Native.Nat.{_*_, _+_, _<_, _^_, suc, ℕ}
 use Rattle.decoding.specs.declared.Counts.{Counts}
-use Rattle.decoding.specs.Taking.{Taken, atState, counting}
+use Rattle.decoding.specs.Stepping.{SectionFits}
+use Rattle.decoding.specs.Taking.{atState, counting}
+use Rattle.trellises.specs.declared.Section.{Section}
+use Rattle.trellises.specs.Numbers.{bitOf, branchCount, leadsTo}
 
 -- the state that the branch with bit b leads to, from state i
 abbrev pub follow : Section → ℕ → ℕ → ℕ
@@ -33,3 +34,8 @@ module _ (sections : ℕ → Section) where
   abbrev pub counted : List ℤ → ℕ → Counts
   counted [] t = record { additions = 0; comparisons = 0 }
   counted (y ∷ ys) t = counting (sections t) y (best ys (suc t)) (2 ^ (sections t) .live) (counted ys (suc t))
+
+-- sections that follow one another, up to depth n
+pub record Chain (sections : ℕ → Section) (n : ℕ) : Type 0 where
+  pub fits : (t : ℕ) → t < n → SectionFits (sections t)
+  pub leads : (t : ℕ) → t < n → (x : ℕ) → x < branchCount (sections t) → leadsTo (sections t) x < 2 ^ (sections (suc t)) .live

@@ -2,6 +2,11 @@
 
 use plates::Refusal;
 
+mod live;
+mod step;
+mod sweep;
+mod walk;
+
 // What the steps counted: branches added, and comparisons made.
 pub struct Counts {
     pub additions: u64,

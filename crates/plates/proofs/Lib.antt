@@ -8,3 +8,10 @@ pub mod LastOnesDiffer
 pub mod SoundIsPrepared
 pub mod PrepareDetermined
 pub mod Live
+pub mod ProfileSteps
+pub mod Deciding
+pub mod RowsPlaced
+pub mod HeadsClear
+pub mod ProfileTested
+pub mod ZerosTested
+pub mod SoundParts

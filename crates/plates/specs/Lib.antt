@@ -6,3 +6,5 @@ pub mod Dimension
 pub mod Reduced
 pub mod Prepare
 pub mod Sound
+pub mod Counts
+pub mod Tested

@@ -1,6 +1,9 @@
 // Code plates: what a plate is, how a matrix becomes one, and how a prepared plate is known.
 ghost use mathlib.Core.Path.{_≡_};
+ghost use Rattle.plates.specs.Prepare.{Tests};
 ghost use Rattle.plates.specs.Refusals.{number, place};
+
+mod tested;
 
 // How a matrix gives its code: as generator, or as parity check.
 pub enum Kind {
@@ -91,4 +94,11 @@ pub fn refusal_place(refusal: Refusal) -> usize
         Refusal::NoCodeword => 0,
         Refusal::InputTooLong => 0,
     }
+}
+
+// Whether a plate is what preparing its own first k rows as G gives.
+pub fn is_prepared(plate: Plate) -> bool
+    ensures { λ r. ⌜ Tests plate r ⌝ }
+{
+    tested::sound(plate.n, plate.k, &plate.rows, &plate.profile)
 }

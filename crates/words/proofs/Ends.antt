@@ -2,6 +2,7 @@
 use lib.Count.{leading-top, leadingZeros, trailingZeros, under}
 use mathlib.Core.Logic.{inl, inr, _⊎_}
 use mathlib.Core.Path.{refl, subst, sym, _∙_, _≡_}
+use native.Mathlib.Decide.{decLt}
 use native.Mathlib.Nat.{pow-suc}
 use native.Mathlib.Omega.{arith}
 use Prim.Native.Nat.{_%_, _-_, _/_, _<_, _^_, suc, suc-le-suc, zero, zero-le, ℕ, _≤_}
@@ -29,6 +30,14 @@ first-trailing (suc k) w p h = go (bit-cases w 0) (λ q. first-trailing k (w / 2
 pub some-pos : (w p : ℕ) → bit w p ≡ 1 → 0 < w
 some-pos zero p e = absurd (zero-one (bit-zero p) e)
 some-pos (suc w) p e = suc-le-suc zero-le
+
+-- a word below 2 ^ n has its ones before n
+pub one-before : (n w p : ℕ) → w < 2 ^ n → bit w p ≡ 1 → p < n
+one-before n w p h e = go (decLt p n)
+  where
+    go : Dec (p < n) → p < n
+    go (yes b) = b
+    go (no b) = absurd (zero-one (bits-below n w h p (omega arith)) e)
 
 pub trailing-first : (k w p : ℕ) → w < 2 ^ k → First w p → trailingZeros k w ≡ p
 trailing-first k w p h f = first-unique (first-trailing k w (some-pos w p (f .one)) h) f

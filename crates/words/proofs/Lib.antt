@@ -7,3 +7,4 @@ pub mod Ends
 pub mod Steps
 pub mod Choice
 pub mod Pigeonhole
+pub mod Masks

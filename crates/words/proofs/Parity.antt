@@ -10,10 +10,10 @@ use Rattle.words.proofs.Word.{xor-half, xor-odd}
 use Rattle.words.specs.Parity.{parity}
 use Rattle.words.specs.Word.{bit}
 
-and-odd : (a b : ℕ) → bitAnd a b % 2 ≡ min (a % 2) (b % 2)
+pub and-odd : (a b : ℕ) → bitAnd a b % 2 ≡ min (a % 2) (b % 2)
 and-odd a b = rw (and-step a b) (digits-mod (bitAnd (a / 2) (b / 2)) (omega arith))
 
-and-half : (a b : ℕ) → bitAnd a b / 2 ≡ bitAnd (a / 2) (b / 2)
+pub and-half : (a b : ℕ) → bitAnd a b / 2 ≡ bitAnd (a / 2) (b / 2)
 and-half a b = rw (and-step a b) (digits-div (bitAnd (a / 2) (b / 2)) (omega arith))
 
 pub parity-step : (a b : ℕ) → parity a b ≡ (min (a % 2) (b % 2) + parity (a / 2) (b / 2)) % 2

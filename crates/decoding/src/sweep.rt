@@ -1,0 +1,104 @@
+// The sections of a plate taken one after the other, from the far end to the start.
+use crate::Counts;
+use crate::live::pass_back;
+use crate::step::step;
+ghost use mathlib.Core.Path.{_≡_};
+ghost use lib.ListN.{take};
+ghost use Rattle.decoding.specs.LiveRows.{EndsAre};
+ghost use Rattle.decoding.specs.Sweeping.{BeforeSection, RoomsFit, SectionSwept, SizesFit};
+
+// How large a decode is: positions, rows, metrics in each half of the room, and decision words a section.
+pub struct Sizes {
+    pub n: usize,
+    pub k: usize,
+    pub half: usize,
+    pub words: usize,
+}
+
+// Where the sweep stands: where the metrics of its depth begin, the rows live there, and what was counted.
+pub struct Standing {
+    pub from: usize,
+    pub live: u64,
+    pub counts: Counts,
+}
+
+// A sample as a gain.
+fn gain(sample: i16) -> i32
+    ensures { λ r. ⌜ r ≡ sample ⌝ }
+{
+    sample as i32
+}
+
+// Section t: its step, from one half of the metric room to the other, with its own part of the decision words.
+fn sweep_section(
+    rows: &[u64; 64],
+    sizes: Sizes,
+    ends: &[u8; 64],
+    samples: &[i16],
+    t: usize,
+    metrics: &mut [i32],
+    decisions: &mut [u64],
+    at: Standing,
+) -> Standing
+    requires { ⌜ BeforeSection (now rows) sizes (now ends) (now samples) t (now metrics) (now decisions) at ⌝ }
+    ensures { λ r. ⌜ SectionSwept (now (rows .entry)) sizes (now (samples .entry)) t (now (metrics .entry)) (now (decisions .entry)) (now (metrics .exit)) (now (decisions .exit)) r ⌝ }
+{
+    let passed = pass_back(rows, sizes.k, ends, at.live, t);
+    let to = sizes.half - at.from;
+    let begin = t * sizes.words;
+    let end = begin + sizes.words;
+    let counts = step(
+        &mut *metrics,
+        at.from,
+        to,
+        &mut decisions[begin..end],
+        passed.section,
+        gain(samples[t]),
+        at.counts,
+    );
+    Standing {
+        from: to,
+        live: passed.live,
+        counts,
+    }
+}
+
+// All sections.
+pub fn sweep(
+    rows: &[u64; 64],
+    sizes: Sizes,
+    ends: &[u8; 64],
+    samples: &[i16],
+    metrics: &mut [i32],
+    decisions: &mut [u64],
+) -> Standing
+    requires { ⌜ SizesFit (now rows) sizes ⌝ }
+    requires { ⌜ EndsAre (take (sizes .k) (now rows)) (now ends) ⌝ }
+    requires { ⌜ RoomsFit sizes (now samples) (now metrics) (now decisions) ⌝ }
+    ensures { λ r. ⌜ SectionSwept (now (rows .entry)) sizes (now (samples .entry)) 0 (now (metrics .entry)) (now (decisions .entry)) (now (metrics .exit)) (now (decisions .exit)) r ⌝ }
+{
+    metrics[0] = 0;
+    let mut at = Standing {
+        from: 0,
+        live: 0,
+        counts: Counts {
+            additions: 0,
+            comparisons: 0,
+        },
+    };
+    let mut t = sizes.n;
+    while 0 < t {
+        t -= 1;
+        at = sweep_section(
+            rows,
+            sizes,
+            ends,
+            samples,
+            t,
+            &mut *metrics,
+            &mut *decisions,
+            at,
+        );
+    }
+    at
+}
