@@ -1,4 +1,6 @@
 // The trellis of a plate: its sections as plain numbers, and its branches.
+ghost use Rattle.trellises.specs.Branching.{Branches};
+use plates::Plate;
 use plates::Refusal;
 
 mod branching;
@@ -20,4 +22,14 @@ pub enum Next {
     State(usize),
     NoBranch,
     Refused(Refusal),
+}
+
+// The branch of a plate's trellis that leaves a state with a bit: where it leads, or that there is none.
+pub fn branch(plate: Plate, depth: usize, state: usize, bit: u64) -> Next
+    ensures { λ r. ⌜ Branches plate depth state bit r ⌝ }
+{
+    if plates::is_prepared(plate) {
+        return branching::branch_of(plate, depth, state, bit);
+    }
+    Next::Refused(Refusal::NotPrepared)
 }
