@@ -9,9 +9,13 @@ pub mod Digits
 pub mod ActiveOnly
 pub mod SectionFits
 pub mod SectionBranches
+pub mod HeldSection
+pub mod NextIsBranch
 pub mod PathsOnce
 pub mod PlateGenerates
 pub mod AcceptedIsPrepared
 pub mod ActiveNumber
 pub mod PlateTrellis
 pub mod WolfMassey
+pub mod BranchDetermined
+pub mod OneBegins

@@ -1,5 +1,10 @@
 // The trellis of a plate: its sections as plain numbers, and its branches.
+ghost use Rattle.trellises.specs.Branching.{Branches};
+use plates::Plate;
 use plates::Refusal;
+
+mod branching;
+pub mod sections;
 
 // A section of the trellis as numbers. A branch of it is a number whose digits say which of the active rows it takes, the row with
 // the lowest head having weight 1. 2^live states stand at the section's depth; where a row begins, it has weight 2^live; where one
@@ -17,4 +22,14 @@ pub enum Next {
     State(usize),
     NoBranch,
     Refused(Refusal),
+}
+
+// The branch of a plate's trellis that leaves a state with a bit: where it leads, or that there is none.
+pub fn branch(plate: Plate, depth: usize, state: usize, bit: u64) -> Next
+    ensures { λ r. ⌜ Branches plate depth state bit r ⌝ }
+{
+    if plates::is_prepared(plate) {
+        return branching::branch_of(plate, depth, state, bit);
+    }
+    Next::Refused(Refusal::NotPrepared)
 }
