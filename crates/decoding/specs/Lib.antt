@@ -1,2 +1,4 @@
 pub mod Taking
 pub mod Stepping
+pub mod Choosing
+pub mod Running

@@ -1,4 +1,6 @@
 // Decoding: the codeword of greatest correlation with soft samples.
+mod choices;
+mod states;
 
 // What the steps counted: branches added, and comparisons made.
 pub struct Counts {

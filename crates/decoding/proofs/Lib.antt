@@ -1,0 +1,6 @@
+pub mod Integers
+pub mod Preference
+pub mod Targets
+pub mod Branches
+pub mod Digits
+pub mod Parts
