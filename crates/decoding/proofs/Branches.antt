@@ -69,17 +69,17 @@ digit-of false p d n e h = omega arith
 
 module _ (c : Section) (y : ℤ) (old : ℕ → ℤ) (i : ℕ) where
   -- the metrics where the branches lead, and what the first one's bit adds
-  abbrev pub near : ℤ
-  near = old (leadsTo c i)
+  abbrev pub nearAt : ℤ
+  nearAt = old (leadsTo c i)
 
-  abbrev pub far : ℤ
-  far = old (leadsTo c (i + 2 ^ c .live))
+  abbrev pub farAt : ℤ
+  farAt = old (leadsTo c (i + 2 ^ c .live))
 
-  abbrev pub sign : ℤ
-  sign = signed (bitOf c i) y
+  abbrev pub signAt : ℤ
+  signAt = signed (bitOf c i) y
 
-  abbrev pub tie : ℤ
-  tie = pos (bitOf c i)
+  abbrev pub tieAt : ℤ
+  tieAt = pos (bitOf c i)
 
   -- a state that one branch leaves
   pub alone-is : c .begins ≡ false → atState c y old i ≡ taking c y old i
@@ -90,13 +90,13 @@ module _ (c : Section) (y : ℤ) (old : ℕ → ℤ) (i : ℕ) where
     differ-here : bitOf c (i + 2 ^ c .live) + bitOf c i ≡ 1
     differ-here = differing (c .column) (c .live) i l (h .begun e)
 
-    prefer-here : preferred (signed (bitOf c (i + 2 ^ c .live)) y +ℤ far) (bitOf c (i + 2 ^ c .live)) (sign +ℤ near) ≡ takesSecond near far sign tie
+    prefer-here : preferred (signed (bitOf c (i + 2 ^ c .live)) y +ℤ farAt) (bitOf c (i + 2 ^ c .live)) (signAt +ℤ nearAt) ≡ takesSecond nearAt farAt signAt tieAt
     prefer-here =
-        prefers (bitOf c i) (bitOf c (i + 2 ^ c .live)) differ-here (sign +ℤ near) (signed (bitOf c (i + 2 ^ c .live)) y +ℤ far)
-        ∙ ap (λ (v : ℤ). ltZ (sign +ℤ near) (v +ℤ tie)) (sym (opposite (bitOf c i) (bitOf c (i + 2 ^ c .live)) differ-here far y))
+        prefers (bitOf c i) (bitOf c (i + 2 ^ c .live)) differ-here (signAt +ℤ nearAt) (signed (bitOf c (i + 2 ^ c .live)) y +ℤ farAt)
+        ∙ ap (λ (v : ℤ). ltZ (signAt +ℤ nearAt) (v +ℤ tieAt)) (sym (opposite (bitOf c i) (bitOf c (i + 2 ^ c .live)) differ-here farAt y))
 
-    pub two-metric : (atState c y old i) .metric ≡ cond (takesSecond near far sign tie) (far -ℤ sign) (sign +ℤ near)
-    two-metric = rw (e, prefer-here, opposite (bitOf c i) (bitOf c (i + 2 ^ c .live)) differ-here far y)
+    pub two-metric : (atState c y old i) .metric ≡ cond (takesSecond nearAt farAt signAt tieAt) (farAt -ℤ signAt) (signAt +ℤ nearAt)
+    two-metric = rw (e, prefer-here, opposite (bitOf c i) (bitOf c (i + 2 ^ c .live)) differ-here farAt y)
 
-    pub two-bit : (n : ℕ) → n ≡ cond (takesSecond near far sign tie) 1 0 → (n + bitOf c i) % 2 ≡ (atState c y old i) .bit
-    two-bit n en = rw (e, prefer-here) (digit-of (takesSecond near far sign tie) (bitOf c i) (bitOf c (i + 2 ^ c .live)) n differ-here en)
+    pub two-bit : (n : ℕ) → n ≡ cond (takesSecond nearAt farAt signAt tieAt) 1 0 → (n + bitOf c i) % 2 ≡ (atState c y old i) .bit
+    two-bit n en = rw (e, prefer-here) (digit-of (takesSecond nearAt farAt signAt tieAt) (bitOf c i) (bitOf c (i + 2 ^ c .live)) n differ-here en)

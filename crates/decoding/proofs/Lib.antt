@@ -4,3 +4,5 @@ pub mod Targets
 pub mod Branches
 pub mod Digits
 pub mod Parts
+pub mod Singles
+pub mod Runs

@@ -84,9 +84,6 @@ module _ (M : List ℤ) (from to : ℕ) (c : Section) (y : ℤ) (ready : Ready M
   module _ (lo n m : ℕ) (l : lo + n + m ≤ 2 ^ c .live) (k : Counts) (M₁ M₂ : List ℤ) (r₁ r₂ r : Run)
       (p : Part M from to c y (lo + n) m k M₁ r₁) (q : Part M₁ from to c y lo n (r₁ .counts) M₂ r₂)
       (ew : r .word ≡ r₁ .word * 2 ^ n + r₂ .word) (ek : r .counts ≡ r₂ .counts) where
-    upper : lo + n + m ≤ 2 ^ c .live
-    upper = l
-
     metric : (i : ℕ) → i < n + m → olds M₂ to (lo + i) ≡ (atState c y (olds M from) (lo + i)) .metric
     metric i h = ⊎-elim low high (below-or n m i h)
       where
