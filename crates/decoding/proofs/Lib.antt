@@ -6,3 +6,6 @@ pub mod Digits
 pub mod Parts
 pub mod Singles
 pub mod Runs
+pub mod Masks
+pub mod Parities
+pub mod Progress

@@ -2,7 +2,7 @@
 use borrow.Author.Tests.{ltb-false, ltb-true}
 use lib.Dec.{ltb}
 use lib.IntN.{pos, ℤ}
-use lib.ListN.{length-set, set}
+use lib.ListN.{getD, length, length-set, set}
 use lib.Seq.{getD-set-other, getD-set-same}
 use mathlib.Core.Bool.{Bool, false, true}
 use mathlib.Core.List.{List}
@@ -29,7 +29,7 @@ same-at c y f g i true e p q = let r = q e in rw (e, p, r)
 same-at c y f g i false e p q = rw (e, p)
 
 -- the next place is the last one done, or one before
-below-or : (n m i : ℕ) → i < n + m → (i < n) ⊎ ((j : ℕ) × ((j < m) × (i ≡ n + j)))
+pub below-or : (n m i : ℕ) → i < n + m → (i < n) ⊎ ((j : ℕ) × ((j < m) × (i ≡ n + j)))
 below-or n m i l = go (ltb i n) refl
   where
     go : (t : Bool) → ltb i n ≡ t → (i < n) ⊎ ((j : ℕ) × ((j < m) × (i ≡ n + j)))
@@ -60,10 +60,11 @@ module _ (M : List ℤ) (from to : ℕ) (c : Section) (y : ℤ) (ready : Ready M
         decision zero h = let e : r .word % 2 ≡ r .word = omega arith in rw (add-zero i) (e ∙ ew)
         decision (suc j) h = absurd (omega arith)
 
-  -- a part leaves the metrics that branches lead to
-  module _ (lo n : ℕ) (l : lo + n ≤ 2 ^ c .live) (k : Counts) (M₁ : List ℤ) (r : Run) (p : Part M from to c y lo n k M₁ r) where
+  -- metrics that differ from M at new places alone
+  module _ (M₁ : List ℤ) (size : length M₁ ≡ length M)
+      (others : (j : ℕ) → (j < to) ⊎ (to + 2 ^ c .live ≤ j) → getD M₁ j (pos 0) ≡ getD M j (pos 0)) where
     source-same : (x : ℕ) → x < branchCount c → olds M₁ from (leadsTo c x) ≡ olds M from (leadsTo c x)
-    source-same x h = p .others (from + leadsTo c x) (⊎-elim (λ a. inl (omega arith)) (λ a. inr (omega arith)) (ready .apart x h))
+    source-same x h = others (from + leadsTo c x) (ready .apart x h)
 
     pub state-same : (i : ℕ) → i < 2 ^ c .live → atState c y (olds M₁ from) i ≡ atState c y (olds M from) i
     state-same i h =
@@ -74,11 +75,16 @@ module _ (M : List ℤ) (from to : ℕ) (c : Section) (y : ℤ) (ready : Ready M
     still-ready = record {
       section = ready .section;
       gain = ready .gain;
-      place = λ x h. omega (arith, ready .place x h, p .size);
+      place = λ x h. omega (arith, ready .place x h);
       small = λ x h. rw (source-same x h) (ready .small x h);
       apart = ready .apart;
-      room = omega (arith, ready .room, p .size);
+      room = omega (arith, ready .room);
     }
+
+  -- such are those after a part
+  pub part-others : (lo n : ℕ) → lo + n ≤ 2 ^ c .live → (k : Counts) (M₁ : List ℤ) (r : Run) → Part M from to c y lo n k M₁ r
+      → (j : ℕ) → (j < to) ⊎ (to + 2 ^ c .live ≤ j) → getD M₁ j (pos 0) ≡ getD M j (pos 0)
+  part-others lo n l k M₁ r p j o = p .others j (⊎-elim (λ a. inl (omega arith)) (λ a. inr (omega arith)) o)
 
   -- m states from lo + n on, then n states from lo on
   module _ (lo n m : ℕ) (l : lo + n + m ≤ 2 ^ c .live) (k : Counts) (M₁ M₂ : List ℤ) (r₁ r₂ r : Run)
@@ -88,7 +94,7 @@ module _ (M : List ℤ) (from to : ℕ) (c : Section) (y : ℤ) (ready : Ready M
     metric i h = ⊎-elim low high (below-or n m i h)
       where
         low : i < n → olds M₂ to (lo + i) ≡ (atState c y (olds M from) (lo + i)) .metric
-        low g = q .metric i g ∙ ap (λ (s : Taken). s .metric) (state-same (lo + n) m l k M₁ r₁ p (lo + i) (omega arith))
+        low g = q .metric i g ∙ ap (λ (s : Taken). s .metric) (state-same M₁ (p .size) (part-others (lo + n) m l k M₁ r₁ p) (lo + i) (omega arith))
 
         high : (j : ℕ) × ((j < m) × (i ≡ n + j)) → olds M₂ to (lo + i) ≡ (atState c y (olds M from) (lo + i)) .metric
         high (j, (g, e)) =
@@ -101,7 +107,7 @@ module _ (M : List ℤ) (from to : ℕ) (c : Section) (y : ℤ) (ready : Ready M
         low : i < n → bit (r₁ .word * 2 ^ n + r₂ .word) i ≡ (atState c y (olds M from) (lo + i)) .bit
         low g =
             bit-low n (r₁ .word) (r₂ .word) i g ∙ q .decision i g
-            ∙ ap (λ (s : Taken). s .bit) (state-same (lo + n) m l k M₁ r₁ p (lo + i) (omega arith))
+            ∙ ap (λ (s : Taken). s .bit) (state-same M₁ (p .size) (part-others (lo + n) m l k M₁ r₁ p) (lo + i) (omega arith))
 
         high : (j : ℕ) × ((j < m) × (i ≡ n + j)) → bit (r₁ .word * 2 ^ n + r₂ .word) i ≡ (atState c y (olds M from) (lo + i)) .bit
         high (j, (g, e)) =

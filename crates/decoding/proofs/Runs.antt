@@ -7,7 +7,7 @@ use mathlib.Core.Path.{refl, sym, _∙_, _≡_}
 use native.Mathlib.Nat.{le-trans, mul-le-mul-left, mul-le-mul-right}
 use native.Mathlib.Omega.{arith}
 use Prim.Native.Nat.{_%_, _*_, _+_, _-_, _/_, _<_, _^_, ℕ, _≤_}
-use Rattle.decoding.proofs.Parts.{join, still-ready}
+use Rattle.decoding.proofs.Parts.{join, part-others, still-ready}
 use Rattle.decoding.specs.declared.Counts.{Counts}
 use Rattle.decoding.specs.declared.states.Run.{Run}
 use Rattle.decoding.specs.Running.{Part, RunFits, StateFits, addsOf, comparesOf}
@@ -51,7 +51,7 @@ module _ (M : List ℤ) (from to : ℕ) (c : Section) (y : ℤ) where
     -- what the next state below asks
     pub next-fits : StateFits M₁ from to c y (w / 2 ^ (i - 1) % 2) (lo + (i - 1)) k₁
     next-fits = record {
-      ready = still-ready M from to c y (h .ready) (lo + i) (n - i) (omega (arith, h .states)) k M₁ _ p;
+      ready = still-ready M from to c y (h .ready) M₁ (p .size) (part-others M from to c y (h .ready) (lo + i) (n - i) (omega (arith, h .states)) k M₁ _ p);
       state = omega (arith, h .states);
       parity = sym (bit-div (i - 1) w) ∙ h .pattern (i - 1) (omega arith);
       additions = omega (arith, p .additions, h .additions, times-le (n - i) 64 (addsOf c) 2 (omega (arith, h .word)) (adds-le c));

@@ -2,3 +2,5 @@ pub mod Taking
 pub mod Stepping
 pub mod Choosing
 pub mod Running
+pub mod Patterns
+pub mod Blocks

@@ -1,6 +1,8 @@
 // Decoding: the codeword of greatest correlation with soft samples.
 mod choices;
+mod patterns;
 mod states;
+mod step;
 
 // What the steps counted: branches added, and comparisons made.
 pub struct Counts {
