@@ -1,13 +1,14 @@
 -- The first n states of a section are done: how that holds at the start, after each decision word, and at the end.
 use lib.IntN.{pos, ℤ}
 use lib.ListN.{getD, length, length-set, set}
+use lib.Pow.{pow-add, pow-mono}
 use lib.Seq.{getD-set-other, getD-set-same}
 use mathlib.Core.Bool.{Bool, cond, false, true}
 use mathlib.Core.List.{List}
 use mathlib.Core.Logic.{inl, inr, _⊎_, ⊎-elim}
 use mathlib.Core.Path.{ap, ap₂, refl, sym, _∙_, _≡_}
 use native.Mathlib.Omega.{arith}
-use Prim.Native.Nat.{_%_, _*_, _+_, _/_, _<_, _^_, suc, zero, zero-le, ℕ, _≤_}
+use Prim.Native.Nat.{_%_, _*_, _+_, _-_, _/_, _<_, _^_, suc, zero, zero-le, ℕ, _≤_}
 use Rattle.decoding.proofs.Parts.{below-or, state-same, still-ready}
 use Rattle.decoding.proofs.Runs.{adds-le, compares-le, times-le}
 use Rattle.decoding.proofs.Targets.{live-le}
@@ -20,6 +21,10 @@ use Rattle.decoding.specs.Taking.{Taken, atState, counting}
 use Rattle.trellises.specs.declared.Section.{Section}
 use Rattle.trellises.specs.Numbers.{leadsTo}
 use Rattle.words.specs.Word.{bit}
+
+-- how many decision words 64 states or more have
+pub word-count : (l w : ℕ) → 6 ≤ l → w ≡ 2 ^ (l - 6) → w * 64 ≡ 2 ^ l
+word-count l w h e = let f : l ≡ l - 6 + 6 = omega arith in rw e (sym (ap (λ (n : ℕ). 2 ^ n) f ∙ pow-add 2 (l - 6) 6))
 
 abbrev make : ℕ → ℕ → Counts
 make a b = record { additions = a; comparisons = b }
@@ -146,3 +151,16 @@ module _ (M : List ℤ) (from to : ℕ) (D : List ℕ) (c : Section) (y : ℤ) (
           additions = omega (arith, b .part .additions, u .additions);
           comparisons = omega (arith, b .part .comparisons, u .comparisons);
         }
+
+    -- a section that has one decision word
+    module _ (l : c .live < 6) (n : ℕ) (e : n ≡ 2 ^ c .live) where
+      count-le : n ≤ 64
+      count-le = omega (arith, pow-mono {i = c .live} {j = 6} (omega arith))
+
+      pub one-word-fits : (w : ℕ) → Pattern (c .column) w → BlockFits M from to c y w 0 n k
+      one-word-fits w p = block-fits 0 M D k upto-none w n p count-le (omega arith)
+
+      pub one-word : (M₁ : List ℤ) (D₁ : List ℕ) (k₁ : Counts) → Block M from to D c y 0 n k M₁ D₁ k₁ → Stepped M from to D c y k M₁ D₁ k₁
+      one-word M₁ D₁ k₁ b =
+          let f : 0 * 64 + n ≡ 2 ^ c .live = omega arith in
+          upto-all M₁ D₁ k₁ (rw f at (upto-more 0 M D k upto-none n count-le (omega arith) M₁ D₁ k₁ b))

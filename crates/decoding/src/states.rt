@@ -54,7 +54,16 @@ fn wide(digit: u32) -> u64
 }
 
 // A state that one branch leaves.
-fn one(metrics: &mut [i32], from: usize, to: usize, section: Section, gain: i32, parity: u64, state: usize, counts: Counts) -> Run
+fn one(
+    metrics: &mut [i32],
+    from: usize,
+    to: usize,
+    section: Section,
+    gain: i32,
+    parity: u64,
+    state: usize,
+    counts: Counts,
+) -> Run
     requires { ⌜ (section .begins ≡ false) × StateFits (now metrics) from to section gain parity state counts ⌝ }
     ensures { λ r. ⌜ Part (now (metrics .entry)) from to section gain state 1 counts (now (metrics .exit)) r ⌝ }
 {
@@ -72,7 +81,16 @@ fn one(metrics: &mut [i32], from: usize, to: usize, section: Section, gain: i32,
 }
 
 // A state that two branches leave, with different bits.
-fn two(metrics: &mut [i32], from: usize, to: usize, section: Section, gain: i32, parity: u64, state: usize, counts: Counts) -> Run
+fn two(
+    metrics: &mut [i32],
+    from: usize,
+    to: usize,
+    section: Section,
+    gain: i32,
+    parity: u64,
+    state: usize,
+    counts: Counts,
+) -> Run
     requires { ⌜ (section .begins ≡ true) × StateFits (now metrics) from to section gain parity state counts ⌝ }
     ensures { λ r. ⌜ Part (now (metrics .entry)) from to section gain state 1 counts (now (metrics .exit)) r ⌝ }
 {
@@ -93,7 +111,16 @@ fn two(metrics: &mut [i32], from: usize, to: usize, section: Section, gain: i32,
 }
 
 // One state: the branches that leave it.
-fn state(metrics: &mut [i32], from: usize, to: usize, section: Section, gain: i32, parity: u64, state: usize, counts: Counts) -> Run
+fn state(
+    metrics: &mut [i32],
+    from: usize,
+    to: usize,
+    section: Section,
+    gain: i32,
+    parity: u64,
+    state: usize,
+    counts: Counts,
+) -> Run
     requires { ⌜ StateFits (now metrics) from to section gain parity state counts ⌝ }
     ensures { λ r. ⌜ Part (now (metrics .entry)) from to section gain state 1 counts (now (metrics .exit)) r ⌝ }
 {
@@ -105,7 +132,17 @@ fn state(metrics: &mut [i32], from: usize, to: usize, section: Section, gain: i3
 }
 
 // A run of at most 64 states, from the top one down.
-pub fn states(metrics: &mut [i32], from: usize, to: usize, section: Section, gain: i32, pattern: u64, first: usize, count: usize, counts: Counts) -> Run
+pub fn states(
+    metrics: &mut [i32],
+    from: usize,
+    to: usize,
+    section: Section,
+    gain: i32,
+    pattern: u64,
+    first: usize,
+    count: usize,
+    counts: Counts,
+) -> Run
     requires { ⌜ RunFits (now metrics) from to section gain pattern first count counts ⌝ }
     ensures { λ r. ⌜ Part (now (metrics .entry)) from to section gain first count counts (now (metrics .exit)) r ⌝ }
 {
@@ -114,7 +151,16 @@ pub fn states(metrics: &mut [i32], from: usize, to: usize, section: Section, gai
     let mut i = count;
     while 0 < i {
         i -= 1;
-        let run = state(&mut *metrics, from, to, section, gain, (pattern >> i) % 2, first + i, raised);
+        let run = state(
+            &mut *metrics,
+            from,
+            to,
+            section,
+            gain,
+            (pattern >> i) % 2,
+            first + i,
+            raised,
+        );
         word = 2 * word + run.word;
         raised = run.counts;
     }

@@ -31,8 +31,12 @@ shr-state : tie.Need-shr-state Inv-loop μ-loop
 shr-state c = omega (arith, c .before .loop-test .taken, c .before .before .loop .inv .0, c .before .before .before .pre .word)
 
 add-state : tie.Need-add-state Inv-loop μ-loop
-add-state c = omega (arith, next-fits (c .before .before .before .args .metrics .now) (c .before .before .before .args .from) (c .before .before .before .args .to) (c .before .before .before .args .section) (toZ w32 (ofZ w32 (c .before .before .before .args .gain))) (c .before .before .before .args .pattern) (c .before .before .before .args .first) (c .before .before .before .args .count) (c .before .before .before .args .counts)
-    (rw (toZ-ofZ (c .before .before .before .fits .gain)) (c .before .before .before .pre)) (c .before .before .loop .i) (c .before .loop-test .taken) (c .before .before .loop .inv .0) (c .before .before .loop .metrics) (c .before .before .loop .word) (c .before .before .loop .raised) (c .before .before .loop .inv .1) .state, live-le (c .before .before .before .args .section) (c .before .before .before .pre .ready .section))
+add-state c = omega (
+  arith,
+  next-fits (c .before .before .before .args .metrics .now) (c .before .before .before .args .from) (c .before .before .before .args .to) (c .before .before .before .args .section) (toZ w32 (ofZ w32 (c .before .before .before .args .gain))) (c .before .before .before .args .pattern) (c .before .before .before .args .first) (c .before .before .before .args .count) (c .before .before .before .args .counts)
+      (rw (toZ-ofZ (c .before .before .before .fits .gain)) (c .before .before .before .pre)) (c .before .before .loop .i) (c .before .loop-test .taken) (c .before .before .loop .inv .0) (c .before .before .loop .metrics) (c .before .before .loop .word) (c .before .before .loop .raised) (c .before .before .loop .inv .1) .state,
+  live-le (c .before .before .before .args .section) (c .before .before .before .pre .ready .section),
+)
 
 state-requires : tie.Need-state-requires Inv-loop μ-loop
 state-requires c κs =
@@ -41,21 +45,30 @@ state-requires c κs =
 
 mul-word : tie.Need-mul-word Inv-loop μ-loop
 mul-word c =
-    omega (arith, word-room (c .before .before .before .before .before .args .metrics .now) (c .before .before .before .before .before .args .from) (c .before .before .before .before .before .args .to) (c .before .before .before .before .before .args .section) (toZ w32 (ofZ w32 (c .before .before .before .before .before .args .gain))) (c .before .before .before .before .before .args .pattern) (c .before .before .before .before .before .args .first) (c .before .before .before .before .before .args .count) (c .before .before .before .before .before .args .counts)
-    (rw (toZ-ofZ (c .before .before .before .before .before .fits .gain)) (c .before .before .before .before .before .pre)) (c .before .before .before .before .loop .i) (c .before .before .before .loop-test .taken) (c .before .before .before .before .loop .inv .0) (c .before .before .before .before .loop .metrics) (c .before .before .before .before .loop .word) (c .before .before .before .before .loop .raised) (c .before .before .before .before .loop .inv .1))
+    omega (
+      arith,
+      word-room (c .before .before .before .before .before .args .metrics .now) (c .before .before .before .before .before .args .from) (c .before .before .before .before .before .args .to) (c .before .before .before .before .before .args .section) (toZ w32 (ofZ w32 (c .before .before .before .before .before .args .gain))) (c .before .before .before .before .before .args .pattern) (c .before .before .before .before .before .args .first) (c .before .before .before .before .before .args .count) (c .before .before .before .before .before .args .counts)
+          (rw (toZ-ofZ (c .before .before .before .before .before .fits .gain)) (c .before .before .before .before .before .pre)) (c .before .before .before .before .loop .i) (c .before .before .before .loop-test .taken) (c .before .before .before .before .loop .inv .0) (c .before .before .before .before .loop .metrics) (c .before .before .before .before .loop .word) (c .before .before .before .before .loop .raised) (c .before .before .before .before .loop .inv .1),
+    )
 
 add-word : tie.Need-add-word Inv-loop μ-loop
 add-word c =
-    omega (arith, c .before .before .state .ensures .short, word-room (c .before .before .before .before .before .before .args .metrics .now) (c .before .before .before .before .before .before .args .from) (c .before .before .before .before .before .before .args .to) (c .before .before .before .before .before .before .args .section) (toZ w32 (ofZ w32 (c .before .before .before .before .before .before .args .gain))) (c .before .before .before .before .before .before .args .pattern) (c .before .before .before .before .before .before .args .first) (c .before .before .before .before .before .before .args .count) (c .before .before .before .before .before .before .args .counts)
-    (rw (toZ-ofZ (c .before .before .before .before .before .before .fits .gain)) (c .before .before .before .before .before .before .pre)) (c .before .before .before .before .before .loop .i) (c .before .before .before .before .loop-test .taken) (c .before .before .before .before .before .loop .inv .0) (c .before .before .before .before .before .loop .metrics) (c .before .before .before .before .before .loop .word) (c .before .before .before .before .before .loop .raised) (c .before .before .before .before .before .loop .inv .1))
+    omega (
+      arith,
+      c .before .before .state .ensures .short,
+      word-room (c .before .before .before .before .before .before .args .metrics .now) (c .before .before .before .before .before .before .args .from) (c .before .before .before .before .before .before .args .to) (c .before .before .before .before .before .before .args .section) (toZ w32 (ofZ w32 (c .before .before .before .before .before .before .args .gain))) (c .before .before .before .before .before .before .args .pattern) (c .before .before .before .before .before .before .args .first) (c .before .before .before .before .before .before .args .count) (c .before .before .before .before .before .before .args .counts)
+          (rw (toZ-ofZ (c .before .before .before .before .before .before .fits .gain)) (c .before .before .before .before .before .before .pre)) (c .before .before .before .before .before .loop .i) (c .before .before .before .before .loop-test .taken) (c .before .before .before .before .before .loop .inv .0) (c .before .before .before .before .before .loop .metrics) (c .before .before .before .before .before .loop .word) (c .before .before .before .before .before .loop .raised) (c .before .before .before .before .before .loop .inv .1),
+    )
 
 loop-less : tie.Need-loop-less Inv-loop μ-loop
 loop-less c = search needs
 
 loop-again : tie.Need-loop-again Inv-loop μ-loop
-loop-again c =
-    (omega (arith, c .before .before .before .before .before .before .loop .inv .0), next (c .before .before .before .before .before .before .before .args .metrics .now) (c .before .before .before .before .before .before .before .args .from) (c .before .before .before .before .before .before .before .args .to) (c .before .before .before .before .before .before .before .args .section) (toZ w32 (ofZ w32 (c .before .before .before .before .before .before .before .args .gain))) (c .before .before .before .before .before .before .before .args .pattern) (c .before .before .before .before .before .before .before .args .first) (c .before .before .before .before .before .before .before .args .count) (c .before .before .before .before .before .before .before .args .counts)
-    (rw (toZ-ofZ (c .before .before .before .before .before .before .before .fits .gain)) (c .before .before .before .before .before .before .before .pre)) (c .before .before .before .before .before .before .loop .i) (c .before .before .before .before .before .loop-test .taken) (c .before .before .before .before .before .before .loop .inv .0) (c .before .before .before .before .before .before .loop .metrics) (c .before .before .before .before .before .before .loop .word) (c .before .before .before .before .before .before .loop .raised) (c .before .before .before .before .before .before .loop .inv .1) _ _ (c .before .before .before .state .ensures))
+loop-again c = (
+  omega (arith, c .before .before .before .before .before .before .loop .inv .0),
+  next (c .before .before .before .before .before .before .before .args .metrics .now) (c .before .before .before .before .before .before .before .args .from) (c .before .before .before .before .before .before .before .args .to) (c .before .before .before .before .before .before .before .args .section) (toZ w32 (ofZ w32 (c .before .before .before .before .before .before .before .args .gain))) (c .before .before .before .before .before .before .before .args .pattern) (c .before .before .before .before .before .before .before .args .first) (c .before .before .before .before .before .before .before .args .count) (c .before .before .before .before .before .before .before .args .counts)
+      (rw (toZ-ofZ (c .before .before .before .before .before .before .before .fits .gain)) (c .before .before .before .before .before .before .before .pre)) (c .before .before .before .before .before .before .loop .i) (c .before .before .before .before .before .loop-test .taken) (c .before .before .before .before .before .before .loop .inv .0) (c .before .before .before .before .before .before .loop .metrics) (c .before .before .before .before .before .before .loop .word) (c .before .before .before .before .before .before .loop .raised) (c .before .before .before .before .before .before .loop .inv .1) _ _ (c .before .before .before .state .ensures),
+)
 
 same-length : tie.Need-same-length Inv-loop μ-loop
 same-length c = c .before .loop .inv .1 .size
