@@ -51,6 +51,7 @@ count-one (suc k) P (suc j) l t h =
     go true n e = absurd (omega (arith, n tt))
     go false n e = e
 
+-- none is at t, or one
 pub here-none : (k : ℕ) (f : ℕ → ℕ) (t : ℕ) → ((j : ℕ) → j < k → f j ≡ t → ⊥) → here k f t ≡ 0
 here-none k f t h = count-none k (λ j. eqb (f j) t) (λ j l q. h j l (eqb→eq (f j) t q))
 
@@ -109,17 +110,22 @@ module _ (plate : Plate) (s : Sound plate) where
       → liveAt (rowsOf plate) t + before (length (rowsOf plate)) (lasts (rowsOf plate)) t ≡ before (length (rowsOf plate)) (firsts (rowsOf plate)) t
   profile-before = live-before (length (rowsOf plate)) (firsts (rowsOf plate)) (lasts (rowsOf plate)) le
 
+  -- from depth to depth it gains 1 where a row begins, and loses 1 where one ends
   pub profile-suc : (t : ℕ) → liveAt (rowsOf plate) (suc t) + here (length (rowsOf plate)) (lasts (rowsOf plate)) t
       ≡ liveAt (rowsOf plate) t + here (length (rowsOf plate)) (firsts (rowsOf plate)) t
   profile-suc = live-suc (length (rowsOf plate)) (firsts (rowsOf plate)) (lasts (rowsOf plate)) le
 
+  -- it begins and ends with 0
   pub profile-start : liveAt (rowsOf plate) 0 ≡ 0
   profile-start = live-start (length (rowsOf plate)) (firsts (rowsOf plate)) (lasts (rowsOf plate)) le
 
   pub profile-end : liveAt (rowsOf plate) (plate .n) ≡ 0
-  profile-end = live-end (length (rowsOf plate)) (firsts (rowsOf plate)) (lasts (rowsOf plate)) le (plate .n) (λ j h. one-before (plate .n) (getD (rowsOf plate) j 0) (lasts (rowsOf plate) j) (below j h) (s .reduced .spans .last j h .one))
+  profile-end = live-end (length (rowsOf plate)) (firsts (rowsOf plate)) (lasts (rowsOf plate)) le (plate .n) ends
     where
       below : (j : ℕ) → j < length (rowsOf plate) → getD (rowsOf plate) j 0 < 2 ^ plate .n
       below j h =
           let l : j < plate .k = omega (arith, used-rows plate (s .few) (s .table)) in
           subst (λ (x : ℕ). x < 2 ^ plate .n) (sym (used-row plate j l)) (s .below j l)
+
+      ends : (j : ℕ) → j < length (rowsOf plate) → lasts (rowsOf plate) j < plate .n
+      ends j h = one-before (plate .n) (getD (rowsOf plate) j 0) (lasts (rowsOf plate) j) (below j h) (s .reduced .spans .last j h .one)

@@ -1,4 +1,5 @@
 -- The profile held against a running number of live rows: equal at each depth exactly if it is the profile of the rows.
+use borrow.Author.Count.{below-more}
 use borrow.Author.Tests.{le-ltb, lt-ltb}
 use lib.Dec.{eqb}
 use lib.ListN.{getD, length}
@@ -11,7 +12,6 @@ use Prim.Native.Nat.{_+_, _-_, _<_, zero-le, ℕ, _≤_}
 use Rattle.plates.proofs.Deciding.{alike, equal}
 use Rattle.plates.proofs.HeadsClear.{last-below}
 use Rattle.plates.proofs.ProfileSteps.{here-none, here-one, live-end, live-start, live-suc, span-le}
-use Rattle.plates.proofs.RowsPlaced.{one-more}
 use Rattle.plates.specs.Counts.{here}
 use Rattle.plates.specs.Profile.{live, liveAt}
 use Rattle.plates.specs.Tested.{ByLast, Decides, HeadsOf, Profiled, Standing, endingAt}
@@ -68,8 +68,8 @@ module _ (n : ℕ) (rows : List ℕ) (s : Standing n rows) where
     pub profiled-more : (getD profile t 0 ≡ live) × (live ≤ 12) → ProfiledTo n rows profile (t + 1) (live + bit heads t - endingAt table t)
     profiled-more e = record {
       within = omega arith;
-      entry = one-more (λ u. getD profile u 0 ≡ liveAt rows u) t (p .entry) (e .0 ∙ p .live-is);
-      narrow = one-more (λ u. liveAt rows u ≤ 12) t (p .narrow) (omega (arith, e .1, p .live-is));
+      entry = below-more (λ u. getD profile u 0 ≡ liveAt rows u) t (p .entry) (e .0 ∙ p .live-is);
+      narrow = below-more (λ u. liveAt rows u ≤ 12) t (p .narrow) (omega (arith, e .1, p .live-is));
       live-is = omega (arith, next-live);
     }
 
@@ -80,8 +80,8 @@ module _ (n : ℕ) (rows : List ℕ) (s : Standing n rows) where
   pub profiled-all : (profile : List ℕ) (t live : ℕ) → n ≤ t → ProfiledTo n rows profile t live → Decides (Profiled n rows profile) (eqb (getD profile n 0) 0)
   profiled-all profile t live h p = alike
       (λ e. record {
-        entry = λ u k. one-more (λ x. getD profile x 0 ≡ liveAt rows x) n (λ x j. p .entry x (omega arith)) (e ∙ sym none) u (omega arith);
-        narrow = λ u k. one-more (λ x. liveAt rows x ≤ 12) n (λ x j. p .narrow x (omega arith)) (omega (arith, none)) u (omega arith);
+        entry = λ u k. below-more (λ x. getD profile x 0 ≡ liveAt rows x) n (λ x j. p .entry x (omega arith)) (e ∙ sym none) u (omega arith);
+        narrow = λ u k. below-more (λ x. liveAt rows x ≤ 12) n (λ x j. p .narrow x (omega arith)) (omega (arith, none)) u (omega arith);
       })
       (λ g. g .entry n (omega arith) ∙ none) (equal (getD profile n 0) 0)
     where

@@ -1,4 +1,5 @@
 -- Rows taken one after the other and placed in a table by their last ones: each may follow exactly if all of them stand as a plate's rows do.
+use borrow.Author.Count.{below-more}
 use lib.ListN.{getD, getD-replicate, length, length-replicate, length-set, replicate, set}
 use lib.Pow.{pow-mono}
 use lib.Seq.{getD-set-other, getD-set-same}
@@ -10,12 +11,13 @@ use native.Mathlib.Decide.{decLt, ℕ-discrete}
 use native.Mathlib.Omega.{arith}
 use Prim.Native.Nat.{_+_, _<_, _^_, suc, suc-le-suc, zero, zero-le, ℕ, _≤_}
 use Rattle.plates.proofs.Deciding.{fails, holds}
-use Rattle.plates.specs.Tested.{ByLast, MayFollow, Placed, RowEnding, Standing}
+use Rattle.plates.specs.Tested.{ByLast, MayFollow, Placed, RowEnding, Standing, no-row, row-at}
 use Rattle.words.proofs.Ends.{first-is, first-one-is, last-is, last-one-is, one-before, some-pos}
 use Rattle.words.proofs.Span.{zero-one}
 use Rattle.words.proofs.Word.{below-bits, bits-below}
 use Rattle.words.specs.Ends.{FirstOne, LastOne, firsts, last, lasts}
 
+-- a last one is a position of a word
 last-lt : (w : ℕ) → last w < 64
 unfolding last
 last-lt w = omega arith
@@ -23,21 +25,26 @@ last-lt w = omega arith
 -- ---- may a row follow
 
 module _ (n from : ℕ) (table : List ℕ) (row : ℕ) (short : n ≤ 64) (fits : row < 2 ^ 64) where
+  -- it may not where it has no one, or ends at n or beyond
   pub ends-late : {r : ℕ} → LastOne row r → n ≤ r → MayFollow n from table row → ⊥
   ends-late {r} g h m = zero-one (bits-below n row (m .below) r h) (g .some (m .some) .one)
 
+  -- or begins too soon
   pub begins-soon : {r : ℕ} → FirstOne row r → r < from → MayFollow n from table row → ⊥
   begins-soon g h m = omega (arith, m .begins, first-one-is (m .some) fits g)
 
+  -- the ends of a row that may follow are positions of a word
   pub last-inside : {r : ℕ} → LastOne row r → MayFollow n from table row → r < 64
   last-inside {r} g m = one-before 64 row r fits (g .some (m .some) .one)
 
   pub first-inside : {r : ℕ} → FirstOne row r → MayFollow n from table row → r < 64
   first-inside {r} g m = one-before 64 row r fits (g .some (m .some) .one)
 
+  -- or ends where another row does
   pub ends-together : {r : ℕ} → LastOne row r → getD table r 0 < 64 → MayFollow n from table row → ⊥
   ends-together g h m = omega (arith, h, m .free, ap (λ (x : ℕ). getD table x 0) (last-one-is (m .some) fits g))
 
+  -- it may in all other cases
   pub follows : {r s : ℕ} → LastOne row r → r < n → FirstOne row s → from ≤ s → 64 ≤ getD table r 0 → MayFollow n from table row
   follows {r} {s} g h k b e = record {
     some = some;
@@ -83,19 +90,12 @@ seen-none n b = record {
   by-last = b;
 }
 
--- what holds of all below i, and of i, holds of all below i + 1
-pub one-more : (P : ℕ → Type 0) (i : ℕ) → ((j : ℕ) → j < i → P j) → P i → (j : ℕ) → j < i + 1 → P j
-one-more P i h p j l = go (decLt j i)
-  where
-    go : Dec (j < i) → P j
-    go (yes b) = h j b
-    go (no b) = subst P (omega arith) p
-
+-- row i is the next
 module _ (n : ℕ) (rows : List ℕ) (i from : ℕ) (table : List ℕ) (few : length rows ≤ 64) (s : Seen n rows i from table) (l : i < length rows) where
   placed-by-last : MayFollow n from table (getD rows i 0) → ByLast rows (i + 1) (set table (lasts rows i) i)
   placed-by-last m = record {
     size = length-set table (lasts rows i) i ∙ s .by-last .size;
-    row = one-more (λ j. getD (set table (lasts rows i) i) (lasts rows j) 0 ≡ j) i earlier here;
+    row = below-more (λ j. getD (set table (lasts rows i) i) (lasts rows j) 0 ≡ j) i earlier here;
     other = λ p h. at p h (ℕ-discrete p (lasts rows i));
   }
     where
@@ -117,13 +117,14 @@ module _ (n : ℕ) (rows : List ℕ) (i from : ℕ) (table : List ℕ) (few : le
           let v : getD (set table (lasts rows i) i) p 0 ≡ getD table p 0 = getD-set-other table (lasts rows i) p i 0 d in
           ⊎-elim (λ e. inl (v ∙ e)) (λ q. inr (omega (arith, q .0), ap (lasts rows) v ∙ q .1)) (s .by-last .other p h)
 
+  -- where it may follow, it is placed too
   pub seen-more : MayFollow n from table (getD rows i 0) → Seen n rows (i + 1) (firsts rows i + 1) (set table (lasts rows i) i)
   seen-more m = record {
     within = omega arith;
-    some = one-more (λ j. 0 < getD rows j 0) i (s .some) (m .some);
-    below = one-more (λ j. getD rows j 0 < 2 ^ n) i (s .below) (m .below);
-    rising = λ a b g h. one-more (λ x. a < x → firsts rows a < firsts rows x) i (λ x y z. s .rising a x z y) (λ z. omega (arith, s .beyond a z, m .begins)) b h g;
-    beyond = one-more (λ j. firsts rows j < firsts rows i + 1) i (λ j h. omega (arith, s .beyond j h, m .begins)) (omega arith);
+    some = below-more (λ j. 0 < getD rows j 0) i (s .some) (m .some);
+    below = below-more (λ j. getD rows j 0 < 2 ^ n) i (s .below) (m .below);
+    rising = λ a b g h. below-more (λ x. a < x → firsts rows a < firsts rows x) i (λ x y z. s .rising a x z y) (λ z. omega (arith, s .beyond a z, m .begins)) b h g;
+    beyond = below-more (λ j. firsts rows j < firsts rows i + 1) i (λ j h. omega (arith, s .beyond j h, m .begins)) (omega arith);
     tight = λ p h. (i, omega arith, omega arith);
     by-last = placed-by-last m;
   }
@@ -142,9 +143,13 @@ module _ (n : ℕ) (rows : List ℕ) (i from : ℕ) (table : List ℕ) (few : le
     some = some-pos (getD rows i 0) (firsts rows i) (g .spans .first i l .one);
     below = g .below i l;
     begins = after (decLt (firsts rows i) from);
-    free = ⊎-elim (λ e. omega (arith, e)) (λ q. absurd (omega (arith, q .0, g .spans .apart (getD table (lasts rows i) 0) i (omega (arith, q .0)) l (q .1)))) (s .by-last .other (lasts rows i) (last-lt (getD rows i 0)));
+    free = ⊎-elim (λ e. omega (arith, e)) (λ q. absurd (ends-there (q .0) (q .1))) (s .by-last .other (lasts rows i) (last-lt (getD rows i 0)));
   }
     where
+      -- an earlier row with the same last one
+      ends-there : {j : ℕ} → j < i → lasts rows j ≡ lasts rows i → ⊥
+      ends-there {j} h e = omega (arith, g .spans .apart j i (omega arith) l e)
+
       after : Dec (firsts rows i < from) → from ≤ firsts rows i
       after (no b) = omega arith
       after (yes b) = let t = s .tight (firsts rows i) b in absurd (omega (arith, t .2, g .spans .rising (t .0) i (t .1) l))
@@ -182,7 +187,7 @@ module _ (rows table : List ℕ) (t : ℕ) (few : length rows ≤ 64) (b : ByLas
   entry-le = ⊎-elim (λ e. omega arith) (λ q. omega (arith, q .0)) (b .other t h)
 
   pub some-ending : getD table t 0 < length rows → RowEnding rows t (getD rows (getD table t 0) 0)
-  some-ending l = record { is = inr (getD table t 0, l, ⊎-elim (λ e. absurd (omega arith)) (λ q. q .1) (b .other t h), refl) }
+  some-ending l = row-at (getD table t 0) l (⊎-elim (λ e. absurd (omega arith)) (λ q. q .1) (b .other t h))
 
   pub none-ending : length rows ≤ getD table t 0 → RowEnding rows t 0
-  none-ending l = record { is = inl ((λ j m e. omega (arith, sym (b .row j m) ∙ ap (λ (x : ℕ). getD table x 0) e)), refl) }
+  none-ending l = no-row (λ j m e. omega (arith, sym (b .row j m) ∙ ap (λ (x : ℕ). getD table x 0) e))

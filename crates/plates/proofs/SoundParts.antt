@@ -11,9 +11,11 @@ use Rattle.plates.specs.Sound.{Sound}
 use Rattle.plates.specs.Tested.{Standing, UsedSound, ZeroFrom}
 
 module _ (n k : ℕ) (rows profile : List ℕ) (table : length rows ≡ 64) (entries : length profile ≡ 65) where
+  -- the plate of these parts
   abbrev whole : Plate
   whole = record { n = n; k = k; rows = rows; profile = profile }
 
+  -- the parts make it sound
   pub sound-parts : 1 ≤ n → n ≤ 64 → k ≤ 64 → UsedSound n (take k rows) profile → ZeroFrom k rows → ZeroFrom (n + 1) profile → Sound (record { n = n; k = k; rows = rows; profile = profile })
   sound-parts positive short few u r e = record {
     positive = positive;
@@ -29,6 +31,7 @@ module _ (n k : ℕ) (rows profile : List ℕ) (table : length rows ≡ 64) (ent
     narrow = u .profiled .narrow;
   }
 
+  -- a sound plate has them all
   module _ (s : Sound (record { n = n; k = k; rows = rows; profile = profile })) where
     pub used-part : UsedSound n (take k rows) profile
     used-part = record {
@@ -45,8 +48,8 @@ module _ (n k : ℕ) (rows profile : List ℕ) (table : length rows ≡ 64) (ent
         standing : Standing n (take k rows)
         standing = record { spans = s .reduced .spans; below = below }
 
-    pub rows-part : ZeroFrom k rows
-    rows-part = record { zeros = s .unused-rows }
+    pub rows-part : (from : ℕ) → k ≤ from → ZeroFrom from rows
+    rows-part from h = record { zeros = λ j l. s .unused-rows j (omega arith) }
 
     pub entries-part : ZeroFrom (n + 1) profile
     entries-part = record { zeros = λ t h. s .unused-entries t (omega arith) }

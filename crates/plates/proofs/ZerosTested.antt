@@ -1,4 +1,5 @@
 -- A list read from a place on until something but 0 is found.
+use borrow.Author.Count.{below-more}
 use lib.ListN.{List·getD-eq-default, getD, length}
 use mathlib.Core.List.{List}
 use mathlib.Core.Path.{_≡_}
@@ -6,7 +7,6 @@ use native.Mathlib.Decide.{decLt}
 use native.Mathlib.Nat.{le-refl}
 use native.Mathlib.Omega.{arith}
 use Prim.Native.Nat.{_+_, _<_, ℕ, _≤_}
-use Rattle.plates.proofs.RowsPlaced.{one-more}
 use Rattle.plates.specs.Tested.{ZeroFrom}
 
 -- the places from `from` to i - 1 are 0
@@ -19,7 +19,7 @@ zero-none from list = record { begun = le-refl from; zeros = λ j h l. absurd (o
 
 module _ (from i : ℕ) (list : List ℕ) (z : ZeroTo from i list) where
   pub zero-more : getD list i 0 ≡ 0 → ZeroTo from (i + 1) list
-  zero-more e = record { begun = omega arith; zeros = λ j h l. one-more (λ x. from ≤ x → getD list x 0 ≡ 0) i (λ x m k. z .zeros x k m) (λ k. e) j l h }
+  zero-more e = record { begun = omega arith; zeros = λ j h l. below-more (λ x. from ≤ x → getD list x 0 ≡ 0) i (λ x m k. z .zeros x k m) (λ k. e) j l h }
 
   pub zero-stop : (getD list i 0 ≡ 0 → ⊥) → ZeroFrom from list → ⊥
   zero-stop n g = n (g .zeros i (z .begun))

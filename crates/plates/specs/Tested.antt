@@ -43,8 +43,9 @@ pub record Placed (n : ℕ) (rows table : List ℕ) (r : Bool) : Type 0 where
   pub by-last : r ≡ true → ByLast rows (length rows) table
 
 -- r is the row that ends at t, and 0 where none does
-pub record RowEnding (rows : List ℕ) (t r : ℕ) : Type 0 where
-  pub is : (((j : ℕ) → j < length rows → lasts rows j ≡ t → ⊥) × (r ≡ 0)) ⊎ ((j : ℕ) × (j < length rows) × (lasts rows j ≡ t) × (r ≡ getD rows j 0))
+pub data RowEnding (rows : List ℕ) (t : ℕ) : ℕ → Type 0 where
+  no-row : ((j : ℕ) → j < length rows → lasts rows j ≡ t → ⊥) → RowEnding rows t 0
+  row-at : (j : ℕ) → j < length rows → lasts rows j ≡ t → RowEnding rows t (getD rows j 0)
 
 -- the word has its ones at the heads of the rows that Q holds of
 pub record HeadsOf (rows : List ℕ) (Q : ℕ → Type 0) (word : ℕ) : Type 0 where

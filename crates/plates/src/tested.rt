@@ -1,8 +1,7 @@
 // The test that a plate is prepared: its rows, taken by their last ones, its profile depth by depth, and its unused places.
 ghost use mathlib.Core.Path.{_≡_};
-ghost use mathlib.Core.Bool.{true};
-ghost use Prim.Native.Nat.{ℕ, _≤_, _<_};
-ghost use lib.ListN.{length, getD};
+ghost use Prim.Native.Nat.{_≤_, _<_};
+ghost use lib.ListN.{length};
 ghost use Rattle.words.specs.Ends.{firsts, lasts};
 ghost use Rattle.words.specs.Span.{Spans};
 ghost use Rattle.plates.specs.Sound.{Sound};

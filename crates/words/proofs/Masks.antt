@@ -2,7 +2,7 @@
 use lib.Arith.{digits-div, digits-mod}
 use lib.Bits.{bitAnd, bitOr, or-step}
 use mathlib.Core.Logic.{inl, inr, _⊎_}
-use mathlib.Core.Path.{ap, sym, _∙_, _≡_}
+use mathlib.Core.Path.{ap, _∙_, _≡_}
 use native.Mathlib.Omega.{arith}
 use Prim.Native.Nat.{_%_, _/_, max, min, suc, zero, ℕ}
 use Rattle.words.proofs.Parity.{and-half, and-odd}

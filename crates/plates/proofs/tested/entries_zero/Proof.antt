@@ -1,6 +1,5 @@
 -- `plates::tested::entries_zero` meets its contract. The loop's invariant: the entries passed are zero.
 use borrow.Author.Needs.{needs}
-use lib.ListN.{length}
 use native.Mathlib.Omega.{arith}
 use Prim.Native.Nat.{_-_}
 use Rattle.plates.proofs.Deciding.{fails, holds}

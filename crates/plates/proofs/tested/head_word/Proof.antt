@@ -1,7 +1,7 @@
 -- `plates::tested::head_word` meets its contract: 1 moved up to the first one is the power of 2 there.
 use borrow.Author.Needs.{needs}
 use lib.Pow.{shl-exact}
-use mathlib.Core.Path.{_∙_, _≡_, ap, refl}
+use mathlib.Core.Path.{_∙_, ap, refl}
 use native.Mathlib.Nat.{one-mul}
 use native.Mathlib.Omega.{arith}
 use Prim.Native.Nat.{_<_, _^_, ℕ}

@@ -22,7 +22,7 @@ row-ending-requires c κs = let p = c .before .before .before .pre in (omega (ar
 returns : tie.Need-returns Inv-loop μ-loop
 returns c =
     let h = c .before .before .before in
-    fails (cleared-stop _ (h .before .before .pre .1 .1 .0 .spans) _ _ _ (h .loop .inv) (c .before .row-ending .ensures) (c .if1 .taken))
+    fails (cleared-stop _ (h .before .before .pre .1 .1 .0 .spans) _ _ (h .loop .inv) (c .before .row-ending .ensures) (c .if1 .taken))
 
 head-word-requires : tie.Need-head-word-requires Inv-loop μ-loop
 head-word-requires c κs = search needs
@@ -36,7 +36,7 @@ loop-less c = search needs
 loop-again : tie.Need-loop-again Inv-loop μ-loop
 loop-again c =
     let h = c .before .before .before .before in
-    cleared-more _ (h .before .before .pre .1 .1 .0 .spans) _ _ _ (h .loop .inv) (c .before .before .row-ending .ensures) (c .before .if1 .left) (c .head-word .ensures)
+    cleared-more _ (h .before .before .pre .1 .1 .0 .spans) _ _ (h .loop .inv) (c .before .before .row-ending .ensures) (c .before .if1 .left) (c .head-word .ensures)
 
 returns-2 : tie.Need-returns-2 Inv-loop μ-loop
 returns-2 c = holds (cleared-all _ _ (c .before .before .before .pre .1 .1 .0) _ _ (c .loop-test .left) (c .before .loop .inv))

@@ -24,13 +24,13 @@ element-copy-out-if3 c = search needs
 returns-3 : tie.Need-returns-3
 returns-3 c =
     let b = c .before .before .before .before .before .before in
-    fails (ends-together _ _ _ _ (b .pre) (b .fits .row .fits) (c .before .before .before .before .before .last-one .ensures) (c .if3 .taken))
+    fails (ends-together _ _ _ _ (b .pre) (b .fits .row .fits) (c .before .before .before .before .before .last-one .ensures) (omega (arith, c .if3 .taken)))
 
 returns-4 : tie.Need-returns-4
 returns-4 c =
     let b = c .before .before .before .before .before .before in
     holds (follows _ _ _ _ (b .pre) (b .fits .row .fits) (c .before .before .before .before .before .last-one .ensures) (c .before .before .before .before .if1 .left)
-    (c .before .before .before .first-one .ensures) (c .before .before .if2 .left) (c .if3 .left))
+    (c .before .before .before .first-one .ensures) (c .before .before .if2 .left) (omega (arith, c .if3 .left)))
 
 pub may-follow-spec : {M : Type 1} → statement M
 may-follow-spec =

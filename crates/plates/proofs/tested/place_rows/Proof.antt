@@ -53,7 +53,8 @@ element-write-by-last c =
 add-from : tie.Need-add-from Inv-loop μ-loop
 add-from c =
     let b = c .before .before .before in
-    record { fits = omega (arith, first-inside _ _ _ _ (b .before .before .before .before .before .before .pre .0) (word c) (c .first-one .ensures) (held (b .may-follow .ensures) (c .before .before .if1 .left))) }
+    let m = held (b .may-follow .ensures) (c .before .before .if1 .left) in
+    record { fits = omega (arith, first-inside _ _ _ _ (b .before .before .before .before .before .before .pre .0) (word c) (c .first-one .ensures) m) }
 
 add-i : tie.Need-add-i Inv-loop μ-loop
 add-i c = search needs

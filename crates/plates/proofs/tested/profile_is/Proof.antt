@@ -1,7 +1,7 @@
 -- `plates::tested::profile_is` meets its contract. The loop's invariant: the entries before t are the rows' own, and `live` rows are live at t.
 use borrow.Author.Needs.{needs}
 use native.Mathlib.Omega.{arith}
-use Prim.Native.Nat.{_-_, _<_}
+use Prim.Native.Nat.{_-_}
 use Rattle.plates.proofs.Deciding.{failed, fails, held}
 use Rattle.plates.proofs.ProfileTested.{ProfiledTo, next-live, profiled-all, profiled-more, profiled-none, profiled-stop}
 use Rattle.words.proofs.Word.{bit-lt}

@@ -22,7 +22,9 @@ slice-aggregate-used-sound : tie.Need-slice-aggregate-used-sound
 slice-aggregate-used-sound c = sym (length-take-le _ _ (omega (arith, c .before .before .before .before .before .pre .0, c .before .if3 .left)))
 
 used-sound-requires : tie.Need-used-sound-requires
-used-sound-requires c κs = (c .before .before .if2 .left, omega (arith, length-take (c .before .before .before .before .before .args .k) (c .before .before .before .before .before .args .rows .now), c .before .if3 .left))
+used-sound-requires c κs =
+    let a = c .before .before .before .before .before .args in
+    (c .before .before .if2 .left, omega (arith, length-take (a .k) (a .rows .now), c .before .if3 .left))
 
 returns-4 : tie.Need-returns-4
 returns-4 c =
@@ -35,7 +37,7 @@ rows-zero-requires c κs = search needs
 returns-5 : tie.Need-returns-5
 returns-5 c =
     let p = c .before .before .before .before .before .before .before .before .before .pre in
-    fails (λ s. failed (c .before .rows-zero .ensures) (c .if5 .taken) (rows-part _ _ _ _ (p .0) (p .1) s))
+    fails (λ s. failed (c .before .rows-zero .ensures) (c .if5 .taken) (rows-part _ _ _ _ (p .0) (p .1) s _ (omega (arith, c .before .before .before .before .before .if3 .left))))
 
 add-entries-zero : tie.Need-add-entries-zero
 add-entries-zero c = search needs
