@@ -8,7 +8,7 @@ use mathlib.Core.Path.{ap, subst, sym, _∙_, _≡_}
 use native.Mathlib.Omega.{arith}
 use Prim.Native.Nat.{ℕ}
 use Rattle.decoding.proofs.BestWay.{Way, attains, none-beats}
-use Rattle.decoding.proofs.Integers.{<ℤ-≤ℤ}
+use Rattle.decoding.proofs.IntegerOrder.{<ℤ-≤ℤ}
 use Rattle.decoding.proofs.PlateWays.{codeword-way, plate-chain, start-state, way-codeword}
 use Rattle.decoding.proofs.StateChoice.{Under}
 use Rattle.decoding.specs.Backward.{best, counted, word}

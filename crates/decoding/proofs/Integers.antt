@@ -32,7 +32,7 @@ abs-neg (pos zero) = refl
 abs-neg (pos (suc a)) = refl
 abs-neg (negsuc a) = refl
 
-mag-abs : (a : ℤ) → mag a ≤ natAbs a
+pub mag-abs : (a : ℤ) → mag a ≤ natAbs a
 mag-abs (pos a) = omega arith
 mag-abs (negsuc a) = omega arith
 

@@ -1,4 +1,5 @@
 pub mod Integers
+pub mod IntegerOrder
 pub mod EarlierWords
 pub mod StateChoice
 pub mod Leaving
@@ -9,13 +10,13 @@ pub mod MetricBounds
 pub mod CountSteps
 pub mod SameChoice
 pub mod Parts
+pub mod LentParts
 pub mod SweepSection
 pub mod SweepEnds
 pub mod Preference
 pub mod Targets
 pub mod Branches
 pub mod Digits
-pub mod Parts
 pub mod Singles
 pub mod Runs
 pub mod Masks

@@ -8,8 +8,6 @@ use mir.Syntax.{w16, w32}
 use mir.Val.{SFits}
 use native.Mathlib.Nat.{mul-suc}
 use native.Mathlib.Omega.{arith}
-use mir.Syntax.{w16, w32}
-use mir.Val.{SFits}
 use Prim.Native.Nat.{_%_, _*_, _+_, _/_, _<_, _^_, suc, suc-le-suc, zero, zero-le, ℕ, _≤_}
 use Rattle.decoding.proofs.Integers.{abs-add, abs-neg, mag-abs}
 use Rattle.decoding.specs.Backward.{best}

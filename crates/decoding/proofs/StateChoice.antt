@@ -8,7 +8,7 @@ use mathlib.Core.Path.{ap, refl, subst, sym, _∙_, _≡_}
 use native.Mathlib.Omega.{arith}
 use Prim.Native.Nat.{_*_, _+_, _<_, suc, zero, ℕ}
 use Rattle.decoding.proofs.EarlierWords.{earlier-behind, earlier-here}
-use Rattle.decoding.proofs.Integers.{<ℤ-≤ℤ, add-lt, le-lt-or-eq}
+use Rattle.decoding.proofs.IntegerOrder.{<ℤ-≤ℤ, add-lt, le-lt-or-eq}
 use Rattle.decoding.specs.Taking.{preferred, signed}
 use Rattle.words.specs.Word.{Earlier}
 

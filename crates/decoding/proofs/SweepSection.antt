@@ -10,7 +10,7 @@ use native.Mathlib.Omega.{arith}
 use Prim.Native.Nat.{_%_, _*_, _+_, _-_, _/_, _<_, _^_, suc, ℕ, _≤_}
 use Rattle.decoding.proofs.CountSteps.{counted-small, counting-same}
 use Rattle.decoding.proofs.MetricBounds.{best-within}
-use Rattle.decoding.proofs.Parts.{back-behind, back-inside, back-length}
+use Rattle.decoding.proofs.LentParts.{back-behind, back-inside, back-length}
 use Rattle.decoding.proofs.SameChoice.{choice-same}
 use Rattle.decoding.specs.Backward.{best, counted, decided}
 use Rattle.decoding.specs.declared.Counts.{Counts}

@@ -1,12 +1,10 @@
 // Decoding: the codeword of greatest correlation with soft samples.
-mod choices;
-mod patterns;
-mod states;
-mod step;
-
 use plates::Refusal;
 
+mod choices;
 mod live;
+mod patterns;
+mod states;
 mod step;
 mod sweep;
 mod walk;
