@@ -10,9 +10,13 @@ use Rattle.decoding.specs.Taking.{atState, counting}
 use Rattle.trellises.specs.declared.Section.{Section}
 use Rattle.trellises.specs.Numbers.{bitOf, branchCount, leadsTo}
 
--- the state that the branch with bit b leads to, from state i
+-- the branch with bit b that leaves state i: the one that takes no beginning row, or the one that takes it
+abbrev pub branchBy : Section → ℕ → ℕ → ℕ
+branchBy c i b = cond (c .begins && not (eqb (bitOf c i) b)) (i + 2 ^ c .live) i
+
+-- the state that it leads to
 abbrev pub follow : Section → ℕ → ℕ → ℕ
-follow c i b = leadsTo c (cond (c .begins && not (eqb (bitOf c i) b)) (i + 2 ^ c .live) i)
+follow c i b = leadsTo c (branchBy c i b)
 
 -- the sections by depth, and the samples from depth t on
 module _ (sections : ℕ → Section) where

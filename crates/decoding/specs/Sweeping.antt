@@ -59,6 +59,17 @@ pub record Walked (rows : List ℕ) (samples : List ℤ) (t : ℕ) (w : Walk) : 
   pub live : w .live ≡ liveMarks rows t
   pub next : w .next ≡ begunBefore rows t
 
+-- what section t of the walk asks
+pub record BeforeWalk (table : List ℕ) (z : Sizes) (ends : List ℕ) (samples : List ℤ) (decisions : List ℕ) (t : ℕ) (w : Walk) : Type 0 where
+  pub fit : SizesFit table z
+  pub ends-are : EndsAre (take (z .k) table) ends
+  pub depth : t < z .n
+  pub size : length samples ≡ z .n
+  pub room : z .n * z .words ≤ length decisions
+  pub decision : (i : ℕ) → i < 2 ^ (sectionOf (take (z .k) table) t) .live
+      → bit (getD decisions (t * z .words + i / 64) 0) (i % 64) ≡ decided (sectionOf (take (z .k) table)) (getD samples t (pos 0)) (drop (suc t) samples) t i
+  pub walked : Walked (take (z .k) table) samples t w
+
 -- what section t of the sweep asks: the sweep has come to its far side
 pub record BeforeSection (table : List ℕ) (z : Sizes) (ends : List ℕ) (samples : List ℤ) (t : ℕ) (metrics : List ℤ) (decisions : List ℕ)
     (s : Standing) : Type 0 where

@@ -39,7 +39,7 @@ pub fn target(place: usize, x: usize) -> usize
 }
 
 // Where the metric stands to which a branch leads.
-fn source(from: usize, section: Section, x: usize) -> usize
+pub fn source(from: usize, section: Section, x: usize) -> usize
     requires { ⌜ SourceFits from section x ⌝ }
     ensures { λ r. ⌜ r ≡ from + leadsTo section x ⌝ }
 {
