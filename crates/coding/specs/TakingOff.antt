@@ -3,6 +3,7 @@ use Prim.Native.Nat.{ℕ, _+_, _*_, _^_, _≤_, _<_}
 use lib.Bits.{bitXor}
 use lib.ListN.{length, getD, take}
 use mathlib.Core.List.{List}
+use mathlib.Core.Bool.{Bool, true, false}
 use mathlib.Core.Path.{_≡_}
 use Rattle.words.specs.Ends.{firsts}
 use Rattle.words.specs.Span.{First}
@@ -29,3 +30,8 @@ pub record ReadOn (a : Reading) (row j : ℕ) (r : Reading) : Type 0 where
   pub at-head : (p : ℕ) → First row p → digit ≡ bit (a .rest) p
   pub information : r .information ≡ a .information + digit * 2 ^ j
   pub rest : r .rest ≡ bitXor (taken digit row) (a .rest)
+
+-- r says whether a word has a one at k or beyond
+pub record Reaches (word k : ℕ) (r : Bool) : Type 0 where
+  pub yes-is : r ≡ true → 2 ^ k ≤ word
+  pub no-is : r ≡ false → word < 2 ^ k

@@ -6,7 +6,7 @@ ghost use lib.ListN.{length, take};
 ghost use mathlib.Core.Path.{_≡_};
 ghost use Prim.Native.Nat.{_^_, _≤_, _<_};
 ghost use Rattle.coding.specs.Coding.{Encodes, ReadsBack};
-ghost use Rattle.coding.specs.TakingOff.{Headed, Read, ReadOn};
+ghost use Rattle.coding.specs.TakingOff.{Headed, Read, ReadOn, Reaches};
 ghost use Rattle.words.specs.Sum.{sumOf, taken};
 
 // The codeword of an information word, or why there is none.
@@ -81,4 +81,42 @@ fn take_rows(rows: &[u64; 64], k: usize, word: u64) -> Reading
         j += 1;
     }
     reading
+}
+
+// Whether a word has a one at k or beyond.
+fn reaches(word: u64, k: usize) -> bool
+    ensures { λ r. ⌜ Reaches word k r ⌝ }
+{
+    if k < 64 {
+        return (word >> k) != 0;
+    }
+    false
+}
+
+// Encodes information: bit j takes row j.
+pub fn encode(plate: Plate, information: u64) -> Encoded
+    ensures { λ r. ⌜ Encodes plate information r ⌝ }
+{
+    if !plates::is_prepared(plate) {
+        return Encoded::Refused(Refusal::NotPrepared);
+    }
+    let k = plate.k;
+    if reaches(information, k) {
+        return Encoded::Refused(Refusal::Information);
+    }
+    Encoded::Word(sum_rows(&plate.rows, k, information))
+}
+
+// Reads a codeword back: the information that encodes to it.
+pub fn read_back(plate: Plate, word: u64) -> ReadBack
+    ensures { λ r. ⌜ ReadsBack plate word r ⌝ }
+{
+    if !plates::is_prepared(plate) {
+        return ReadBack::Refused(Refusal::NotPrepared);
+    }
+    let reading = take_rows(&plate.rows, plate.k, word);
+    if reading.rest != 0 {
+        return ReadBack::Refused(Refusal::NoCodeword);
+    }
+    ReadBack::Information(reading.information)
 }

@@ -1,21 +1,18 @@
--- Laws of ℤ that the library lacks: a sum keeps the order, and its size is at most the sum of the sizes.
+-- Signed numbers: the size of a sum, the machine's sums and tests of numbers that are small, and one more breaks a tie.
 use borrow.Author.Tests.{le-ltb, lt-ltb, ltb-false, ltb-true}
-use lib.Dec.{T, leb→le, le→leb, ltb, ltb→lt, lt→ltb}
-use lib.IntN.{_+ℤ_, +ℤ-assoc, natAbs, negsuc, negℤ, pos, subℕ, ℤ}
-use lib.Signed.{_<ℤ_, leZ, ltZ, mag, _≤ℤ_}
-use mathlib.Core.Bool.{Bool, cond, false, true}
-use mathlib.Core.Logic.{inl, inr, _⊎_, ⊎-elim}
-use mathlib.Core.Path.{ap, refl, subst, sym, _∙_, _≡_}
-use native.Mathlib.Nat.{eq-or-lt-of-le}
+use lib.Dec.{ltb}
+use lib.IntN.{natAbs, negsuc, negℤ, pos, subℕ, _+ℤ_, _-ℤ_, ℤ}
+use lib.Signed.{ltZ, mag}
+use mathlib.Core.Bool.{Bool, cond, false, not, true}
+use mathlib.Core.Path.{refl, _∙_, _≡_}
+use mir.Facts.{toZ-ofZ}
+use mir.Syntax.{w32}
+use mir.Val.{SFits, ofZ, toZ}
+use native.Mathlib.Numerals.{add-one}
 use native.Mathlib.Omega.{arith}
-use Prim.Native.Nat.{_+_, _-_, _<_, suc, zero, ℕ, _≤_}
+use Prim.Native.Nat.{_+_, _-_, _<_, _^_, suc, zero, ℕ, _≤_}
 
--- a difference of two naturals, by which is less
-sub-lt : (a b : ℕ) → a < b → subℕ a b ≡ negsuc (b - suc a)
-sub-lt a b h = rw (lt-ltb a b h)
-
-sub-ge : (a b : ℕ) → b ≤ a → subℕ a b ≡ pos (a - b)
-sub-ge a b h = rw (le-ltb a b h)
+-- ---- the size of a sum
 
 abs-pick : (a b : ℕ) (t : Bool) → ltb a b ≡ t → natAbs (cond t (negsuc (b - suc a)) (pos (a - b))) ≤ a + b
 abs-pick a b true e = omega (arith, ltb-true a b e)
@@ -35,49 +32,55 @@ abs-neg (pos zero) = refl
 abs-neg (pos (suc a)) = refl
 abs-neg (negsuc a) = refl
 
-pub mag-abs : (a : ℤ) → mag a ≤ natAbs a
+mag-abs : (a : ℤ) → mag a ≤ natAbs a
 mag-abs (pos a) = omega arith
 mag-abs (negsuc a) = omega arith
 
--- a < b says that b is a and one or more
-witness : (a b : ℤ) → T (ltZ a b) → (n : ℕ) × (b ≡ a +ℤ pos (suc n))
-witness (pos a) (pos b) h = (b - suc a, ap pos (omega (arith, ltb→lt a b h)))
-witness (pos a) (negsuc b) h = absurd h
-witness (negsuc a) (pos b) h = (a + b, sym (sub-ge (suc (a + b)) (suc a) (omega arith) ∙ ap pos (omega arith)))
-witness (negsuc a) (negsuc b) h =
-    let k : b < a = ltb→lt b a h in
-    (a - suc b, sym (sub-lt (suc (a - suc b)) (suc a) (omega arith) ∙ ap negsuc (omega arith)))
+-- ---- what the machine computes from the bits of small numbers
 
-above-pick : (a n : ℕ) (t : Bool) → ltb (suc n) (suc a) ≡ t → T (ltZ (negsuc a) (cond t (negsuc (suc a - suc (suc n))) (pos (suc n - suc a))))
-above-pick a n true e = lt→ltb (suc a - suc (suc n)) a (omega (arith, ltb-true (suc n) (suc a) e))
-above-pick a n false e = tt
+pub small-fits : (z : ℤ) → natAbs z ≤ 2 ^ 30 → SFits w32 z
+small-fits z h = record { sfits = omega (arith, mag-abs z) }
 
-above : (a : ℤ) (n : ℕ) → T (ltZ a (a +ℤ pos (suc n)))
-above (pos a) n = lt→ltb a (a + suc n) (omega arith)
-above (negsuc a) n = above-pick a n (ltb (suc n) (suc a)) refl
+-- a small number is what is read back from its bits
+pub back : (z : ℤ) → natAbs z ≤ 2 ^ 30 → toZ w32 (ofZ w32 z) ≡ z
+back z h = toZ-ofZ (small-fits z h)
 
-pub add-lt : (g : ℤ) {a b : ℤ} → a <ℤ b → (g +ℤ a) <ℤ (g +ℤ b)
-add-lt g {a} {b} h =
-    let w = witness a b (h .lt) in
-    record { lt = subst (λ (z : ℤ). T (ltZ (g +ℤ a) z)) (+ℤ-assoc g a (pos (suc (w .0))) ∙ ap (λ (z : ℤ). g +ℤ z) (sym (w .1))) (above (g +ℤ a) (w .0)) }
+-- the machine's sum and difference, of operands that it has computed
+module _ {x y : ℤ} (a b : ℤ) (ex : x ≡ a) (ey : y ≡ b) (ha : natAbs a ≤ 2 ^ 29) (hb : natAbs b ≤ 2 ^ 29) where
+  pub sum-fits : SFits w32 (x +ℤ y)
+  sum-fits = rw (ex, ey) (small-fits (a +ℤ b) (omega (arith, abs-add a b)))
 
--- at most is less or equal
-le-cases : (a b : ℤ) → T (leZ a b) → (a <ℤ b) ⊎ (a ≡ b)
-le-cases (pos a) (pos b) h =
-    ⊎-elim (λ e. inr (ap pos e)) (λ l. inl (record { lt = lt→ltb a b l })) (eq-or-lt-of-le (leb→le a b h))
-le-cases (pos a) (negsuc b) h = absurd h
-le-cases (negsuc a) (pos b) h = inl (record { lt = tt })
-le-cases (negsuc a) (negsuc b) h =
-    ⊎-elim (λ e. inr (ap negsuc (sym e))) (λ l. inl (record { lt = lt→ltb b a l })) (eq-or-lt-of-le (leb→le b a h))
+  pub sum-is : toZ w32 (ofZ w32 (x +ℤ y)) ≡ a +ℤ b
+  sum-is = rw (ex, ey) (back (a +ℤ b) (omega (arith, abs-add a b)))
 
-pub le-lt-or-eq : {a b : ℤ} → a ≤ℤ b → (a <ℤ b) ⊎ (a ≡ b)
-le-lt-or-eq {a} {b} h = le-cases a b (h .le)
+  pub difference-fits : SFits w32 (x -ℤ y)
+  difference-fits = rw (ex, ey) (small-fits (a -ℤ b) (omega (arith, abs-add a (negℤ b), abs-neg b)))
 
-lt-le : (a b : ℤ) → T (ltZ a b) → T (leZ a b)
-lt-le (pos a) (pos b) h = le→leb a b (omega (arith, ltb→lt a b h))
-lt-le (pos a) (negsuc b) h = absurd h
-lt-le (negsuc a) (pos b) h = tt
-lt-le (negsuc a) (negsuc b) h = le→leb b a (omega (arith, ltb→lt b a h))
+  pub difference-is : toZ w32 (ofZ w32 (x -ℤ y)) ≡ a -ℤ b
+  difference-is = rw (ex, ey) (back (a -ℤ b) (omega (arith, abs-add a (negℤ b), abs-neg b)))
 
-pub <ℤ-≤ℤ : {a b : ℤ} → a <ℤ b → a ≤ℤ b
-<ℤ-≤ℤ {a} {b} h = record { le = lt-le a b (h .lt) }
+-- ---- one more breaks a tie
+
+flip : (a b : ℕ) (t : Bool) → ltb b a ≡ t → ltb a (suc b) ≡ not t
+flip a b true e = le-ltb a (suc b) (ltb-true b a e)
+flip a b false e = lt-ltb a (suc b) (omega (arith, ltb-false b a e))
+
+not-flip : (a b : ℕ) → ltb a b ≡ not (ltb b (suc a))
+not-flip a b = go (ltb b (suc a)) refl
+  where
+    go : (t : Bool) → ltb b (suc a) ≡ t → ltb a b ≡ not t
+    go true e = le-ltb a b (omega (arith, ltb-true b (suc a) e))
+    go false e = lt-ltb a b (omega (arith, ltb-false b (suc a) e))
+
+-- one more than a number below -1
+one-more : (b : ℕ) → subℕ 1 (suc (suc b)) ≡ negsuc b
+one-more b = let e : suc (suc b) - 2 ≡ b = omega arith in rw (lt-ltb 1 (suc (suc b)) (omega arith), e)
+
+-- less than one more is not less the other way
+pub tie-one : (a b : ℤ) → ltZ a (b +ℤ pos 1) ≡ not (ltZ b a)
+tie-one (pos a) (pos b) = rw add-one (flip a b (ltb b a) refl)
+tie-one (pos a) (negsuc zero) = le-ltb a 0 (omega arith)
+tie-one (pos a) (negsuc (suc b)) = rw (one-more b)
+tie-one (negsuc a) (pos b) = refl
+tie-one (negsuc a) (negsuc zero) = rw (le-ltb a 0 (omega arith))
+tie-one (negsuc a) (negsuc (suc b)) = rw (one-more b) (not-flip b a)

@@ -11,3 +11,13 @@ pub mod SameChoice
 pub mod Parts
 pub mod SweepSection
 pub mod SweepEnds
+pub mod Preference
+pub mod Targets
+pub mod Branches
+pub mod Digits
+pub mod Parts
+pub mod Singles
+pub mod Runs
+pub mod Masks
+pub mod Parities
+pub mod Progress

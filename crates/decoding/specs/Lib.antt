@@ -5,3 +5,7 @@ pub mod Backward
 pub mod Decode
 pub mod LiveRows
 pub mod Sweeping
+pub mod Choosing
+pub mod Running
+pub mod Patterns
+pub mod Blocks

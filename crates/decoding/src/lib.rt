@@ -1,4 +1,8 @@
 // Decoding: the codeword of greatest correlation with soft samples.
+mod choices;
+mod patterns;
+mod states;
+mod step;
 
 use plates::Refusal;
 

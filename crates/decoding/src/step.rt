@@ -1,9 +1,112 @@
-// One section of decoding.
-use crate::Counts;
-use trellises::Section;
+// One step of the decoder: a section of the trellis, from the far end towards the start.
+ghost use mathlib.Core.Path.{_≡_};
+ghost use Prim.Native.Nat.{_<_, _≤_};
+ghost use lib.ListN.{set};
+ghost use Rattle.decoding.specs.Blocks.{Block, BlockFits};
 ghost use Rattle.decoding.specs.Stepping.{StepFits, Stepped};
+use crate::Counts;
+use crate::patterns;
+use crate::states;
+use trellises::Section;
 
-// PLACEHOLDER
+// A decision word is stored where there is room for any.
+fn put(decisions: &mut [u64], at: usize, word: u64)
+    ensures { λ r. ⌜ now (decisions .exit) ≡ set (now (decisions .entry)) at word ⌝ }
+{
+    if at < decisions.len() {
+        decisions[at] = word;
+    }
+}
+
+// The states of one decision word, at most 64.
+fn block(
+    metrics: &mut [i32],
+    from: usize,
+    to: usize,
+    decisions: &mut [u64],
+    section: Section,
+    gain: i32,
+    pattern: u64,
+    at: usize,
+    count: usize,
+    counts: Counts,
+) -> Counts
+    requires { ⌜ BlockFits (now metrics) from to section gain pattern at count counts ⌝ }
+    ensures { λ r. ⌜ Block (now (metrics .entry)) from to (now (decisions .entry)) section gain at count counts (now (metrics .exit)) (now (decisions .exit)) r ⌝ }
+{
+    let first = at * 64;
+    let bits = patterns::turned(pattern, section.column, first);
+    let run = states::states(metrics, from, to, section, gain, bits, first, count, counts);
+    put(decisions, at, run.word);
+    run.counts
+}
+
+// A section of less than 64 states: one decision word.
+fn narrow(
+    metrics: &mut [i32],
+    from: usize,
+    to: usize,
+    decisions: &mut [u64],
+    section: Section,
+    gain: i32,
+    counts: Counts,
+) -> Counts
+    requires { ⌜ (section .live < 6) × StepFits (now metrics) from to (now decisions) section gain counts ⌝ }
+    ensures { λ r. ⌜ Stepped (now (metrics .entry)) from to (now (decisions .entry)) section gain counts (now (metrics .exit)) (now (decisions .exit)) r ⌝ }
+{
+    let pattern = patterns::pattern(section.column);
+    let count = states::power(section.live);
+    block(
+        metrics,
+        from,
+        to,
+        decisions,
+        section,
+        gain,
+        pattern,
+        0,
+        count,
+        counts,
+    )
+}
+
+// A section of 64 states or more: one decision word after the other.
+fn wide(
+    metrics: &mut [i32],
+    from: usize,
+    to: usize,
+    decisions: &mut [u64],
+    section: Section,
+    gain: i32,
+    counts: Counts,
+) -> Counts
+    requires { ⌜ (6 ≤ section .live) × StepFits (now metrics) from to (now decisions) section gain counts ⌝ }
+    ensures { λ r. ⌜ Stepped (now (metrics .entry)) from to (now (decisions .entry)) section gain counts (now (metrics .exit)) (now (decisions .exit)) r ⌝ }
+{
+    let pattern = patterns::pattern(section.column);
+    let words = states::power(section.live - 6);
+    let mut raised = counts;
+    let mut at = 0;
+    while at < words {
+        raised = block(
+            &mut *metrics,
+            from,
+            to,
+            &mut *decisions,
+            section,
+            gain,
+            pattern,
+            at,
+            64,
+            raised,
+        );
+        at += 1;
+    }
+    raised
+}
+
+// One section: the metrics of the next depth, which begin at `from`, give those of this depth, at `to`, and the decisions where they
+// are wanted; each branch added and each comparison made is counted.
 pub fn step(
     metrics: &mut [i32],
     from: usize,
@@ -16,5 +119,9 @@ pub fn step(
     requires { ⌜ StepFits (now metrics) from to (now decisions) section gain counts ⌝ }
     ensures { λ r. ⌜ Stepped (now (metrics .entry)) from to (now (decisions .entry)) section gain counts (now (metrics .exit)) (now (decisions .exit)) r ⌝ }
 {
-    counts
+    if section.live < 6 {
+        narrow(metrics, from, to, decisions, section, gain, counts)
+    } else {
+        wide(metrics, from, to, decisions, section, gain, counts)
+    }
 }

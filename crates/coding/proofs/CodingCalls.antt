@@ -1,0 +1,74 @@
+-- The replies of `encode` and `read_back`, case by case.
+use lib.Bits.{bitXor, xor-zero-r}
+use lib.ListN.{length}
+use mathlib.Core.Bool.{Bool, false}
+use mathlib.Core.Logic.{inl, inr, _⊎_}
+use mathlib.Core.Path.{ap, refl, subst, sym, _∙_, _≡_}
+use native.Mathlib.Omega.{arith}
+use Prim.Native.Nat.{_<_, ℕ}
+use Rattle.coding.specs.declared.ReadBack.the-variants as R
+use Rattle.coding.specs.Coding.{ReadsBack}
+use Rattle.coding.specs.declared.Encoded.the-variants.{Refused}
+use Rattle.coding.specs.declared.ReadBack.the-variants.{Information}
+use Rattle.coding.specs.declared.Reading.{Reading}
+use Rattle.coding.specs.TakingOff.{Headed, Read}
+use Rattle.plates.proofs.SoundIsPrepared.{sound, used-row, used-rows}
+use Rattle.plates.specs.declared.Plate.{Plate}
+use Rattle.plates.specs.declared.Refusal.the-variants.{NoCodeword, NotPrepared}
+use Rattle.plates.specs.Prepare.{IsPrepared, Tests, notPrepared, rowsOf}
+use Rattle.plates.specs.Sound.{Sound}
+use Rattle.words.proofs.Span.{Nothing, Top, least, rising-apart, zero-one}
+use Rattle.words.proofs.Sums.{in-xor}
+use Rattle.words.proofs.Word.{xor-cancel}
+use Rattle.words.specs.Ends.{first, firsts}
+use Rattle.words.specs.Span.{Before, First}
+use Rattle.words.specs.Sum.{IsSum, sumOf}
+use Rattle.words.specs.Word.{bit}
+
+-- the rows of a sound plate, as taking them off asks
+pub plate-headed : {plate : Plate} → Sound plate → Headed (plate .rows) (plate .k)
+plate-headed {plate} s = record {
+  table = s .table;
+  few = s .few;
+  head = λ j h. subst (λ (x : ℕ). First x (first x)) (used-row plate j h) (s .reduced .spans .first j (omega (arith, size)));
+  rising = λ i j h k.
+      subst (λ (x : ℕ). x < firsts (plate .rows) j) (ap first (used-row plate i (omega arith)))
+      (subst (λ (x : ℕ). firsts (rowsOf plate) i < x) (ap first (used-row plate j k)) (s .reduced .spans .rising i j h (omega (arith, size))));
+}
+  where
+    size : length (rowsOf plate) ≡ plate .k
+    size = used-rows plate (s .few) (s .table)
+
+module _ {plate : Plate} (given : IsPrepared plate) (word : ℕ) (r : Reading) (read : Read (plate .rows) (plate .k) word (plate .k) r) where
+  -- the rest of a codeword is a codeword with 0 at every head, so it is 0
+  pub read-no-codeword : (r .rest ≡ 0 → ⊥) → IsSum (rowsOf plate) word → ⊥
+  read-no-codeword n g = go (least (rowsOf plate) _ (s .reduced .spans .first) (rising-apart (length (rowsOf plate)) _ (s .reduced .spans .rising)) (left .by))
+    where
+      s : Sound plate
+      s = sound given
+
+      left : IsSum (rowsOf plate) (r .rest)
+      left =
+          subst (IsSum (rowsOf plate)) (ap (bitXor (sumOf (rowsOf plate) (r .information))) (sym (read .together)) ∙ xor-cancel (sumOf (rowsOf plate) (r .information)) (r .rest))
+          (in-xor (record { by = r .information; sum = refl }) g)
+
+      go : (Nothing (length (rowsOf plate)) (left .by) × (sumOf (rowsOf plate) (left .by) ≡ 0)) ⊎ Top Before (rowsOf plate) (firsts (rowsOf plate)) (left .by) → ⊥
+      go (inl z) = n (sym (left .sum) ∙ z .1)
+      go (inr t) =
+          let k : t .0 < plate .k = omega (arith, t .1, used-rows plate (s .few) (s .table)) in
+          zero-one (subst (λ (p : ℕ). bit (r .rest) p ≡ 0) (ap first (sym (used-row plate (t .0) k))) (read .cleared (t .0) k))
+          (subst (λ (x : ℕ). bit x (firsts (rowsOf plate) (t .0)) ≡ 1) (left .sum) (t .3 .one))
+
+  pub read-codeword : r .rest ≡ 0 → sumOf (rowsOf plate) (r .information) ≡ word
+  read-codeword e = sym (xor-zero-r (sumOf (rowsOf plate) (r .information))) ∙ ap (bitXor (sumOf (rowsOf plate) (r .information))) (sym e) ∙ read .together
+
+  pub read-information : r .rest ≡ 0 → ReadsBack plate word (R.Information (r .information))
+  read-information e =
+      (((λ q b. b .0 given), ((λ q b. b .0 (record { by = r .information; sum = read-codeword e })), tt)), read .short, read-codeword e)
+
+  pub read-refused : (r .rest ≡ 0 → ⊥) → ReadsBack plate word (R.Refused NoCodeword)
+  read-refused n = inr ((λ q b. b .0 given), inl (read-no-codeword n, refl))
+
+-- the plate is refused where its test says no
+pub test-refuses : {plate : Plate} {p : Bool} → Tests plate p → p ≡ false → notPrepared plate NotPrepared
+test-refuses t e = (t .no-is e, refl)

@@ -1,0 +1,166 @@
+-- The first n states of a section are done: how that holds at the start, after each decision word, and at the end.
+use lib.IntN.{pos, ℤ}
+use lib.ListN.{getD, length, length-set, set}
+use lib.Pow.{pow-add, pow-mono}
+use lib.Seq.{getD-set-other, getD-set-same}
+use mathlib.Core.Bool.{Bool, cond, false, true}
+use mathlib.Core.List.{List}
+use mathlib.Core.Logic.{inl, inr, _⊎_, ⊎-elim}
+use mathlib.Core.Path.{ap, ap₂, refl, sym, _∙_, _≡_}
+use native.Mathlib.Omega.{arith}
+use Prim.Native.Nat.{_%_, _*_, _+_, _-_, _/_, _<_, _^_, suc, zero, zero-le, ℕ, _≤_}
+use Rattle.decoding.proofs.Parts.{below-or, state-same, still-ready}
+use Rattle.decoding.proofs.Runs.{adds-le, compares-le, times-le}
+use Rattle.decoding.proofs.Targets.{live-le}
+use Rattle.decoding.specs.Blocks.{Block, BlockFits}
+use Rattle.decoding.specs.declared.Counts.{Counts}
+use Rattle.decoding.specs.Patterns.{Pattern}
+use Rattle.decoding.specs.Running.{Ready, addsOf, comparesOf}
+use Rattle.decoding.specs.Stepping.{StepFits, Stepped, olds}
+use Rattle.decoding.specs.Taking.{Taken, atState, counting}
+use Rattle.trellises.specs.declared.Section.{Section}
+use Rattle.trellises.specs.Numbers.{leadsTo}
+use Rattle.words.specs.Word.{bit}
+
+-- how many decision words 64 states or more have
+pub word-count : (l w : ℕ) → 6 ≤ l → w ≡ 2 ^ (l - 6) → w * 64 ≡ 2 ^ l
+word-count l w h e = let f : l ≡ l - 6 + 6 = omega arith in rw e (sym (ap (λ (n : ℕ). 2 ^ n) f ∙ pow-add 2 (l - 6) 6))
+
+abbrev make : ℕ → ℕ → Counts
+make a b = record { additions = a; comparisons = b }
+
+-- what n states count
+counting-is : (c : Section) (y : ℤ) (old : ℕ → ℤ) (n : ℕ) (k : Counts)
+    → counting c y old n k ≡ record { additions = k .additions + n * addsOf c; comparisons = k .comparisons + n * comparesOf c }
+counting-is c y old zero k = ap₂ make (omega arith) (omega arith)
+counting-is c y old (suc n) k =
+    let h = counting-is c y old n k in
+    ap₂ make
+    (ap₂ _+_ (ap (λ (z : Counts). z .additions) h) (adds (c .begins) refl) ∙ omega arith)
+    (ap₂ _+_ (ap (λ (z : Counts). z .comparisons) h) (compares (c .begins) refl) ∙ omega arith)
+  where
+    adds : (b : Bool) → c .begins ≡ b → (atState c y old n) .additions ≡ cond (c .begins) 2 1
+    adds true e = rw e
+    adds false e = rw e
+
+    compares : (b : Bool) → c .begins ≡ b → (atState c y old n) .comparisons ≡ cond (c .begins) 1 0
+    compares true e = rw e
+    compares false e = rw e
+
+-- what a step asks makes its metrics ready
+pub step-ready : (M : List ℤ) (from to : ℕ) (D : List ℕ) (c : Section) (y : ℤ) (k : Counts) → StepFits M from to D c y k → Ready M from to c y
+step-ready M from to D c y k h = record {
+  section = h .section;
+  gain = h .gain;
+  place = λ x l. omega (arith, h .leads x l, h .old-room);
+  small = λ x l. h .small (leadsTo c x) (h .leads x l);
+  apart = λ x l. ⊎-elim (λ a. inl (omega (arith, h .leads x l))) (λ a. inr (omega arith)) (h .apart);
+  room = h .new-room;
+}
+
+module _ (M : List ℤ) (from to : ℕ) (D : List ℕ) (c : Section) (y : ℤ) (k : Counts) where
+  pub record Upto (n : ℕ) (M₁ : List ℤ) (D₁ : List ℕ) (k₁ : Counts) : Type 0 where
+    pub within : n ≤ 2 ^ c .live
+    pub size : length M₁ ≡ length M
+    pub metric : (i : ℕ) → i < n → olds M₁ to i ≡ (atState c y (olds M from) i) .metric
+    pub others : (j : ℕ) → (j < to) ⊎ (to + n ≤ j) → getD M₁ j (pos 0) ≡ getD M j (pos 0)
+    pub words : length D₁ ≡ length D
+    pub decision : 0 < length D → (i : ℕ) → i < n → bit (getD D₁ (i / 64) 0) (i % 64) ≡ (atState c y (olds M from) i) .bit
+    pub additions : k₁ .additions ≡ k .additions + n * addsOf c
+    pub comparisons : k₁ .comparisons ≡ k .comparisons + n * comparesOf c
+
+  pub upto-none : Upto 0 M D k
+  upto-none = record {
+    within = zero-le;
+    size = refl;
+    metric = λ i h. absurd (omega arith);
+    others = λ j o. refl;
+    words = refl;
+    decision = λ g i h. absurd (omega arith);
+    additions = omega arith;
+    comparisons = omega arith;
+  }
+
+  module _ (h : StepFits M from to D c y k) where
+    -- the end
+    pub upto-all : (M₁ : List ℤ) (D₁ : List ℕ) (k₁ : Counts) → Upto (2 ^ c .live) M₁ D₁ k₁ → Stepped M from to D c y k M₁ D₁ k₁
+    upto-all M₁ D₁ k₁ u = record {
+      size = u .size;
+      metric = u .metric;
+      others = u .others;
+      words = u .words;
+      decision = u .decision;
+      counts = ap₂ make (u .additions) (u .comparisons) ∙ sym (counting-is c y (olds M from) (2 ^ c .live) k);
+    }
+
+    module _ (a : ℕ) (M₁ : List ℤ) (D₁ : List ℕ) (k₁ : Counts) (u : Upto (a * 64) M₁ D₁ k₁) where
+      others-all : (j : ℕ) → (j < to) ⊎ (to + 2 ^ c .live ≤ j) → getD M₁ j (pos 0) ≡ getD M j (pos 0)
+      others-all j o = u .others j (⊎-elim (λ l. inl l) (λ l. inr (omega (arith, u .within))) o)
+
+      -- what the next decision word asks
+      pub block-fits : (w n : ℕ) → Pattern (c .column) w → n ≤ 64 → a * 64 + n ≤ 2 ^ c .live → BlockFits M₁ from to c y w a n k₁
+      block-fits w n p l g = record {
+        ready = still-ready M from to c y (step-ready M from to D c y k h) M₁ (u .size) others-all;
+        word = l;
+        states = g;
+        pattern = p;
+        additions = omega (arith, u .additions, h .additions, u .within, live-le c (h .section), times-le (a * 64) (2 ^ 12) (addsOf c) 2 (omega (arith, u .within, live-le c (h .section))) (adds-le c));
+        comparisons = omega (arith, u .comparisons, h .comparisons, u .within, live-le c (h .section), times-le (a * 64) (2 ^ 12) (comparesOf c) 1 (omega (arith, u .within, live-le c (h .section))) (compares-le c));
+      }
+
+      -- that word done
+      module _ (n : ℕ) (l : n ≤ 64) (g : a * 64 + n ≤ 2 ^ c .live) (M₂ : List ℤ) (D₂ : List ℕ) (k₂ : Counts)
+          (b : Block M₁ from to D₁ c y a n k₁ M₂ D₂ k₂) where
+        same : (i : ℕ) → i < 2 ^ c .live → atState c y (olds M₁ from) i ≡ atState c y (olds M from) i
+        same = state-same M from to c y (step-ready M from to D c y k h) M₁ (u .size) others-all
+
+        metric : (i : ℕ) → i < a * 64 + n → olds M₂ to i ≡ (atState c y (olds M from) i) .metric
+        metric i m = ⊎-elim low high (below-or (a * 64) n i m)
+          where
+            low : i < a * 64 → olds M₂ to i ≡ (atState c y (olds M from) i) .metric
+            low q = b .part .others (to + i) (inl (omega arith)) ∙ u .metric i q
+
+            high : (j : ℕ) × ((j < n) × (i ≡ a * 64 + j)) → olds M₂ to i ≡ (atState c y (olds M from) i) .metric
+            high (j, (q, e)) = rw e (b .part .metric j q ∙ ap (λ (s : Taken). s .metric) (same (a * 64 + j) (omega arith)))
+
+        decision : 0 < length D → (i : ℕ) → i < a * 64 + n → bit (getD D₂ (i / 64) 0) (i % 64) ≡ (atState c y (olds M from) i) .bit
+        decision some i m = ap (λ (d : List ℕ). bit (getD d (i / 64) 0) (i % 64)) (b .stored) ∙ ⊎-elim low high (below-or (a * 64) n i m)
+          where
+            low : i < a * 64 → bit (getD (set D₁ a (b .word)) (i / 64) 0) (i % 64) ≡ (atState c y (olds M from) i) .bit
+            low q =
+                let e : i / 64 ≡ a → ⊥ = λ z. omega arith in
+                rw (getD-set-other D₁ a (i / 64) (b .word) 0 e) (u .decision some i q)
+
+            high : (j : ℕ) × ((j < n) × (i ≡ a * 64 + j)) → bit (getD (set D₁ a (b .word)) (i / 64) 0) (i % 64) ≡ (atState c y (olds M from) i) .bit
+            high (j, (q, e)) =
+                let d : i / 64 ≡ a = omega arith in
+                let r : i % 64 ≡ j = omega arith in
+                let room : a < length D₁ = ⊎-elim (λ z. omega arith) (λ z. omega (arith, u .words)) (h .wanted) in
+                rw (d, r, getD-set-same D₁ a (b .word) 0 room, e) (b .part .decision j q ∙ ap (λ (s : Taken). s .bit) (same (a * 64 + j) (omega arith)))
+
+        pub upto-more : Upto (a * 64 + n) M₂ D₂ k₂
+        upto-more = record {
+          within = g;
+          size = b .part .size ∙ u .size;
+          metric = metric;
+          others = λ j o.
+              b .part .others j (⊎-elim (λ q. inl (omega arith)) (λ q. inr (omega arith)) o)
+              ∙ u .others j (⊎-elim (λ q. inl q) (λ q. inr (omega arith)) o);
+          words = ap length (b .stored) ∙ length-set D₁ a (b .word) ∙ u .words;
+          decision = decision;
+          additions = omega (arith, b .part .additions, u .additions);
+          comparisons = omega (arith, b .part .comparisons, u .comparisons);
+        }
+
+    -- a section that has one decision word
+    module _ (l : c .live < 6) (n : ℕ) (e : n ≡ 2 ^ c .live) where
+      count-le : n ≤ 64
+      count-le = omega (arith, pow-mono {i = c .live} {j = 6} (omega arith))
+
+      pub one-word-fits : (w : ℕ) → Pattern (c .column) w → BlockFits M from to c y w 0 n k
+      one-word-fits w p = block-fits 0 M D k upto-none w n p count-le (omega arith)
+
+      pub one-word : (M₁ : List ℤ) (D₁ : List ℕ) (k₁ : Counts) → Block M from to D c y 0 n k M₁ D₁ k₁ → Stepped M from to D c y k M₁ D₁ k₁
+      one-word M₁ D₁ k₁ b =
+          let f : 0 * 64 + n ≡ 2 ^ c .live = omega arith in
+          upto-all M₁ D₁ k₁ (rw f at (upto-more 0 M D k upto-none n count-le (omega arith) M₁ D₁ k₁ b))
