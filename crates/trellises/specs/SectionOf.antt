@@ -3,7 +3,6 @@ use Prim.Native.Nat.{ℕ, suc, _+_, _*_, _%_, _^_, _<_}
 use lib.Dec.{ltb, leb, eqb}
 use mathlib.Core.Bool.{Bool, true, false, cond, _&&_, _||_}
 use mathlib.Core.List.{List, [], _∷_}
-use mathlib.Core.Path.{_≡_}
 use Rattle.words.specs.Choice.{more}
 use Rattle.words.specs.Ends.{first, last}
 use Rattle.words.specs.Word.{bit}
@@ -37,11 +36,12 @@ abbrev pub sectionOf : List ℕ → ℕ → Section
 sectionOf [] t = quiet
 sectionOf (row ∷ rows) t = withRow t row (sectionOf rows t)
 
--- the rows that are active in section t, in order
+-- a row put before others where the test passes
 abbrev pub keep : Bool → ℕ → List ℕ → List ℕ
 keep true row rows = row ∷ rows
 keep false row rows = rows
 
+-- the rows that are active in section t, in order
 abbrev pub activeRows : List ℕ → ℕ → List ℕ
 activeRows [] t = []
 activeRows (row ∷ rows) t = keep (isActive t row) row (activeRows rows t)
