@@ -3,3 +3,4 @@ pub mod Stepping
 pub mod Metric
 pub mod Backward
 pub mod Decode
+pub mod LiveRows

@@ -2,6 +2,8 @@
 
 use plates::Refusal;
 
+mod live;
+
 // What the steps counted: branches added, and comparisons made.
 pub struct Counts {
     pub additions: u64,
