@@ -9,6 +9,8 @@ pub mod Digits
 pub mod ActiveOnly
 pub mod SectionFits
 pub mod SectionBranches
+pub mod HeldSection
+pub mod NextIsBranch
 pub mod PathsOnce
 pub mod PlateGenerates
 pub mod AcceptedIsPrepared

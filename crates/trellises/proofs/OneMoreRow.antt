@@ -27,7 +27,7 @@ taking true began on d c = record {
   column = c .column * 2 + d;
 }
 
-and-false : (a : Bool) → (a && false) ≡ false
+pub and-false : (a : Bool) → (a && false) ≡ false
 and-false true = refl
 and-false false = refl
 

@@ -1,5 +1,5 @@
 -- The section of some plate rows, as numbers.
-use Prim.Native.Nat.{ℕ, suc, _+_, _*_, _%_, _^_}
+use Prim.Native.Nat.{ℕ, suc, _+_, _*_, _%_, _^_, _<_}
 use lib.Dec.{ltb, leb, eqb}
 use mathlib.Core.Bool.{Bool, true, false, cond, _&&_, _||_}
 use mathlib.Core.List.{List, [], _∷_}
@@ -49,3 +49,10 @@ activeRows (row ∷ rows) t = keep (isActive t row) row (activeRows rows t)
 -- a section with what a 64-bit column holds of it: its first 64 active rows
 abbrev pub held : Section → Section
 held c = record { live = c .live; begins = c .begins; ends = c .ends; ending = c .ending; column = c .column % 2 ^ 64 }
+
+-- what a section must leave free for one more row at position t
+pub record HasRoom (t : ℕ) (c : Section) : Type 0 where
+  pub position : t < 64
+  pub live : c .live + 1 < 2 ^ 64
+  pub ending : c .ending + 1 < 2 ^ 64
+  pub column : c .column < 2 ^ 64

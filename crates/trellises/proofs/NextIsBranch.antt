@@ -1,0 +1,79 @@
+-- The reply by a section's numbers is the trellis's: the next state, no branch, or refusal 12.
+use borrow.Author.Tests.{eqb-false, eqb-true}
+use lib.Dec.{eqb}
+use mathlib.Core.Bool.{Bool, cond, false, false≢true, true}
+use mathlib.Core.Logic.{inl, inr, _⊎_}
+use mathlib.Core.Path.{ap, refl, subst, sym, _∙_, _≡_}
+use native.Mathlib.Omega.{arith}
+use Prim.Native.Nat.{_+_, _<_, _^_, ℕ, _≤_}
+use Rattle.plates.proofs.SoundIsPrepared.{prepared}
+use Rattle.plates.specs.declared.Plate.{Plate}
+use Rattle.plates.specs.declared.Refusal.{Refusal}
+use Rattle.plates.specs.declared.Refusal.the-variants.{NoSuchBranch}
+use Rattle.plates.specs.Prepare.{notPrepared, rowsOf}
+use Rattle.plates.specs.Profile.{liveAt}
+use Rattle.plates.specs.Refusals.{Passes}
+use Rattle.plates.specs.Sound.{Sound}
+use Rattle.trellises.proofs.SectionAgrees.{Agrees, section-agrees}
+use Rattle.trellises.proofs.SectionBranches.{Numbered, below-high, below-low, has-number, leaves-high, leaves-low, leaving-is, number-has, other-bit}
+use Rattle.trellises.proofs.SectionFits.{begun}
+use Rattle.trellises.specs.Branching.{Branches, branchConditions}
+use Rattle.trellises.specs.declared.Next.the-variants.{NoBranch, Refused, State}
+use Rattle.trellises.specs.declared.Section.{Section}
+use Rattle.trellises.specs.Following.{nextOf}
+use Rattle.trellises.specs.Numbers.{bitOf, branchCount, leadsTo, leaves}
+use Rattle.trellises.specs.SectionOf.{sectionOf}
+use Rattle.words.specs.Word.{bit}
+
+module _ (plate : Plate) (s : Sound plate) (depth state bit : ℕ) where
+  -- refusal 5 is passed
+  not-five : (q : Refusal) → notPrepared plate q → ⊥
+  not-five q x = x .0 (prepared s)
+
+  pub refused-twelve : (plate .n ≤ depth) ⊎ ((2 ^ liveAt (rowsOf plate) depth ≤ state) ⊎ (1 < bit)) → Branches plate depth state bit (Refused NoSuchBranch)
+  refused-twelve h = inr (not-five, inl (h, refl))
+
+  module _ (h : depth < plate .n) (present : state < 2 ^ liveAt (rowsOf plate) depth) (small : bit ≤ 1) where
+    abbrev c : Section
+    c = sectionOf (rowsOf plate) depth
+
+    agrees : Agrees (rowsOf plate) depth c
+    agrees = section-agrees (rowsOf plate) (s .reduced .spans) depth
+
+    there : state < 2 ^ c .live
+    there = subst (λ (n : ℕ). state < 2 ^ n) (sym (agrees .states)) present
+
+    pass : Passes (branchConditions plate depth state bit)
+    pass = (not-five, ((λ q x. none (x .0)), tt))
+      where
+        none : (plate .n ≤ depth) ⊎ ((2 ^ liveAt (rowsOf plate) depth ≤ state) ⊎ (1 < bit)) → ⊥
+        none (inl x) = omega arith
+        none (inr (inl x)) = omega arith
+        none (inr (inr x)) = omega arith
+
+    -- a branch number that leaves the state with the bit answers
+    answer : (x : ℕ) → x < branchCount c → leaves c x ≡ state → bitOf c x ≡ bit → Branches plate depth state bit (State (leadsTo c x))
+    answer x l a b =
+        (pass, number-has (rowsOf plate) depth c agrees state bit (leadsTo c x) (record { number = x; below = l; leaving = a; spells = b; leads = refl }))
+
+    -- where none begins and its own number has the other bit, there is none
+    no-answer : (bitOf c state ≡ bit → ⊥) → c .begins ≡ false → Branches plate depth state bit NoBranch
+    no-answer n e = (pass, λ next x. none (has-number (rowsOf plate) depth c agrees state bit next x))
+      where
+        none : {next : ℕ} → Numbered c state bit next → ⊥
+        none m = go (leaving-is c state there (m .number) (m .below) (m .leaving))
+          where
+            go : (m .number ≡ state) ⊎ ((c .begins ≡ true) × (m .number ≡ state + 2 ^ c .live)) → ⊥
+            go (inl q) = n (ap (bitOf c) (sym q) ∙ m .spells)
+            go (inr q) = false≢true (sym e ∙ q .0)
+
+    pub next-branches : Branches plate depth state bit (nextOf (sectionOf (rowsOf plate) depth) state bit)
+    next-branches = go (eqb (bitOf c state) bit) (c .begins) refl refl
+      where
+        go : (x b : Bool) → eqb (bitOf c state) bit ≡ x → c .begins ≡ b
+            → Branches plate depth state bit (cond x (State (leadsTo c state)) (cond b (State (leadsTo c (state + 2 ^ c .live))) NoBranch))
+        go true b e f = answer state (below-low c state there) (leaves-low c state there) (eqb-true (bitOf c state) bit e)
+        go false true e f =
+            answer (state + 2 ^ c .live) (below-high c state there f) (leaves-high c state there)
+            (other-bit c state there (begun s depth (omega arith) f) ∙ omega (arith, eqb-false (bitOf c state) bit e))
+        go false false e f = no-answer (eqb-false (bitOf c state) bit e) f
