@@ -34,7 +34,14 @@ pub fn pass_back(rows: &[u64; 64], k: usize, ends: &[u8; 64], live: u64, t: usiz
 
 // Section t passed from its near side, where `next` rows began before: the row that begins there joins the live rows, and the row that
 // ends there leaves them.
-pub fn pass_on(rows: &[u64; 64], k: usize, ends: &[u8; 64], live: u64, next: usize, t: usize) -> Passed
+pub fn pass_on(
+    rows: &[u64; 64],
+    k: usize,
+    ends: &[u8; 64],
+    live: u64,
+    next: usize,
+    t: usize,
+) -> Passed
     requires { ⌜ PlateRows (now rows) k ⌝ }
     requires { ⌜ EndsAre (take k (now rows)) (now ends) ⌝ }
     requires { ⌜ (t < 64) × (live ≡ liveMarks (take k (now rows)) t) × (next ≡ begunBefore (take k (now rows)) t) ⌝ }

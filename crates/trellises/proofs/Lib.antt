@@ -17,3 +17,4 @@ pub mod AcceptedIsPrepared
 pub mod ActiveNumber
 pub mod PlateTrellis
 pub mod WolfMassey
+pub mod AmongRows

@@ -55,8 +55,8 @@ loop-again c =
     let i : l .j ≡ suc (l .j - 1) = omega (arith, c .before .before .loop-test .taken) in (
       omega arith,
       c .with-row .ensures
-      ∙ ap (λ (z : Section). held (withRow (a .t) (getD (a .rows .now) (l .j - 1) 0) z)) (l .inv .1 ∙ ap (λ (j : ℕ). held (sectionOf (drop j (a .rows .now)) (a .t))) i)
-      ∙ held-on (a .rows .now) (a .t) (l .j - 1) (omega (arith, c .before .before .loop-test .taken)),
+          ∙ ap (λ (z : Section). held (withRow (a .t) (getD (a .rows .now) (l .j - 1) 0) z)) (l .inv .1 ∙ ap (λ (j : ℕ). held (sectionOf (drop j (a .rows .now)) (a .t))) i)
+          ∙ held-on (a .rows .now) (a .t) (l .j - 1) (omega (arith, c .before .before .loop-test .taken)),
     )
 
 returns-2 : tie.Need-returns-2 Inv-loop μ-loop
