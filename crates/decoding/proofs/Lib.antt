@@ -6,3 +6,7 @@ pub mod BestWay
 pub mod PlateWays
 pub mod BestWord
 pub mod MetricBounds
+pub mod LiveMarks
+pub mod BegunRows
+pub mod PlateRowsOf
+pub mod EndsFound

@@ -1,7 +1,8 @@
 -- The section of the rows that a number names, taken in from the highest bit to the lowest, and that of all rows from the active ones.
 use borrow.Author.Tests.{eq-eqb, ne-eqb}
+use lib.Arith.{lt-one}
 use lib.Dec.{eqb}
-use lib.ListN.{drop, getD, length, length-drop}
+use lib.ListN.{drop, getD, length, length-drop, take}
 use lib.Pow.{field, high, low, mod-mod-pow, pow-mono, pow-pos, shl-exact, shr-shr}
 use lib.Seq.{drop-cons, drop-drop, drop-length}
 use mathlib.Core.Bool.{Bool, cond, false, true}
@@ -58,6 +59,17 @@ among-short (row ∷ rows) which = go (eqb (which % 2) 1) (rowsAmong rows (which
     go : (b : Bool) (l : List ℕ) → length l ≤ length rows → length (keep b row l) ≤ suc (length rows)
     go true l h = suc-le-suc h
     go false l h = omega arith
+
+among-none : (rows : List ℕ) → rowsAmong rows 0 ≡ []
+among-none [] = refl
+among-none (row ∷ rows) = among-none rows
+
+-- a number below 2 ^ k names none but the first k rows
+pub among-first : (k : ℕ) (rows : List ℕ) (which : ℕ) → which < 2 ^ k → rowsAmong rows which ≡ rowsAmong (take k rows) which
+among-first zero rows which h = ap (rowsAmong rows) (lt-one h) ∙ among-none rows
+among-first (suc k) [] which h = refl
+among-first (suc k) (row ∷ rows) which h =
+    ap (keep (eqb (which % 2) 1) row) (among-first k rows (which / 2) (omega (arith, pow-suc 2 k)))
 
 -- ---- one row after the other
 
