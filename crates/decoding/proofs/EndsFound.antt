@@ -1,5 +1,5 @@
 -- The rows' last ones, noted row after row at their positions.
-use lib.ListN.{getD, length, length-set, set}
+use lib.ListN.{getD, getD-replicate, length, length-replicate, length-set, replicate, set}
 use lib.Seq.{getD-set-other, getD-set-same}
 use mathlib.Core.List.{List}
 use mathlib.Core.Path.{ap, sym, _∙_, _≡_}
@@ -18,6 +18,13 @@ pub record Noted (rows : List ℕ) (k : ℕ) (ends : List ℕ) : Type 0 where
 module _ (rows : List ℕ) where
   pub all-noted : {ends : List ℕ} → Noted rows (length rows) ends → EndsAre rows ends
   all-noted n = record { size = n .size; none = n .none; some = n .some }
+
+  pub none-noted : Noted rows 0 (replicate 64 0)
+  none-noted = record {
+    size = length-replicate {A = ℕ} 64 0;
+    none = λ t h z j l. absurd (omega arith);
+    some = λ t j h e. absurd (omega (arith, getD-replicate {A = ℕ} 64 t 0 0 h));
+  }
 
   pub one-noted : {k : ℕ} {ends : List ℕ} → Noted rows k ends → (l : ℕ) → l ≡ lasts rows k → l < 64 → Noted rows (suc k) (set ends l (suc k))
   one-noted {k} {ends} n l e h = record {

@@ -10,3 +10,4 @@ pub mod LiveMarks
 pub mod BegunRows
 pub mod PlateRowsOf
 pub mod EndsFound
+pub mod PassedRows
