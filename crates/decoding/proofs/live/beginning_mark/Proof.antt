@@ -6,9 +6,6 @@ use Prim.Native.Nat.{_<_}
 use Rattle.decoding.proofs.PassedRows.{next-joins, none-joins, row-first}
 use Rattle.decoding.proofs.live.beginning_mark.Statement.{statement}
 use Rattle.decoding.proofs.live.beginning_mark.Tie as tie
-use Rattle.decoding.proofs.live.beginning_mark.Reads as reads
-use Rattle.decoding.proofs.live.beginning_mark.Lts as lts
-use Rattle.words.proofs.first_one.Reads as first-one-reads
 
 returns : tie.Need-returns
 returns c = let s = c .before in none-joins (s .pre .0) (s .args .t) (s .pre .1) (λ l e. omega (arith, c .if1 .taken))

@@ -9,9 +9,6 @@ use Rattle.decoding.proofs.EndsFound.{Noted, all-noted, none-noted, one
 use Rattle.decoding.proofs.PassedRows.{counted, row-ends, row-last}
 use Rattle.decoding.proofs.live.ending_rows.Statement.{statement}
 use Rattle.decoding.proofs.live.ending_rows.Tie as tie
-use Rattle.decoding.proofs.live.ending_rows.Reads as reads
-use Rattle.decoding.proofs.live.ending_rows.Lts as lts
-use Rattle.words.proofs.last_one.Reads as last-one-reads
 
 abbrev Inv-loop : tie.InvT-loop
 Inv-loop rows k ends₀ j₀ ends j = (j ≤ k) × Noted (take k rows) j ends
@@ -54,8 +51,8 @@ loop-again c =
     let h = c .before .before .loop-test .taken in (
       omega arith,
       rw (add-one j)
-      (one-noted (take (s .args .k) (s .args .rows .now)) (c .before .before .before .loop .inv .1) (c .last-one .result)
-      (row-last (s .pre) j h (c .last-one .ensures)) (row-ends (s .pre) j h (c .last-one .ensures))),
+          (one-noted (take (s .args .k) (s .args .rows .now)) (c .before .before .before .loop .inv .1) (c .last-one .result)
+          (row-last (s .pre) j h (c .last-one .ensures)) (row-ends (s .pre) j h (c .last-one .ensures))),
     )
 
 returns : tie.Need-returns Inv-loop μ-loop

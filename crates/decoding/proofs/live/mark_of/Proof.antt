@@ -3,8 +3,6 @@ use borrow.Author.Needs.{needs}
 use Rattle.decoding.proofs.PassedRows.{mark-is}
 use Rattle.decoding.proofs.live.mark_of.Statement.{statement}
 use Rattle.decoding.proofs.live.mark_of.Tie as tie
-use Rattle.decoding.proofs.live.mark_of.Reads as reads
-use Rattle.decoding.proofs.live.mark_of.Lts as lts
 
 returns : tie.Need-returns
 returns c = search needs
