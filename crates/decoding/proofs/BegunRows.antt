@@ -1,5 +1,5 @@
 -- The rows that begin before a depth are the first so many, and one more where a section says that a row begins.
-use borrow.Author.Tests.{le-leb, le-ltb, lt-ltb, ltb-false}
+use borrow.Author.Tests.{le-ltb, lt-ltb}
 use lib.Dec.{ltb}
 use lib.ListN.{length}
 use mathlib.Core.Bool.{Bool, false, false≢true, true}
@@ -10,17 +10,15 @@ use native.Mathlib.Decide.{decLt}
 use native.Mathlib.Nat.{le-of-lt, le-refl}
 use native.Mathlib.Omega.{arith}
 use Prim.Native.Nat.{_<_, suc, suc-le-suc, zero, zero-le, ℕ, _≤_}
-use Rattle.decoding.proofs.LiveMarks.{in-order}
 use Rattle.decoding.specs.LiveRows.{begunBefore}
-use Rattle.trellises.proofs.OneMoreRow.{taking}
-use Rattle.trellises.proofs.OneMoreRow.{Rising, active-ends, rising-rest, with-row}
-use Rattle.trellises.specs.declared.Section.{Section}
-use Rattle.trellises.specs.SectionOf.{isActive, sectionOf}
+use Rattle.trellises.proofs.OneBegins.{section-begins}
+use Rattle.trellises.proofs.OneMoreRow.{Rising, rising-rest}
+use Rattle.trellises.specs.SectionOf.{sectionOf}
+use Rattle.trellises.specs.Smallest.{Begins}
 use Rattle.words.proofs.Span.{lt-tri}
 use Rattle.words.specs.Choice.{more}
-use Rattle.words.specs.Ends.{first, firsts, last, lasts}
+use Rattle.words.specs.Ends.{first, firsts, lasts}
 use Rattle.words.specs.Span.{Spans}
-use Rattle.words.specs.Word.{bit}
 
 pub none-begun : (rows : List ℕ) → begunBefore rows 0 ≡ 0
 none-begun [] = refl
@@ -76,49 +74,9 @@ module _ (t : ℕ) where
 
 -- ---- the row that begins at t
 
--- a row of a list that begins at t
-pub record BeginsAt (rows : List ℕ) (t : ℕ) : Type 0 where
-  pub row : ℕ
-  pub within : row < length rows
-  pub begins : firsts rows row ≡ t
-
-module _ (t : ℕ) where
-  -- a section says truly that a row begins
-  pub begins-row : (rows : List ℕ) → sectionOf rows t .begins ≡ true → BeginsAt rows t
-  begins-row [] = λ e. absurd (false≢true e)
-  begins-row (row ∷ rows) = rw (with-row t row (sectionOf rows t)) (go (isActive t row) (ltb (first row) t) refl refl (begins-row rows))
-    where
-      c : Section
-      c = sectionOf rows t
-
-      later : BeginsAt rows t → BeginsAt (row ∷ rows) t
-      later b = record { row = suc (b .row); within = suc-le-suc (b .within); begins = b .begins }
-
-      go : (a b : Bool) → isActive t row ≡ a → ltb (first row) t ≡ b → (c .begins ≡ true → BeginsAt rows t)
-          → taking a b (ltb t (last row)) (bit row t) c .begins ≡ true → BeginsAt (row ∷ rows) t
-      go false b e f ih q = later (ih q)
-      go true true e f ih q = later (ih q)
-      go true false e f ih q =
-          let a = active-ends t row e in
-          record { row = 0; within = suc-le-suc zero-le; begins = omega (arith, ltb-false (first row) t f) }
-
-  -- and it says so wherever one does
-  row-begins : (rows : List ℕ) (j : ℕ) → j < length rows → firsts rows j ≡ t → t ≤ lasts rows j → sectionOf rows t .begins ≡ true
-  row-begins [] j h e l = absurd (omega arith)
-  row-begins (row ∷ rows) zero h e l =
-      rw (with-row t row (sectionOf rows t), le-leb (first row) t (omega arith), le-leb t (last row) l, le-ltb (first row) t (omega arith))
-  row-begins (row ∷ rows) (suc j) h e l =
-      rw (with-row t row (sectionOf rows t)) (go (isActive t row) (ltb (first row) t) (row-begins rows j (omega arith) e l))
-    where
-      go : (a b : Bool) → sectionOf rows t .begins ≡ true → taking a b (ltb t (last row)) (bit row t) (sectionOf rows t) .begins ≡ true
-      go false b q = q
-      go true true q = q
-      go true false q = refl
-
 module _ (rows : List ℕ) (s : Spans rows (firsts rows) (lasts rows)) (t : ℕ) where
   pub none-begins : sectionOf rows t .begins ≡ false → (j : ℕ) → j < length rows → firsts rows j ≡ t → ⊥
-  none-begins e j h q =
-      false≢true (sym e ∙ row-begins t rows j h q (omega (arith, in-order rows s j h)))
+  none-begins e j h q = false≢true (sym e ∙ section-begins rows s t .1 (record { row = j; there = h; here = q }))
 
   -- where the next row to begin does not begin at t, none does
   pub next-only : (begunBefore rows t < length rows → firsts rows (begunBefore rows t) ≡ t → ⊥) → (j : ℕ) → j < length rows → firsts rows j ≡ t → ⊥
@@ -139,22 +97,22 @@ module _ (rows : List ℕ) (s : Spans rows (firsts rows) (lasts rows)) (t : ℕ)
   begun-next = go (sectionOf rows t .begins) refl
     where
       go : (b : Bool) → sectionOf rows t .begins ≡ b → begunBefore rows (suc t) ≡ more b (begunBefore rows t)
-      go true e = one (begins-row t rows e)
+      go true e = one (section-begins rows s t .0 e)
         where
-          one : BeginsAt rows t → begunBefore rows (suc t) ≡ suc (begunBefore rows t)
+          one : Begins rows t → begunBefore rows (suc t) ≡ suc (begunBefore rows t)
           one b =
-              begun-is (suc t) rows (s .rising) (suc (b .row)) (b .within) (λ i l. upto i (lt-tri i (b .row)) l) (λ i l h. omega (arith, s .rising (b .row) i l h, b .begins))
-              ∙ ap suc (sym (begun-is t rows (s .rising) (b .row) (le-of-lt (b .within)) (λ i l. omega (arith, s .rising i (b .row) l (b .within), b .begins)) (λ i l h. from i (lt-tri i (b .row)) l h)))
+              begun-is (suc t) rows (s .rising) (suc (b .row)) (b .there) (λ i l. upto i (lt-tri i (b .row)) l) (λ i l h. omega (arith, s .rising (b .row) i l h, b .here))
+              ∙ ap suc (sym (begun-is t rows (s .rising) (b .row) (le-of-lt (b .there)) (λ i l. omega (arith, s .rising i (b .row) l (b .there), b .here)) (λ i l h. from i (lt-tri i (b .row)) l h)))
             where
               upto : (i : ℕ) → (i < b .row) ⊎ ((i ≡ b .row) ⊎ (b .row < i)) → i < suc (b .row) → firsts rows i < suc t
-              upto i (inl l) h = omega (arith, s .rising i (b .row) l (b .within), b .begins)
-              upto i (inr (inl q)) h = omega (arith, ap (firsts rows) q, b .begins)
+              upto i (inl l) h = omega (arith, s .rising i (b .row) l (b .there), b .here)
+              upto i (inr (inl q)) h = omega (arith, ap (firsts rows) q, b .here)
               upto i (inr (inr l)) h = absurd (omega arith)
 
               from : (i : ℕ) → (i < b .row) ⊎ ((i ≡ b .row) ⊎ (b .row < i)) → b .row ≤ i → i < length rows → t ≤ firsts rows i
               from i (inl l) h g = absurd (omega arith)
-              from i (inr (inl q)) h g = omega (arith, ap (firsts rows) q, b .begins)
-              from i (inr (inr l)) h g = omega (arith, s .rising (b .row) i l g, b .begins)
+              from i (inr (inl q)) h g = omega (arith, ap (firsts rows) q, b .here)
+              from i (inr (inr l)) h g = omega (arith, s .rising (b .row) i l g, b .here)
       go false e =
           begun-is (suc t) rows (s .rising) (begunBefore rows t) (begun-few t rows)
           (λ i l. omega (arith, begun-are t rows (s .rising) i (omega (arith, begun-few t rows)) .0 l))

@@ -10,12 +10,13 @@ use native.Mathlib.Nat.{pow-suc}
 use native.Mathlib.Omega.{arith}
 use Prim.Native.Nat.{_*_, _+_, _<_, _^_, suc, suc-le-suc, zero, zero-le, ℕ, _≤_}
 use Rattle.decoding.specs.LiveRows.{EndsAre, activeMarks, isLive, liveMarks, markOf, marks}
+use Rattle.trellises.proofs.OneBegins.{ordered}
 use Rattle.trellises.proofs.OneMoreRow.{active-ends, and-false, live-next, live-now}
 use Rattle.trellises.specs.SectionOf.{isActive}
-use Rattle.words.proofs.Span.{rising-apart, zero-one}
+use Rattle.words.proofs.Span.{rising-apart}
 use Rattle.words.proofs.Word.{bits-below, half}
 use Rattle.words.specs.Ends.{first, firsts, last, lasts}
-use Rattle.words.specs.Span.{First, Last, Spans}
+use Rattle.words.specs.Span.{Last, Spans}
 use Rattle.words.specs.Word.{bit}
 
 -- ---- rows marked by a test
@@ -58,14 +59,6 @@ module _ (P : ℕ → Bool) where
 
 -- ---- one row
 
--- a word's first one is not after its last
-pub first-before-last : {w f l : ℕ} → First w f → Last w l → f ≤ l
-first-before-last {w} {f} {l} a b = go (decLt l f)
-  where
-    go : Dec (l < f) → f ≤ l
-    go (yes h) = absurd (zero-one (a .zeros l h) (b .one))
-    go (no h) = omega arith
-
 and-same : (a b : Bool) → (a ≡ true → b ≡ true) → (a && b) ≡ a
 and-same true b h = h refl
 and-same false b h = refl
@@ -94,7 +87,7 @@ module _ (t row : ℕ) where
 
 module _ (rows : List ℕ) (s : Spans rows (firsts rows) (lasts rows)) where
   pub in-order : (j : ℕ) → j < length rows → firsts rows j ≤ lasts rows j
-  in-order j h = first-before-last (s .first j h) (s .last j h)
+  in-order j h = ordered (s .first j h) (s .last j h)
 
   -- behind section t the row that ends there is live no more
   pub with-ending : (ends : List ℕ) (t : ℕ) → EndsAre rows ends → t < 64 → liveMarks rows (suc t) + markOf (getD ends t 0) ≡ activeMarks rows t

@@ -8,14 +8,16 @@ use mathlib.Core.Path.{ap, ap₂, refl, subst, sym, _∙_, _≡_}
 use native.Mathlib.Nat.{lt-of-lt-of-le}
 use native.Mathlib.Omega.{arith}
 use Prim.Native.Nat.{_%_, _*_, _+_, _-_, _<_, _^_, suc, zero, zero-le, ℕ, _≤_}
-use Rattle.decoding.proofs.BegunRows.{BeginsAt, begins-row, next-only, none-begins}
+use Rattle.decoding.proofs.BegunRows.{next-only, none-begins}
 use Rattle.decoding.proofs.LiveMarks.{last-active, marks-below, marks-bit, with-beginning, with-ending, without-beginning}
 use Rattle.decoding.specs.LiveRows.{EndsAre, PassedTo, PlateRows, activeMarks, begunBefore, liveMarks, markOf}
 use Rattle.plates.specs.Profile.{live}
 use Rattle.trellises.proofs.AmongRows.{among-first, section-of-active, shifted-one}
+use Rattle.trellises.proofs.OneBegins.{section-begins}
 use Rattle.trellises.specs.declared.Section.{Section}
 use Rattle.trellises.specs.RowsAmong.{rowsAmong}
 use Rattle.trellises.specs.SectionOf.{held, isActive, sectionOf}
+use Rattle.trellises.specs.Smallest.{Begins}
 use Rattle.words.proofs.Ends.{some-pos}
 use Rattle.words.proofs.Span.{first-unique, last-unique}
 use Rattle.words.specs.Ends.{FirstOne, LastOne, firsts, last, lasts}
@@ -97,21 +99,21 @@ module _ {rows : List ℕ} {k : ℕ} (p : PlateRows rows k) where
 
       -- the row that begins is the last of the active rows
       module _ (b : c .begins ≡ true) {r : ℕ} (l : LastOne which r) where
-        there : BeginsAt plate t
-        there = begins-row t plate (begins-is ∙ b)
+        begun : Begins plate t
+        begun = section-begins plate (p .spans) t .0 (begins-is ∙ b)
 
-        is-row : r ≡ there .row
+        is-row : r ≡ begun .row
         is-row =
-            let m = last-active plate (p .spans) t (there .row) (there .within) (there .begins) in
-            last-unique (subst (λ (w : ℕ). Last w r) e (l .some (omega (arith, some-pos (activeMarks plate t) (there .row) (m .one))))) m
+            let m = last-active plate (p .spans) t (begun .row) (begun .there) (begun .here) in
+            last-unique (subst (λ (w : ℕ). Last w r) e (l .some (omega (arith, some-pos (activeMarks plate t) (begun .row) (m .one))))) m
 
         pub begun-within : r < 64
-        begun-within = omega (arith, is-row, there .within, counted, p .few)
+        begun-within = omega (arith, is-row, begun .there, counted, p .few)
 
         begun-mark : liveMarks plate t + 1 * 2 ^ r % 2 ^ 64 ≡ which
         begun-mark =
             ap (λ (m : ℕ). liveMarks plate t + m) (shifted-one r begun-within ∙ ap (λ (j : ℕ). 2 ^ j) is-row)
-            ∙ with-beginning plate (p .spans) t (there .row) (there .within) (there .begins) ∙ sym e
+            ∙ with-beginning plate (p .spans) t (begun .row) (begun .there) (begun .here) ∙ sym e
 
         pub begun-among : 1 * 2 ^ r % 2 ^ 64 ≤ which
         begun-among = omega (arith, begun-mark)

@@ -4,8 +4,8 @@ use mathlib.Core.Bool.{Bool, cond, false, true}
 use mathlib.Core.List.{List, [], _∷_}
 use mathlib.Core.Path.{ap, refl, _≡_}
 use Prim.Native.Nat.{suc, ℕ}
-use Rattle.trellises.proofs.SectionAgrees.{activeAt}
 use Rattle.trellises.specs.SectionOf.{activeRows, isActive, keep, sectionOf, withActive, withRow}
+use Rattle.trellises.specs.Smallest.{activeAt}
 use Rattle.words.specs.Choice.{more}
 
 pub active-only : (rows : List ℕ) (t : ℕ) → sectionOf (activeRows rows t) t ≡ sectionOf rows t

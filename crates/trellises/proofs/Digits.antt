@@ -3,10 +3,10 @@ use lib.Arith.{mod-mul}
 use lib.Pow.{pow-pos, shr-shr}
 use mathlib.Core.Bool.{Bool, cond, false, true}
 use mathlib.Core.Path.{ap, ap₂, sym, _∙_, _≡_}
-use native.Mathlib.Nat.{mul-assoc, pow-suc}
+use native.Mathlib.Nat.{div-add-mod', div-le-self, mul-assoc, mul-le-mul-right, pow-suc}
 use native.Mathlib.Numerals.{one-add}
 use native.Mathlib.Omega.{arith}
-use Prim.Native.Nat.{_%_, _*_, _+_, _/_, _^_, suc, ℕ}
+use Prim.Native.Nat.{_%_, _*_, _+_, _/_, _^_, suc, ℕ, _≤_}
 use Rattle.trellises.specs.Numbers.{without}
 use Rattle.words.proofs.Word.{half}
 use Rattle.words.specs.Choice.{gather, pull, put}
@@ -55,3 +55,7 @@ pub gathered : (k : ℕ) (P : ℕ → Bool) (S : ℕ → ℕ) (a p : Bool) (v : 
 gathered k P S a p v e =
     ap₂ (λ (d u : ℕ). pull (P 0) d (gather k (λ j. P (suc j)) u)) (put-odd a S v) (put-half a S v)
     ∙ ap (λ (b : Bool). pull b (odd a v) (gather k (λ j. P (suc j)) (S (rest a v)))) e
+
+-- a number does not grow where a digit is taken out
+pub without-at-most : (w x : ℕ) → x / w / 2 * w + x % w ≤ x
+without-at-most w x = omega (arith, div-add-mod' x w, mul-le-mul-right w (div-le-self (x / w) 2))

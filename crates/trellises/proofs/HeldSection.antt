@@ -15,10 +15,11 @@ use Prim.Native.Nat.{_%_, _*_, _+_, _/_, _<_, _^_, suc, suc-le-suc, zero, zero-l
 use Rattle.plates.specs.Profile.{live}
 use Rattle.trellises.proofs.Digits.{mod-digit}
 use Rattle.trellises.proofs.OneMoreRow.{and-false, taking, with-row}
-use Rattle.trellises.proofs.SectionAgrees.{activeAt, live-count}
+use Rattle.trellises.proofs.SectionAgrees.{live-count}
 use Rattle.trellises.proofs.SectionFits.{column-below, count-at-most, ending-at-most}
 use Rattle.trellises.specs.declared.Section.{Section}
 use Rattle.trellises.specs.SectionOf.{HasRoom, held, isActive, quiet, sectionOf, withActive, withRow}
+use Rattle.trellises.specs.Smallest.{activeAt}
 use Rattle.trellises.specs.States.{active}
 use Rattle.words.proofs.Ends.{first-one-is, last-one-is}
 use Rattle.words.proofs.Word.{bit-div, bit-lt}

@@ -17,4 +17,6 @@ pub mod AcceptedIsPrepared
 pub mod ActiveNumber
 pub mod PlateTrellis
 pub mod WolfMassey
+pub mod BranchDetermined
+pub mod OneBegins
 pub mod AmongRows

@@ -6,7 +6,7 @@ use mathlib.Core.Logic.{inl, inr, _⊎_}
 use mathlib.Core.Path.{ap, refl, subst, sym, _∙_, _≡_}
 use native.Mathlib.Omega.{arith}
 use Prim.Native.Nat.{_+_, _<_, _^_, ℕ, _≤_}
-use Rattle.plates.proofs.SoundIsPrepared.{prepared}
+use Rattle.plates.proofs.SoundIsPrepared.{prepared, used-rows}
 use Rattle.plates.specs.declared.Plate.{Plate}
 use Rattle.plates.specs.declared.Refusal.{Refusal}
 use Rattle.plates.specs.declared.Refusal.the-variants.{NoSuchBranch}
@@ -14,16 +14,32 @@ use Rattle.plates.specs.Prepare.{notPrepared, rowsOf}
 use Rattle.plates.specs.Profile.{liveAt}
 use Rattle.plates.specs.Refusals.{Passes}
 use Rattle.plates.specs.Sound.{Sound}
-use Rattle.trellises.proofs.SectionAgrees.{Agrees, section-agrees}
+use Rattle.trellises.proofs.HeldSection.{held-whole}
+use Rattle.trellises.proofs.SectionAgrees.{Agrees, live-count, section-agrees}
 use Rattle.trellises.proofs.SectionBranches.{Numbered, below-high, below-low, has-number, leaves-high, leaves-low, leaving-is, number-has, other-bit}
-use Rattle.trellises.proofs.SectionFits.{begun}
+use Rattle.trellises.proofs.SectionFits.{begun, ending-at-most, few-active, narrow}
 use Rattle.trellises.specs.Branching.{Branches, branchConditions}
 use Rattle.trellises.specs.declared.Next.the-variants.{NoBranch, Refused, State}
 use Rattle.trellises.specs.declared.Section.{Section}
 use Rattle.trellises.specs.Following.{nextOf}
 use Rattle.trellises.specs.Numbers.{bitOf, branchCount, leadsTo, leaves}
-use Rattle.trellises.specs.SectionOf.{sectionOf}
+use Rattle.trellises.specs.SectionOf.{held, sectionOf}
 use Rattle.words.specs.Word.{bit}
+
+-- the section that the code finds of a sound plate
+module _ {plate : Plate} (s : Sound plate) (depth : ℕ) (h : depth < plate .n) (c : Section) (e : c ≡ held (sectionOf (rowsOf plate) depth)) where
+  pub found : c ≡ sectionOf (rowsOf plate) depth
+  found = e ∙ held-whole (rowsOf plate) depth (omega (arith, used-rows plate (s .few) (s .table), s .few))
+
+  pub found-live : (c .live ≡ liveAt (rowsOf plate) depth) × (c .live ≤ 12)
+  found-live =
+      let l : c .live ≡ sectionOf (rowsOf plate) depth .live = ap (λ (z : Section). z .live) found in
+      (l ∙ live-count depth (rowsOf plate), omega (arith, narrow s depth (omega arith)))
+
+  pub found-ending : c .ending < 64
+  found-ending =
+      let l : c .ending ≡ sectionOf (rowsOf plate) depth .ending = ap (λ (z : Section). z .ending) found in
+      omega (arith, ending-at-most depth (rowsOf plate), few-active s depth (omega arith), narrow s depth (omega arith))
 
 module _ (plate : Plate) (s : Sound plate) (depth state bit : ℕ) where
   -- refusal 5 is passed

@@ -17,10 +17,11 @@ use Rattle.trellises.proofs.ParityDigits.{parity-digits}
 use Rattle.trellises.specs.declared.Section.{Section}
 use Rattle.trellises.specs.Numbers.{bitOf, branchCount, leadsTo, leaves, without}
 use Rattle.trellises.specs.SectionOf.{isActive, quiet, sectionOf}
+use Rattle.trellises.specs.Smallest.{activeAt}
 use Rattle.trellises.specs.States.{active, stateOf}
 use Rattle.words.proofs.Parity.{differ-mod, parity-zero}
 use Rattle.words.proofs.Word.{bit-lt, bit-xor, bit-zero}
-use Rattle.words.specs.Choice.{count, more, pull, spread}
+use Rattle.words.specs.Choice.{more, pull, spread}
 use Rattle.words.specs.Ends.{first, firsts, last, lasts}
 use Rattle.words.specs.Parity.{parity}
 use Rattle.words.specs.Span.{Spans}
@@ -30,10 +31,6 @@ use Rattle.words.specs.Word.{bit}
 -- the rows that branch v of section t takes
 abbrev pub chosen : List ℕ → ℕ → ℕ → ℕ
 chosen rows t v = spread (length rows) (active (firsts rows) (lasts rows) t) v
-
--- how many rows are active in section t
-abbrev pub activeAt : List ℕ → ℕ → ℕ
-activeAt rows t = count (length rows) (active (firsts rows) (lasts rows) t)
 
 module _ (t : ℕ) where
   -- ---- the counts

@@ -3,18 +3,19 @@ use lib.Bits.{bitXor, differ, xor-shifted}
 use lib.Pow.{low}
 use mathlib.Core.Bool.{Bool, cond, false, true}
 use mathlib.Core.List.{List}
-use mathlib.Core.Logic.{inl, inr, _⊎_}
+use mathlib.Core.Logic.{inl, inr, _↔_, _⊎_}
 use mathlib.Core.Path.{ap, refl, subst, sym, _∙_, _≡_}
 use native.Mathlib.Decide.{decLt}
 use native.Mathlib.Nat.{add-comm, mod-eq-of-lt, one-mul}
 use native.Mathlib.Omega.{arith}
 use Prim.Native.Nat.{_%_, _*_, _+_, _-_, _<_, _^_, ℕ}
 use Rattle.trellises.proofs.ParityDigits.{parity-power}
-use Rattle.trellises.proofs.SectionAgrees.{Agrees, activeAt, chosen}
+use Rattle.trellises.proofs.SectionAgrees.{Agrees, chosen}
 use Rattle.trellises.proofs.TrellisSpells.{table-at, table-length}
 use Rattle.trellises.specs.declared.Section.{Section}
 use Rattle.trellises.specs.Graph.{Branch, Has, branchAt}
 use Rattle.trellises.specs.Numbers.{bitOf, branchCount, leadsTo, leaves}
+use Rattle.trellises.specs.Smallest.{activeAt}
 use Rattle.trellises.specs.States.{branchOf, trellis}
 use Rattle.words.proofs.Parity.{differ-mod, parity-xor}
 use Rattle.words.specs.Ends.{firsts, lasts}
@@ -59,6 +60,9 @@ module _ (rows : List ℕ) (t : ℕ) (c : Section) (g : Agrees rows t c) where
         spells = ap (λ (x : Branch). x .out) e ∙ sym (g .spells (m .number)) ∙ m .spells;
         leads = ap (λ (x : Branch). x .to) e ∙ sym (g .to-state (m .number) l) ∙ m .leads;
       }
+
+  pub section-branches : (a b to : ℕ) → Has (trellis rows (firsts rows) (lasts rows)) t a b to ↔ Numbered c a b to
+  section-branches a b to = (has-number a b to, number-has a b to)
 
 -- ---- the branches that leave a state: its own number and, where a row begins, the one that takes that row too
 

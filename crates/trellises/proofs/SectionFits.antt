@@ -12,9 +12,10 @@ use Rattle.plates.specs.declared.Plate.{Plate}
 use Rattle.plates.specs.Prepare.{rowsOf}
 use Rattle.plates.specs.Sound.{Sound}
 use Rattle.trellises.proofs.OneMoreRow.{Rising, active-ends, begins-alone, rising-rest, taking, with-row}
-use Rattle.trellises.proofs.SectionAgrees.{active-count, activeAt, live-count}
+use Rattle.trellises.proofs.SectionAgrees.{active-count, live-count}
 use Rattle.trellises.specs.declared.Section.{Section}
 use Rattle.trellises.specs.SectionOf.{isActive, sectionOf}
+use Rattle.trellises.specs.Smallest.{activeAt}
 use Rattle.words.proofs.Word.{bit-lt, half}
 use Rattle.words.specs.Choice.{count, more}
 use Rattle.words.specs.Ends.{first, firsts, last, lasts}

@@ -1,6 +1,7 @@
 // The trellis of a plate: its sections as plain numbers, and its branches.
 use plates::Refusal;
 
+mod branching;
 pub mod sections;
 
 // A section of the trellis as numbers. A branch of it is a number whose digits say which of the active rows it takes, the row with

@@ -33,12 +33,14 @@ fn with_row(section: Section, row: u64, t: usize) -> Section
     if last < t {
         return section;
     }
+    let digit = (row >> t) % 2;
+    let column = (section.column << 1) + digit;
     Section {
         live: choose(first < t, section.live + 1, section.live),
         begins: either(first == t, section.begins),
         ends: either(last == t, section.ends),
         ending: choose(last == t, 0, section.ending + 1),
-        column: (section.column << 1) + (row >> t) % 2,
+        column,
     }
 }
 

@@ -11,9 +11,6 @@ use Rattle.trellises.specs.declared.Section.{Section}
 use Rattle.trellises.proofs.HeldSection.{has-room, held-on, quiet-past}
 use Rattle.trellises.proofs.sections.section_of.Statement.{statement}
 use Rattle.trellises.proofs.sections.section_of.Tie as tie
-use Rattle.trellises.proofs.sections.section_of.Reads as reads
-use Rattle.trellises.proofs.sections.section_of.Lts as lts
-use Rattle.trellises.proofs.sections.with_row.Reads as with-row-reads
 
 abbrev Inv-loop : tie.InvT-loop
 Inv-loop rows t section₀ j₀ section j = (j ≤ length rows) × (section ≡ held (sectionOf (drop j rows) t))

@@ -1,13 +1,8 @@
+-- `trellises::sections::with_row` meets its contract: a row that begins later or ended before changes nothing.
 use borrow.Author.Needs.{needs}
 use Rattle.trellises.proofs.HeldSection.{held-active, held-early, held-late}
 use Rattle.trellises.proofs.sections.with_row.Statement.{statement}
 use Rattle.trellises.proofs.sections.with_row.Tie as tie
-use Rattle.trellises.proofs.sections.with_row.Reads as reads
-use Rattle.trellises.proofs.sections.with_row.Lts as lts
-use Rattle.trellises.proofs.sections.choose.Reads as choose-reads
-use Rattle.trellises.proofs.sections.either.Reads as either-reads
-use Rattle.words.proofs.first_one.Reads as first-one-reads
-use Rattle.words.proofs.last_one.Reads as last-one-reads
 
 first-one-requires : tie.Need-first-one-requires
 first-one-requires c κs = search needs
@@ -25,6 +20,12 @@ returns-2 c =
     let s = c .before .before .before .before in
     held-late (s .args .t) (s .args .row) (s .args .section) (s .pre) (s .fits .row .fits) (c .before .before .before .first-one .result)
     (c .before .before .before .first-one .ensures) (c .before .before .if1 .left) (c .before .last-one .result) (c .before .last-one .ensures) (c .if2 .taken)
+
+shr-digit : tie.Need-shr-digit
+shr-digit c = search needs
+
+add-column : tie.Need-add-column
+add-column c = search needs
 
 add-choose : tie.Need-add-choose
 add-choose c = search needs
@@ -44,19 +45,13 @@ add-choose-2 c = search needs
 choose-requires-2 : tie.Need-choose-requires-2
 choose-requires-2 c κs = search needs
 
-shr-t18 : tie.Need-shr-t18
-shr-t18 c = search needs
-
-add-t20 : tie.Need-add-t20
-add-t20 c = search needs
-
 returns-3 : tie.Need-returns-3
 returns-3 c =
     let n = c .before .before .before .before .before .before .before in
     let s = n .before .before .before .before in
     held-active (s .args .t) (s .args .row) (s .args .section) (s .pre) (s .fits .row .fits) (n .before .before .before .first-one .result)
     (n .before .before .before .first-one .ensures) (n .before .before .if1 .left) (n .before .last-one .result) (n .before .last-one .ensures) (n .if2 .left)
-    (c .before .before .before .before .before .choose .ensures) (c .before .before .before .before .either .ensures) (c .before .before .before .either2 .ensures) (c .before .choose2 .ensures)
+    (c .before .before .before .before .choose .ensures) (c .before .before .before .either .ensures) (c .before .before .either2 .ensures) (c .choose2 .ensures)
 
 pub with-row-spec : {M : Type 1} → statement M
 with-row-spec =
@@ -66,12 +61,12 @@ with-row-spec =
     returns
     last-one-requires
     returns-2
+    shr-digit
+    add-column
     add-choose
     choose-requires
     either-requires
     either-requires-2
     add-choose-2
     choose-requires-2
-    shr-t18
-    add-t20
     returns-3)
