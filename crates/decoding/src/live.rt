@@ -64,12 +64,12 @@ pub fn pass_back(rows: &[u64; 64], k: usize, ends: &[u8; 64], live: u64, t: usiz
     if section.begins {
         let last = words::last_one(active);
         return Passed {
-            section: section,
+            section,
             live: active - (1 << last),
         };
     }
     Passed {
-        section: section,
+        section,
         live: active,
     }
 }
@@ -92,7 +92,7 @@ pub fn pass_on(
     let active = live + beginning_mark(rows, k, next, t);
     let section = trellises::sections::section_among(rows, active, t);
     Passed {
-        section: section,
+        section,
         live: active - mark_of(ends[t]),
     }
 }
