@@ -22,3 +22,8 @@ pub mod Runs
 pub mod Masks
 pub mod Parities
 pub mod Progress
+pub mod LiveMarks
+pub mod BegunRows
+pub mod PlateRowsOf
+pub mod EndsFound
+pub mod PassedRows

@@ -1,15 +1,15 @@
 -- The live rows of a plate as the bits of one number, kept from section to section.
-use Prim.Native.Nat.{ℕ, zero, suc, _+_, _*_, _^_, _≤_, _<_}
-use lib.Dec.{ltb, leb}
-use lib.ListN.{length, getD, take}
-use mathlib.Core.Bool.{Bool, true, false, cond, _&&_}
+use lib.Dec.{leb, ltb}
+use lib.ListN.{getD, length, take}
+use mathlib.Core.Bool.{_&&_, Bool, cond}
 use mathlib.Core.List.{List, [], _∷_}
-use mathlib.Core.Logic.{_⊎_}
 use mathlib.Core.Path.{_≡_}
-use Rattle.words.specs.Ends.{first, last, firsts, lasts}
-use Rattle.words.specs.Span.{Spans}
-use Rattle.trellises.specs.SectionOf.{isActive, sectionOf}
+use Prim.Native.Nat.{_*_, _+_, _<_, _^_, suc, zero, ℕ, _≤_}
 use Rattle.decoding.specs.declared.live.Passed.{Passed}
+use Rattle.trellises.specs.SectionOf.{isActive, sectionOf}
+use Rattle.words.specs.Choice.{more}
+use Rattle.words.specs.Ends.{first, firsts, last, lasts}
+use Rattle.words.specs.Span.{Spans}
 
 -- a row is live at depth t
 abbrev pub isLive : ℕ → ℕ → Bool
@@ -19,6 +19,11 @@ isLive t row = ltb (first row) t && leb t (last row)
 abbrev pub marks : (ℕ → Bool) → List ℕ → ℕ
 marks P [] = 0
 marks P (row ∷ rows) = marks P rows * 2 + cond (P row) 1 0
+
+-- the number whose only bit is that of a row, by one more than the row; and 0 where there is no row
+abbrev pub markOf : ℕ → ℕ
+markOf zero = 0
+markOf (suc j) = 2 ^ j
 
 -- the rows that are live at depth t, and those that are active in section t
 abbrev pub liveMarks : List ℕ → ℕ → ℕ
@@ -42,7 +47,7 @@ pub record EndsAre (rows ends : List ℕ) : Type 0 where
 -- how many rows begin before depth t
 abbrev pub begunBefore : List ℕ → ℕ → ℕ
 begunBefore [] t = 0
-begunBefore (row ∷ rows) t = cond (ltb (first row) t) 1 0 + begunBefore rows t
+begunBefore (row ∷ rows) t = more (ltb (first row) t) (begunBefore rows t)
 
 -- a section passed: its numbers, and the live rows on the other side
 pub record PassedTo (rows : List ℕ) (t depth : ℕ) (r : Passed) : Type 0 where

@@ -2,8 +2,8 @@
 use trellises::Section;
 ghost use lib.ListN.{take};
 ghost use mathlib.Core.Path.{_≡_};
-ghost use Prim.Native.Nat.{suc, _<_};
-ghost use Rattle.decoding.specs.LiveRows.{EndsAre, PassedTo, PlateRows, begunBefore, liveMarks};
+ghost use Prim.Native.Nat.{suc, _+_, _<_, _≤_};
+ghost use Rattle.decoding.specs.LiveRows.{EndsAre, PassedTo, PlateRows, activeMarks, begunBefore, liveMarks, markOf};
 
 // A section passed, and the rows that are live on its other side.
 pub struct Passed {
@@ -16,7 +16,40 @@ pub fn ending_rows(rows: &[u64; 64], k: usize) -> [u8; 64]
     requires { ⌜ PlateRows (now rows) k ⌝ }
     ensures { λ r. ⌜ EndsAre (take k (now (rows .entry))) r ⌝ }
 {
-    [0u8; 64]
+    let mut ends = [0u8; 64];
+    let mut j = 0;
+    while j < k {
+        let last = words::last_one(rows[j]);
+        ends[last] = (j + 1) as u8;
+        j += 1;
+    }
+    ends
+}
+
+// The bit of a row, by one more than the row; 0 where there is none.
+fn mark_of(following: u8) -> u64
+    requires { ⌜ following ≤ 64 ⌝ }
+    ensures { λ r. ⌜ r ≡ markOf following ⌝ }
+{
+    if following == 0 {
+        return 0;
+    }
+    1 << (following - 1)
+}
+
+// The bit of row `next` where that row begins at t; 0 where it does not, and where there is no such row.
+fn beginning_mark(rows: &[u64; 64], k: usize, next: usize, t: usize) -> u64
+    requires { ⌜ PlateRows (now rows) k ⌝ }
+    requires { ⌜ next ≡ begunBefore (take k (now rows)) t ⌝ }
+    ensures { λ r. ⌜ liveMarks (take k (now (rows .entry))) t + r ≡ activeMarks (take k (now (rows .entry))) t ⌝ }
+{
+    if k <= next {
+        return 0;
+    }
+    if words::first_one(rows[next]) != t {
+        return 0;
+    }
+    1 << next
 }
 
 // Section t passed from its far side: the row that ends there joins the live rows, and the row that begins there leaves them.
@@ -26,15 +59,18 @@ pub fn pass_back(rows: &[u64; 64], k: usize, ends: &[u8; 64], live: u64, t: usiz
     requires { ⌜ (t < 64) × (live ≡ liveMarks (take k (now rows)) (suc t)) ⌝ }
     ensures { λ r. ⌜ PassedTo (take k (now (rows .entry))) t t r ⌝ }
 {
+    let active = live + mark_of(ends[t]);
+    let section = trellises::sections::section_among(rows, active, t);
+    if section.begins {
+        let last = words::last_one(active);
+        return Passed {
+            section,
+            live: active - (1 << last),
+        };
+    }
     Passed {
-        section: Section {
-            live: 0,
-            begins: false,
-            ends: false,
-            ending: 0,
-            column: 0,
-        },
-        live: 0,
+        section,
+        live: active,
     }
 }
 
@@ -53,14 +89,10 @@ pub fn pass_on(
     requires { ⌜ (t < 64) × (live ≡ liveMarks (take k (now rows)) t) × (next ≡ begunBefore (take k (now rows)) t) ⌝ }
     ensures { λ r. ⌜ PassedTo (take k (now (rows .entry))) t (suc t) r ⌝ }
 {
+    let active = live + beginning_mark(rows, k, next, t);
+    let section = trellises::sections::section_among(rows, active, t);
     Passed {
-        section: Section {
-            live: 0,
-            begins: false,
-            ends: false,
-            ending: 0,
-            column: 0,
-        },
-        live: 0,
+        section,
+        live: active - mark_of(ends[t]),
     }
 }

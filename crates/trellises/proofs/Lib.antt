@@ -19,3 +19,4 @@ pub mod PlateTrellis
 pub mod WolfMassey
 pub mod BranchDetermined
 pub mod OneBegins
+pub mod AmongRows

@@ -20,7 +20,7 @@ use Rattle.words.specs.Span.{First, Last, Spans}
 use Rattle.words.specs.Word.{bit}
 
 -- a row with a first and a last one begins at or before it ends
-ordered : {w p q : ℕ} → First w p → Last w q → p ≤ q
+pub ordered : {w p q : ℕ} → First w p → Last w q → p ≤ q
 ordered {w} {p} {q} f l = go (decLt q p)
   where
     go : Dec (q < p) → p ≤ q

@@ -6,3 +6,4 @@ pub mod SectionOf
 pub mod Following
 pub mod Smallest
 pub mod Beginnings
+pub mod RowsAmong

@@ -1,0 +1,144 @@
+-- A section passed with the rows that are active in it: its numbers, and the rows that are live on either side.
+use lib.ListN.{getD, length, take}
+use lib.Pow.{pow-mono}
+use lib.Seq.{getD-take, length-take-le}
+use mathlib.Core.Bool.{false, true}
+use mathlib.Core.List.{List}
+use mathlib.Core.Path.{ap, ap₂, refl, subst, sym, _∙_, _≡_}
+use native.Mathlib.Nat.{lt-of-lt-of-le}
+use native.Mathlib.Omega.{arith}
+use Prim.Native.Nat.{_%_, _*_, _+_, _-_, _<_, _^_, suc, zero, zero-le, ℕ, _≤_}
+use Rattle.decoding.proofs.BegunRows.{next-only, none-begins}
+use Rattle.decoding.proofs.LiveMarks.{last-active, marks-below, marks-bit, with-beginning, with-ending, without-beginning}
+use Rattle.decoding.specs.LiveRows.{EndsAre, PassedTo, PlateRows, activeMarks, begunBefore, liveMarks, markOf}
+use Rattle.plates.specs.Profile.{live}
+use Rattle.trellises.proofs.AmongRows.{among-first, section-of-active, shifted-one}
+use Rattle.trellises.proofs.OneBegins.{section-begins}
+use Rattle.trellises.specs.declared.Section.{Section}
+use Rattle.trellises.specs.RowsAmong.{rowsAmong}
+use Rattle.trellises.specs.SectionOf.{held, isActive, sectionOf}
+use Rattle.trellises.specs.Smallest.{Begins}
+use Rattle.words.proofs.Ends.{some-pos}
+use Rattle.words.proofs.Span.{first-unique, last-unique}
+use Rattle.words.specs.Ends.{FirstOne, LastOne, firsts, last, lasts}
+use Rattle.words.specs.Span.{First, Last}
+
+module _ {rows : List ℕ} {k : ℕ} (p : PlateRows rows k) where
+  abbrev plate : List ℕ
+  plate = take k rows
+
+  pub counted : length (take k rows) ≡ k
+  counted = let h : k ≤ length rows = omega (arith, p .table, p .few) in length-take-le k rows h
+
+  -- a row of the table is a row of the plate
+  module _ (j : ℕ) (h : j < k) where
+    within : j < length plate
+    within = omega (arith, counted)
+
+    one-there : 0 < getD rows j 0
+    one-there = subst (λ (w : ℕ). 0 < w) (getD-take k rows j 0 h) (some-pos (getD plate j 0) (firsts plate j) (p .spans .first j within .one))
+
+    pub row-first : {r : ℕ} → FirstOne (getD rows j 0) r → r ≡ firsts (take k rows) j
+    row-first {r} f =
+        first-unique (f .some one-there) (subst (λ (w : ℕ). First w (firsts plate j)) (getD-take k rows j 0 h) (p .spans .first j within))
+
+    pub row-last : {r : ℕ} → LastOne (getD rows j 0) r → r ≡ lasts (take k rows) j
+    row-last {r} l =
+        last-unique (l .some one-there) (subst (λ (w : ℕ). Last w (lasts plate j)) (getD-take k rows j 0 h) (p .spans .last j within))
+
+    pub row-ends : {r : ℕ} → LastOne (getD rows j 0) r → r < 64
+    unfolding last
+    row-ends l = omega (arith, row-last l)
+
+  -- ---- section t: what joins the live rows on one side, so that they are the active ones
+
+  module _ (t : ℕ) where
+    active-below : activeMarks plate t < 2 ^ k
+    active-below = subst (λ (n : ℕ). activeMarks plate t < 2 ^ n) counted (marks-below (isActive t) plate)
+
+    pub active-fits : {which : ℕ} → which ≡ activeMarks (take k rows) t → which < 2 ^ 64
+    active-fits e = subst (λ (w : ℕ). w < 2 ^ 64) (sym e) (lt-of-lt-of-le active-below (pow-mono (p .few)))
+
+    -- the next row to begin, where it begins here
+    module _ {next : ℕ} (b : next ≡ begunBefore (take k rows) t) where
+      pub none-joins : (next < k → firsts (take k rows) next ≡ t → ⊥) → liveMarks (take k rows) t + 0 ≡ activeMarks (take k rows) t
+      none-joins n =
+          let here : begunBefore plate t < length plate → firsts plate (begunBefore plate t) ≡ t → ⊥ =
+          λ l e. n (omega (arith, counted)) (ap (firsts plate) b ∙ e) in
+          omega (arith, without-beginning plate (p .spans) t (next-only plate (p .spans) t here))
+
+      pub next-joins : next < k → firsts (take k rows) next ≡ t → liveMarks (take k rows) t + 1 * 2 ^ next % 2 ^ 64 ≡ activeMarks (take k rows) t
+      next-joins h e =
+          ap (λ (m : ℕ). liveMarks plate t + m) (shifted-one next (omega (arith, p .few)))
+          ∙ with-beginning plate (p .spans) t next (omega (arith, counted)) e
+
+    -- the row that ends here
+    module _ {ends : List ℕ} (a : EndsAre (take k rows) ends) (h : t < 64) where
+      pub ending-few : getD ends t 0 ≤ 64
+      ending-few = go (getD ends t 0) refl
+        where
+          go : (n : ℕ) → getD ends t 0 ≡ n → n ≤ 64
+          go zero q = zero-le
+          go (suc j) q = let s = a .some t j h q in omega (arith, counted, p .few)
+
+      pub ending-joins : {live mark : ℕ} → live ≡ liveMarks (take k rows) (suc t) → mark ≡ markOf (getD ends t 0) → live + mark ≡ activeMarks (take k rows) t
+      ending-joins l m = ap₂ _+_ l m ∙ with-ending plate (p .spans) ends t a h
+
+    -- ---- and what leaves them on the other side
+
+    module _ {which : ℕ} {c : Section} (e : which ≡ activeMarks (take k rows) t) (q : c ≡ held (sectionOf (rowsAmong rows which) t)) where
+      -- the section of the active rows is the plate's
+      section-is : c ≡ sectionOf plate t
+      section-is =
+          q ∙ ap (λ (w : ℕ). held (sectionOf (rowsAmong rows w) t)) e
+          ∙ ap (λ (l : List ℕ). held (sectionOf l t)) (among-first k rows (activeMarks plate t) active-below)
+          ∙ section-of-active plate (activeMarks plate t) t (omega (arith, counted, p .few)) (marks-bit (isActive t) plate)
+
+      begins-is : sectionOf plate t .begins ≡ c .begins
+      begins-is = ap (λ (z : Section). z .begins) (sym section-is)
+
+      -- the row that begins is the last of the active rows
+      module _ (b : c .begins ≡ true) {r : ℕ} (l : LastOne which r) where
+        begun : Begins plate t
+        begun = section-begins plate (p .spans) t .0 (begins-is ∙ b)
+
+        is-row : r ≡ begun .row
+        is-row =
+            let m = last-active plate (p .spans) t (begun .row) (begun .there) (begun .here) in
+            last-unique (subst (λ (w : ℕ). Last w r) e (l .some (omega (arith, some-pos (activeMarks plate t) (begun .row) (m .one))))) m
+
+        pub begun-within : r < 64
+        begun-within = omega (arith, is-row, begun .there, counted, p .few)
+
+        begun-mark : liveMarks plate t + 1 * 2 ^ r % 2 ^ 64 ≡ which
+        begun-mark =
+            ap (λ (m : ℕ). liveMarks plate t + m) (shifted-one r begun-within ∙ ap (λ (j : ℕ). 2 ^ j) is-row)
+            ∙ with-beginning plate (p .spans) t (begun .row) (begun .there) (begun .here) ∙ sym e
+
+        pub begun-among : 1 * 2 ^ r % 2 ^ 64 ≤ which
+        begun-among = omega (arith, begun-mark)
+
+        pub begun-leaves : PassedTo (take k rows) t t (record { section = c; live = which - 1 * 2 ^ r % 2 ^ 64 })
+        begun-leaves = record { section = section-is; live = omega (arith, begun-mark) }
+
+      pub none-leaves : c .begins ≡ false → PassedTo (take k rows) t t (record { section = c; live = which })
+      none-leaves b = record {
+        section = section-is;
+        live = e ∙ sym (without-beginning plate (p .spans) t (none-begins plate (p .spans) t (begins-is ∙ b)));
+      }
+
+      -- the row that ends
+      module _ {ends : List ℕ} (a : EndsAre (take k rows) ends) (h : t < 64) {mark : ℕ} (m : mark ≡ markOf (getD ends t 0)) where
+        ended-mark : liveMarks plate (suc t) + mark ≡ which
+        ended-mark = ending-joins a h refl m ∙ sym e
+
+        pub ended-among : mark ≤ which
+        ended-among = omega (arith, ended-mark)
+
+        pub ended-leaves : PassedTo (take k rows) t (suc t) (record { section = c; live = which - mark })
+        ended-leaves = record { section = section-is; live = omega (arith, ended-mark) }
+
+-- the bit of a row, by one more than the row
+pub mark-is : (n : ℕ) → (n ≡ 0 → ⊥) → n ≤ 64 → 1 * 2 ^ (n - 1) % 2 ^ 64 ≡ markOf n
+mark-is zero z h = absurd (z refl)
+mark-is (suc j) z h = let e : suc j - 1 ≡ j = omega arith in ap (λ (i : ℕ). 1 * 2 ^ i % 2 ^ 64) e ∙ shifted-one j h
