@@ -1,7 +1,13 @@
 // Decoding: the codeword of greatest correlation with soft samples.
 use plates::Refusal;
 
+mod choices;
 mod live;
+mod patterns;
+mod states;
+mod step;
+mod sweep;
+mod walk;
 
 // What the steps counted: branches added, and comparisons made.
 pub struct Counts {
