@@ -31,7 +31,7 @@ module _ (t : ℕ) where
   none-yet [] h = refl
   none-yet (row ∷ rows) h = rw (le-ltb (first row) t (h 0 (suc-le-suc zero-le))) (none-yet rows (λ j l. h (suc j) (suc-le-suc l)))
 
-  begun-few : (rows : List ℕ) → begunBefore rows t ≤ length rows
+  pub begun-few : (rows : List ℕ) → begunBefore rows t ≤ length rows
   begun-few [] = zero-le
   begun-few (row ∷ rows) = go (ltb (first row) t) (begun-few rows)
     where

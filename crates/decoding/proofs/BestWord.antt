@@ -11,7 +11,7 @@ use Rattle.decoding.proofs.BestWay.{Way, attains, none-beats}
 use Rattle.decoding.proofs.IntegerOrder.{<ℤ-≤ℤ}
 use Rattle.decoding.proofs.PlateWays.{codeword-way, plate-chain, start-state, way-codeword}
 use Rattle.decoding.proofs.StateChoice.{Under}
-use Rattle.decoding.specs.Backward.{best, counted, word}
+use Rattle.decoding.specs.Backward.{best, counted, wordFrom}
 use Rattle.decoding.specs.declared.Answer.{Answer}
 use Rattle.decoding.specs.Decode.{Best}
 use Rattle.decoding.specs.Metric.{metricOf}
@@ -27,7 +27,7 @@ module _ (plate : Plate) (given : IsPrepared plate) (ys : List ℤ) (size : leng
   sections = sectionOf (rowsOf plate)
 
   abbrev theWord : ℕ
-  theWord = word (sectionOf (rowsOf plate)) ys 0 0
+  theWord = wordFrom (sectionOf (rowsOf plate)) ys 0 0
 
   abbrev theMetric : ℤ
   theMetric = best (sectionOf (rowsOf plate)) ys 0 0

@@ -11,11 +11,11 @@ use native.Mathlib.Nat.{add-mod-right, mod-eq-of-lt, mod-eq-sub-mod}
 use native.Mathlib.Omega.{arith}
 use Prim.Native.Nat.{_*_, _+_, _-_, _<_, _^_, suc, zero, ℕ}
 use Rattle.decoding.proofs.StateChoice.{Beats, kept-beats, preferred-beats}
-use Rattle.decoding.specs.Backward.{follow}
+use Rattle.decoding.specs.Backward.{branchBy}
 use Rattle.decoding.specs.Stepping.{SectionFits}
 use Rattle.decoding.specs.Taking.{added, atState, preferred, taking, takingAlso}
 use Rattle.trellises.specs.declared.Section.{Section}
-use Rattle.trellises.specs.Numbers.{bitOf, branchCount, leadsTo, leaves}
+use Rattle.trellises.specs.Numbers.{bitOf, branchCount, leaves}
 use Rattle.words.proofs.Parity.{parity-power, parity-xor}
 use Rattle.words.specs.Parity.{parity}
 
@@ -79,12 +79,12 @@ module _ (c : Section) (fits : SectionFits c) (i : ℕ) (h : i < 2 ^ c .live) wh
 
   module _ (y : ℤ) (old : ℕ → ℤ) where
     -- z is the branch chosen: its metric and bit are the state's, it is where the bit leads, and it beats every other branch
-    pub record Chosen (z : ℕ) : Type 0 where
+    pub record BestBranch (z : ℕ) : Type 0 where
       pub below : z < branchCount c
       pub leaves-i : leaves c z ≡ i
       pub metric : (atState c y old i) .metric ≡ added c y old z
       pub bit-is : (atState c y old i) .bit ≡ bitOf c z
-      pub follows : follow c i (bitOf c z) ≡ leadsTo c z
+      pub by : branchBy c i (bitOf c z) ≡ z
       pub beats : (x : ℕ) → x < branchCount c → leaves c x ≡ i → (x ≡ z) ⊎ Beats (added c y old z) (bitOf c z) (added c y old x) (bitOf c x)
 
     stay : (b t : Bool) → t ≡ false → cond (b && t) also i ≡ i
@@ -94,20 +94,20 @@ module _ (c : Section) (fits : SectionFits c) (i : ℕ) (h : i < 2 ^ c .live) wh
     go-on : (b t : Bool) → b ≡ true → t ≡ true → cond (b && t) also i ≡ also
     go-on b t e f = ap₂ (λ (u v : Bool). cond (u && v) also i) e f
 
-    follow-self : follow c i (bitOf c i) ≡ leadsTo c i
-    follow-self = ap (leadsTo c) (stay (c .begins) (not (eqb (bitOf c i) (bitOf c i))) (ap not (eq-eqb (bitOf c i) (bitOf c i) refl)))
+    by-self : branchBy c i (bitOf c i) ≡ i
+    by-self = (stay (c .begins) (not (eqb (bitOf c i) (bitOf c i))) (ap not (eq-eqb (bitOf c i) (bitOf c i) refl)))
 
-    follow-also : c .begins ≡ true → follow c i (bitOf c also) ≡ leadsTo c also
-    follow-also b =
-        ap (leadsTo c) (go-on (c .begins) (not (eqb (bitOf c i) (bitOf c also))) b (ap not (ne-eqb (bitOf c i) (bitOf c also) (λ e. two-bits b (sym e)))))
+    by-also : c .begins ≡ true → branchBy c i (bitOf c also) ≡ also
+    by-also b =
+        (go-on (c .begins) (not (eqb (bitOf c i) (bitOf c also))) b (ap not (ne-eqb (bitOf c i) (bitOf c also) (λ e. two-bits b (sym e)))))
 
-    one-branch : c .begins ≡ false → Chosen i
+    one-branch : c .begins ≡ false → BestBranch i
     one-branch b = record {
       below = some (c .begins);
       leaves-i = leaves-self;
       metric = ap (λ (t : Bool). (cond t (takingAlso c y old (taking c y old i) also) (taking c y old i)) .metric) b;
       bit-is = ap (λ (t : Bool). (cond t (takingAlso c y old (taking c y old i) also) (taking c y old i)) .bit) b;
-      follows = follow-self;
+      by = by-self;
       beats = λ x k e. only x (leaving x k e);
     }
       where
@@ -115,7 +115,7 @@ module _ (c : Section) (fits : SectionFits c) (i : ℕ) (h : i < 2 ^ c .live) wh
         only x (inl e) = inl e
         only x (inr (t, e)) = absurd (true≢false (sym t ∙ b))
 
-    two-branches : c .begins ≡ true → (p : Bool) → preferred (added c y old also) (bitOf c also) (added c y old i) ≡ p → (z : ℕ) × Chosen z
+    two-branches : c .begins ≡ true → (p : Bool) → preferred (added c y old also) (bitOf c also) (added c y old i) ≡ p → (z : ℕ) × BestBranch z
     two-branches b true e = (
       also,
       record {
@@ -123,7 +123,7 @@ module _ (c : Section) (fits : SectionFits c) (i : ℕ) (h : i < 2 ^ c .live) wh
         leaves-i = leaves-also;
         metric = ap (λ (t : Bool). (cond t (takingAlso c y old (taking c y old i) also) (taking c y old i)) .metric) b ∙ ap (λ (t : Bool). cond t (added c y old also) (added c y old i)) e;
         bit-is = ap (λ (t : Bool). (cond t (takingAlso c y old (taking c y old i) also) (taking c y old i)) .bit) b ∙ ap (λ (t : Bool). cond t (bitOf c also) (bitOf c i)) e;
-        follows = follow-also b;
+        by = by-also b;
         beats = λ x k l. other x (leaving x k l);
       },
     )
@@ -141,7 +141,7 @@ module _ (c : Section) (fits : SectionFits c) (i : ℕ) (h : i < 2 ^ c .live) wh
         leaves-i = leaves-self;
         metric = ap (λ (t : Bool). (cond t (takingAlso c y old (taking c y old i) also) (taking c y old i)) .metric) b ∙ ap (λ (t : Bool). cond t (added c y old also) (added c y old i)) e;
         bit-is = ap (λ (t : Bool). (cond t (takingAlso c y old (taking c y old i) also) (taking c y old i)) .bit) b ∙ ap (λ (t : Bool). cond t (bitOf c also) (bitOf c i)) e;
-        follows = follow-self;
+        by = by-self;
         beats = λ x k l. other x (leaving x k l);
       },
     )
@@ -153,9 +153,9 @@ module _ (c : Section) (fits : SectionFits c) (i : ℕ) (h : i < 2 ^ c .live) wh
         other x (inl q) = inl q
         other x (inr (t, q)) = inr (subst (λ (x : ℕ). Beats (added c y old i) (bitOf c i) (added c y old x) (bitOf c x)) (sym q) won)
 
-    pub best-branch : (z : ℕ) × Chosen z
+    pub best-branch : (z : ℕ) × BestBranch z
     best-branch = go (c .begins) refl
       where
-        go : (b : Bool) → c .begins ≡ b → (z : ℕ) × Chosen z
+        go : (b : Bool) → c .begins ≡ b → (z : ℕ) × BestBranch z
         go true b = two-branches b _ refl
         go false b = (i, one-branch b)

@@ -27,3 +27,4 @@ pub mod BegunRows
 pub mod PlateRowsOf
 pub mod EndsFound
 pub mod PassedRows
+pub mod WalkSection

@@ -30,9 +30,9 @@ module _ (sections : ℕ → Section) where
   decided y ys t i = (atState (sections t) y (best ys (suc t)) i) .bit
 
   -- the word read off from state i at depth t: its position 0 is position t
-  abbrev pub word : List ℤ → ℕ → ℕ → ℕ
-  word [] t i = 0
-  word (y ∷ ys) t i = word ys (suc t) (follow (sections t) i (decided y ys t i)) * 2 + decided y ys t i
+  abbrev pub wordFrom : List ℤ → ℕ → ℕ → ℕ
+  wordFrom [] t i = 0
+  wordFrom (y ∷ ys) t i = wordFrom ys (suc t) (follow (sections t) i (decided y ys t i)) * 2 + decided y ys t i
 
   -- what the steps counted, from the far end to depth t
   abbrev pub counted : List ℤ → ℕ → Counts

@@ -10,7 +10,7 @@ use Rattle.trellises.specs.SectionOf.{sectionOf}
 use Rattle.decoding.specs.declared.sweep.Sizes.{Sizes}
 use Rattle.decoding.specs.declared.sweep.Standing.{Standing}
 use Rattle.decoding.specs.declared.walk.Walk.{Walk}
-use Rattle.decoding.specs.Backward.{Chain, best, counted, decided, word}
+use Rattle.decoding.specs.Backward.{Chain, best, counted, decided, wordFrom}
 use Rattle.decoding.specs.LiveRows.{EndsAre, PlateRows, begunBefore, liveMarks}
 use Rattle.decoding.specs.Metric.{limit}
 use Rattle.decoding.specs.Stepping.{olds}
@@ -55,7 +55,7 @@ pub record Kept (z : Sizes) (metrics : List ℤ) (decisions : List ℕ) (metrics
 pub record Walked (rows : List ℕ) (samples : List ℤ) (t : ℕ) (w : Walk) : Type 0 where
   pub state : w .state < 2 ^ (sectionOf rows t) .live
   pub short : w .word < 2 ^ t
-  pub rest : w .word + 2 ^ t * word (sectionOf rows) (drop t samples) t (w .state) ≡ word (sectionOf rows) samples 0 0
+  pub rest : w .word + 2 ^ t * wordFrom (sectionOf rows) (drop t samples) t (w .state) ≡ wordFrom (sectionOf rows) samples 0 0
   pub live : w .live ≡ liveMarks rows t
   pub next : w .next ≡ begunBefore rows t
 

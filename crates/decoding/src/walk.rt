@@ -5,12 +5,12 @@ use crate::states::source;
 use crate::sweep::Sizes;
 use trellises::Section;
 ghost use lib.ListN.{getD, length, take};
-ghost use mathlib.Core.Bool.{cond};
 ghost use mathlib.Core.Path.{_≡_};
 ghost use Prim.Native.Nat.{suc, _+_, _*_, _/_, _%_, _^_, _≤_, _<_};
 ghost use Rattle.decoding.specs.Backward.{branchBy};
 ghost use Rattle.decoding.specs.Stepping.{SectionFits};
 ghost use Rattle.decoding.specs.Sweeping.{BeforeWalk, Walked};
+ghost use Rattle.words.specs.Choice.{more};
 ghost use Rattle.words.specs.Word.{bit};
 
 // Where the walk stands: the word's positions so far, the state and the live rows there, and how many rows have begun.
@@ -46,8 +46,8 @@ fn branch_by(section: Section, state: usize, chosen: u64) -> usize
 
 // How many rows have begun past a section.
 fn begun(next: usize, begins: bool) -> usize
-    requires { ⌜ next < 64 ⌝ }
-    ensures { λ r. ⌜ r ≡ next + cond begins 1 0 ⌝ }
+    requires { ⌜ next ≤ 64 ⌝ }
+    ensures { λ r. ⌜ r ≡ more begins next ⌝ }
 {
     if begins { next + 1 } else { next }
 }
