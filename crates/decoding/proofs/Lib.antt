@@ -28,3 +28,6 @@ pub mod PlateRowsOf
 pub mod EndsFound
 pub mod PassedRows
 pub mod WalkSection
+pub mod WalkEnds
+pub mod Filled
+pub mod WidestStates

@@ -70,6 +70,15 @@ pub record BeforeWalk (table : List ℕ) (z : Sizes) (ends : List ℕ) (samples 
       → bit (getD decisions (t * z .words + i / 64) 0) (i % 64) ≡ decided (sectionOf (take (z .k) table)) (getD samples t (pos 0)) (drop (suc t) samples) t i
   pub walked : Walked (take (z .k) table) samples t w
 
+-- what the whole walk asks: the decisions of every section
+pub record WalkFits (table : List ℕ) (z : Sizes) (ends : List ℕ) (samples : List ℤ) (decisions : List ℕ) : Type 0 where
+  pub fit : SizesFit table z
+  pub ends-are : EndsAre (take (z .k) table) ends
+  pub size : length samples ≡ z .n
+  pub room : z .n * z .words ≤ length decisions
+  pub decision : (t : ℕ) → t < z .n → (i : ℕ) → i < 2 ^ (sectionOf (take (z .k) table) t) .live
+      → bit (getD decisions (t * z .words + i / 64) 0) (i % 64) ≡ decided (sectionOf (take (z .k) table)) (getD samples t (pos 0)) (drop (suc t) samples) t i
+
 -- what section t of the sweep asks: the sweep has come to its far side
 pub record BeforeSection (table : List ℕ) (z : Sizes) (ends : List ℕ) (samples : List ℤ) (t : ℕ) (metrics : List ℤ) (decisions : List ℕ)
     (s : Standing) : Type 0 where

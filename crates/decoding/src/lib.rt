@@ -4,6 +4,7 @@ use plates::Refusal;
 mod choices;
 mod live;
 mod patterns;
+mod rooms;
 mod states;
 mod step;
 mod sweep;

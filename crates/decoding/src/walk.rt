@@ -7,9 +7,10 @@ use trellises::Section;
 ghost use lib.ListN.{getD, length, take};
 ghost use mathlib.Core.Path.{_≡_};
 ghost use Prim.Native.Nat.{suc, _+_, _*_, _/_, _%_, _^_, _≤_, _<_};
-ghost use Rattle.decoding.specs.Backward.{branchBy};
+ghost use Rattle.decoding.specs.Backward.{branchBy, wordFrom};
 ghost use Rattle.decoding.specs.Stepping.{SectionFits};
-ghost use Rattle.decoding.specs.Sweeping.{BeforeWalk, Walked};
+ghost use Rattle.decoding.specs.Sweeping.{BeforeWalk, WalkFits, Walked};
+ghost use Rattle.trellises.specs.SectionOf.{sectionOf};
 ghost use Rattle.words.specs.Choice.{more};
 ghost use Rattle.words.specs.Word.{bit};
 
@@ -75,4 +76,29 @@ fn walk_section(
         live: passed.live,
         next: begun(at.next, section.begins),
     }
+}
+
+// All sections: the word decided.
+pub fn read_off(
+    rows: &[u64; 64],
+    sizes: Sizes,
+    ends: &[u8; 64],
+    samples: &[i16],
+    decisions: &[u64],
+) -> u64
+    requires { ⌜ WalkFits (now rows) sizes (now ends) (now samples) (now decisions) ⌝ }
+    ensures { λ r. ⌜ r ≡ wordFrom (sectionOf (take (sizes .k) (now (rows .entry)))) (now (samples .entry)) 0 0 ⌝ }
+{
+    let mut at = Walk {
+        word: 0,
+        state: 0,
+        live: 0,
+        next: 0,
+    };
+    let mut t = 0;
+    while t < sizes.n {
+        at = walk_section(rows, sizes, ends, samples, decisions, t, at);
+        t += 1;
+    }
+    at.word
 }

@@ -1,0 +1,73 @@
+// The working rooms: how much of them a decode needs, and putting that much to zero.
+use crate::sweep::Sizes;
+ghost use lib.IntN.{pos};
+ghost use lib.ListN.{drop, getD, length, replicate};
+ghost use mathlib.Core.List.{_++_};
+ghost use mathlib.Core.Path.{_≡_};
+ghost use Prim.Native.Nat.{suc, max, _/_, _^_, _≤_, _<_};
+ghost use Rattle.decoding.specs.Needs.{ProfileFits, SizesOf, widestEntry};
+
+// The greater of two numbers.
+fn greater(a: usize, b: usize) -> usize
+    ensures { λ r. ⌜ r ≡ max a b ⌝ }
+{
+    if a < b { b } else { a }
+}
+
+fn wide(entry: u8) -> usize
+    ensures { λ r. ⌜ r ≡ entry ⌝ }
+{
+    entry as usize
+}
+
+// The largest of the first n + 1 profile entries.
+fn widest(profile: &[u8; 65], n: usize) -> usize
+    requires { ⌜ n ≤ 64 ⌝ }
+    ensures { λ r. ⌜ r ≡ widestEntry (now (profile .entry)) n ⌝ }
+{
+    let mut most = wide(profile[0]);
+    let mut t = 0;
+    while t < n {
+        t += 1;
+        most = greater(wide(profile[t]), most);
+    }
+    most
+}
+
+// How large a decode of a plate is.
+pub fn sizes_of(n: usize, k: usize, profile: &[u8; 65]) -> Sizes
+    requires { ⌜ (n ≤ 64) × ProfileFits (now profile) n ⌝ }
+    ensures { λ r. ⌜ SizesOf n k (now (profile .entry)) r ⌝ }
+{
+    let half = 1 << widest(profile, n);
+    Sizes {
+        n,
+        k,
+        half,
+        words: greater(1, half / 64),
+    }
+}
+
+// The first places of the metric room put to zero.
+pub fn clear_metrics(metrics: &mut [i32], count: usize)
+    requires { ⌜ count ≤ length (now metrics) ⌝ }
+    ensures { λ r. ⌜ now (metrics .exit) ≡ replicate count (pos 0) ++ drop count (now (metrics .entry)) ⌝ }
+{
+    let mut i = 0;
+    while i < count {
+        metrics[i] = 0;
+        i += 1;
+    }
+}
+
+// The first places of the decision room put to zero.
+pub fn clear_decisions(decisions: &mut [u64], count: usize)
+    requires { ⌜ count ≤ length (now decisions) ⌝ }
+    ensures { λ r. ⌜ now (decisions .exit) ≡ replicate count 0 ++ drop count (now (decisions .entry)) ⌝ }
+{
+    let mut i = 0;
+    while i < count {
+        decisions[i] = 0;
+        i += 1;
+    }
+}
