@@ -22,3 +22,7 @@ pub mod Runs
 pub mod Masks
 pub mod Parities
 pub mod Progress
+pub mod SumsAdded
+pub mod StatesEntered
+pub mod BranchesCounted
+pub mod ExampleCounted
