@@ -31,3 +31,7 @@ pub mod WalkSection
 pub mod WalkEnds
 pub mod Filled
 pub mod WidestStates
+pub mod SumsAdded
+pub mod StatesEntered
+pub mod BranchesCounted
+pub mod ExampleCounted

@@ -10,3 +10,4 @@ pub mod Running
 pub mod Patterns
 pub mod Blocks
 pub mod Needs
+pub mod Totals
