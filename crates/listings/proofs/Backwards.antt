@@ -1,0 +1,45 @@
+-- A list gone through from its end to its start: what stands from place i on is put.
+use Prim.Native.Nat.{ℕ, zero, suc, _+_, _-_, _≤_, _<_, max}
+use lib.ListN.{length, drop, getD}
+use lib.Seq.{drop-cons, drop-length, ext-getD}
+use mathlib.Core.List.{List, [], _∷_, _++_, map}
+use mathlib.Core.Path.{_≡_, refl, ap, subst, sym, _∙_}
+use native.Mathlib.Numerals.{add-one}
+use native.Mathlib.Omega.{arith}
+use Rattle.words.specs.Word.{bit}
+use Rattle.listings.specs.Building.{Prepends}
+use Rattle.listings.specs.Decimal.{decimal}
+use Rattle.listings.specs.Lines.{following, positions, largest}
+use Rattle.listings.proofs.Prepending.{prepend-then}
+
+-- one place back
+pub drop-back : (xs : List ℕ) (i : ℕ) → 0 < i → i ≤ length xs → drop (i - 1) xs ≡ getD xs (i - 1) 0 ∷ drop i xs
+drop-back xs i h l =
+    let e : suc (i - 1) ≡ i = omega arith in
+    rw e at (drop-cons xs (i - 1) 0 (omega arith))
+
+-- a text that grows by one byte for each place gone back
+pub bytes-on : {d e f : List ℕ} {end at r : ℕ} (xs : List ℕ) (i : ℕ) → 0 < i → i ≤ length xs → Prepends d end (drop i xs) e at
+    → Prepends e at (getD xs (i - 1) 0 ∷ []) f r → Prepends d end (drop (i - 1) xs) f r
+bytes-on xs i h l p q = rw (drop-back xs i h l) (prepend-then p q)
+
+-- the fields of a line, one for each place gone back
+pub fields-on : {d e f : List ℕ} {end at r : ℕ} (xs : List ℕ) (i : ℕ) → 0 < i → i ≤ length xs → Prepends d end (following (map decimal (drop i xs))) e at
+    → Prepends e at (9 ∷ decimal (getD xs (i - 1) 0)) f r → Prepends d end (following (map decimal (drop (i - 1) xs))) f r
+fields-on xs i h l p q = rw (drop-back xs i h l) (prepend-then p q)
+
+pub largest-on : (xs : List ℕ) (i : ℕ) → 0 < i → i ≤ length xs → largest (drop (i - 1) xs) ≡ max (getD xs (i - 1) 0) (largest (drop i xs))
+largest-on xs i h l = rw (drop-back xs i h l)
+
+-- ---- the characters of a word
+
+pub positions-length : (word p n : ℕ) → length (positions word p n) ≡ n
+positions-length word p zero = refl
+positions-length word p (suc n) = ap suc (positions-length word (suc p) n)
+
+-- position i stands i places from the left
+pub positions-at : (word p n i : ℕ) → i < n → getD (positions word p n) i 0 ≡ 48 + bit word (p + i)
+positions-at word p (suc n) zero h = let e : p + 0 ≡ p = omega arith in rw e
+positions-at word p (suc n) (suc i) h =
+    let e : suc p + i ≡ p + suc i = omega arith in
+    positions-at word (suc p) n i (omega arith) ∙ rw e

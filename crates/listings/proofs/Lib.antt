@@ -1,0 +1,3 @@
+pub mod Prepending
+pub mod Digits
+pub mod Backwards

@@ -1,0 +1,72 @@
+-- The five kinds of listing line, byte by byte.
+use Prim.Native.Nat.{ℕ, zero, suc, _+_, max}
+use lib.IntN.{ℤ}
+use lib.ListN.{take}
+use mathlib.Core.List.{List, [], _∷_, _++_, map}
+use Rattle.plates.specs.declared.Plate.{Plate}
+use Rattle.words.specs.Word.{bit}
+use Rattle.listings.specs.Decimal.{decimal, signed}
+
+-- ---- fields
+
+-- fields that follow another, each after a tab, and the line feed
+abbrev pub following : List (List ℕ) → List ℕ
+following [] = 10 ∷ []
+following (field ∷ fields) = 9 ∷ (field ++ following fields)
+
+-- a line: fields parted by tabs, of which the first names its kind
+abbrev pub line : List ℕ → List (List ℕ) → List ℕ
+line name fields = name ++ following fields
+
+-- `count` positions of a word from `position` on, as characters 0 or 1
+abbrev pub positions : ℕ → ℕ → ℕ → List ℕ
+positions word position zero = []
+positions word position (suc count) = (48 + bit word position) ∷ positions word (suc position) count
+
+-- the profile's entries in use: s(0) to s(n)
+abbrev pub entriesOf : Plate → List ℕ
+entriesOf plate = take (plate .n + 1) (plate .profile)
+
+-- the largest of some entries
+abbrev pub largest : List ℕ → ℕ
+largest [] = 0
+largest (entry ∷ entries) = max entry (largest entries)
+
+-- ---- lines
+
+-- the first field of each kind: the letters of its name
+abbrev pub plateName : List ℕ
+plateName = 112 ∷ 108 ∷ 97 ∷ 116 ∷ 101 ∷ []
+
+abbrev pub profileName : List ℕ
+profileName = 112 ∷ 114 ∷ 111 ∷ 102 ∷ 105 ∷ 108 ∷ 101 ∷ []
+
+abbrev pub wordName : List ℕ
+wordName = 119 ∷ 111 ∷ 114 ∷ 100 ∷ []
+
+abbrev pub refusedName : List ℕ
+refusedName = 114 ∷ 101 ∷ 102 ∷ 117 ∷ 115 ∷ 101 ∷ 100 ∷ []
+
+abbrev pub endName : List ℕ
+endName = 101 ∷ 110 ∷ 100 ∷ []
+
+-- plate: n, k, m
+unfoldable pub plateLine : Plate → List ℕ
+plateLine plate = line plateName (decimal (plate .n) ∷ decimal (plate .k) ∷ decimal (largest (entriesOf plate)) ∷ [])
+
+-- profile: s(0) to s(n)
+unfoldable pub profileLine : Plate → List ℕ
+profileLine plate = line profileName (map decimal (entriesOf plate))
+
+-- word: its first n positions, position 0 at the left, metric, additions, comparisons
+unfoldable pub wordLine : Plate → ℕ → ℤ → ℕ → ℕ → List ℕ
+wordLine plate word metric additions comparisons =
+    line wordName (positions word 0 (plate .n) ∷ signed metric ∷ decimal additions ∷ decimal comparisons ∷ [])
+
+-- refused: number and place
+unfoldable pub refusedLine : ℕ → ℕ → List ℕ
+refusedLine number place = line refusedName (decimal number ∷ decimal place ∷ [])
+
+-- end: the number of block lines
+unfoldable pub endLine : ℕ → List ℕ
+endLine blocks = line endName (decimal blocks ∷ [])

@@ -1,0 +1,32 @@
+-- What writing a listing line into a lent room replies, and what it leaves there.
+use Prim.Native.Nat.{ℕ, _<_}
+use lib.IntN.{ℤ}
+use lib.ListN.{length, drop}
+use mathlib.Core.List.{List, [], _∷_, _++_}
+use mathlib.Core.Path.{_≡_}
+use Rattle.plates.specs.declared.Plate.{Plate}
+use Rattle.plates.specs.declared.Refusal.{Refusal}
+use Rattle.plates.specs.declared.Refusal.the-variants.{LineRoom}
+use Rattle.plates.specs.Prepare.{notPrepared}
+use Rattle.plates.specs.Refusals.{Refuses, Passes}
+use Rattle.listings.specs.declared.Written.{Written}
+use Rattle.listings.specs.declared.Written.the-variants.{Length, Refused}
+use Rattle.listings.specs.Lines.{plateLine, profileLine, wordLine, refusedLine, endLine}
+
+-- 11: the line is longer than its room
+abbrev pub lineRoom : List ℕ → List ℕ → Refusal → Type 0
+lineRoom line room q = (length room < length line) × (q ≡ LineRoom)
+
+-- A line into a room, under a call's conditions: the first refusal in order, and the room as it was; or the line's length with its line
+-- feed, and the line at the start of the room, with the bytes after it as they were
+pub record Writes (conditions : List (Refusal → Type 0)) (line room : List ℕ) (r : Written) (room′ : List ℕ) : Type 0 where
+  pub refused : (q : Refusal) → Refuses conditions q → (r ≡ Refused q) × (room′ ≡ room)
+  pub answer : Passes conditions → (r ≡ Length (length line)) × (room′ ≡ line ++ drop (length line) room)
+
+-- a line that takes no plate: refusal 11
+abbrev pub WritesLine : List ℕ → List ℕ → Written → List ℕ → Type 0
+WritesLine line room = Writes (lineRoom line room ∷ []) line room
+
+-- a line that takes a plate: refusals 5, 11
+abbrev pub WritesOf : Plate → List ℕ → List ℕ → Written → List ℕ → Type 0
+WritesOf plate line room = Writes (notPrepared plate ∷ lineRoom line room ∷ []) line room

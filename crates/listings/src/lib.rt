@@ -1,0 +1,173 @@
+// The five kinds of listing line, written into a lent room. A line is built in an array of 256 bytes from its last byte to its first,
+// since a number's digits come that way, and copied where the room is long enough: every line is proved to fit the array.
+ghost use mathlib.Core.Path.{_≡_};
+ghost use mathlib.Core.List.{_∷_, [], _++_, map};
+ghost use Prim.Native.Nat.{_≤_, max};
+ghost use lib.IntN.{natAbs};
+ghost use lib.ListN.{length, drop};
+ghost use Rattle.listings.specs.Building.{Prepends};
+ghost use Rattle.listings.specs.Decimal.{decimal, signed};
+ghost use Rattle.listings.specs.Lines.{line, largest, following, positions, plateName, profileName, wordName, refusedLine, endLine};
+ghost use Rattle.listings.specs.Writing.{WritesLine};
+
+use plates::Refusal;
+
+// What writing replies: the line's length with its line feed, or why it is refused.
+pub enum Written {
+    Length(usize),
+    Refused(Refusal),
+}
+
+// The array that a line is built in.
+type Line = [u8; 256];
+
+// ---- the pieces of a line
+
+// One byte before a place.
+fn prepend_byte(line: &mut Line, end: usize, byte: u8) -> usize
+    ensures { λ r. ⌜ Prepends (now (line .entry)) end (byte ∷ []) (now (line .exit)) r ⌝ }
+{
+    if end == 0 {
+        return 0;
+    }
+    if end > 256 {
+        return end;
+    }
+    line[end - 1] = byte;
+    end - 1
+}
+
+// A number's digits before a place.
+fn prepend_number(line: &mut Line, end: usize, value: u64) -> usize
+    ensures { λ r. ⌜ Prepends (now (line .entry)) end (decimal value) (now (line .exit)) r ⌝ }
+{
+    let mut at = end;
+    let mut rest = value;
+    while rest >= 10 {
+        at = prepend_byte(line, at, 48 + (rest % 10) as u8);
+        rest /= 10;
+    }
+    prepend_byte(line, at, 48 + rest as u8)
+}
+
+// A tab and a number before a place.
+fn prepend_field(line: &mut Line, end: usize, value: u64) -> usize
+    ensures { λ r. ⌜ Prepends (now (line .entry)) end (9 ∷ decimal value) (now (line .exit)) r ⌝ }
+{
+    let at = prepend_number(line, end, value);
+    prepend_byte(line, at, 9)
+}
+
+// The letters of a name before a place.
+fn prepend_name(line: &mut Line, end: usize, name: &[u8]) -> usize
+    ensures { λ r. ⌜ Prepends (now (line .entry)) end (now (name .entry)) (now (line .exit)) r ⌝ }
+{
+    let mut at = end;
+    let mut i = name.len();
+    while i > 0 {
+        i -= 1;
+        at = prepend_byte(line, at, name[i]);
+    }
+    at
+}
+
+// A tab and the first n positions of a word before a place, position 0 at the left.
+fn prepend_positions(line: &mut Line, end: usize, word: u64, n: usize) -> usize
+    ensures { λ r. ⌜ Prepends (now (line .entry)) end (9 ∷ positions word 0 n) (now (line .exit)) r ⌝ }
+{
+    let mut at = end;
+    let mut i = n;
+    while i > 0 {
+        i -= 1;
+        at = prepend_byte(line, at, 48 + words::bit_at(word, i) as u8);
+    }
+    prepend_byte(line, at, 9)
+}
+
+// How far a number is from 0.
+fn magnitude(value: i32) -> u64
+    ensures { λ r. ⌜ r ≡ natAbs value ⌝ }
+{
+    if value < 0 {
+        return (0 - (value as i64)) as u64;
+    }
+    value as u64
+}
+
+// A tab and a number before a place, with a minus exactly when it is below 0.
+fn prepend_signed(line: &mut Line, end: usize, value: i32) -> usize
+    ensures { λ r. ⌜ Prepends (now (line .entry)) end (9 ∷ signed value) (now (line .exit)) r ⌝ }
+{
+    let size = magnitude(value);
+    if value < 0 {
+        let digits = prepend_number(line, end, size);
+        let minus = prepend_byte(line, digits, 45);
+        return prepend_byte(line, minus, 9);
+    }
+    prepend_field(line, end, size)
+}
+
+// The larger of two entries.
+fn larger(entry: u8, other: u8) -> u8
+    ensures { λ r. ⌜ r ≡ max entry other ⌝ }
+{
+    if entry < other { other } else { entry }
+}
+
+// The largest of some entries.
+fn largest_entry(entries: &[u8]) -> u8
+    ensures { λ r. ⌜ r ≡ largest (now (entries .entry)) ⌝ }
+{
+    let mut most = 0;
+    let mut i = entries.len();
+    while i > 0 {
+        i -= 1;
+        most = larger(entries[i], most);
+    }
+    most
+}
+
+// Entries as fields, and the line feed, at the end of the array.
+fn prepend_entries(line: &mut Line, entries: &[u8]) -> usize
+    ensures { λ r. ⌜ Prepends (now (line .entry)) 256 (following (map decimal (now (entries .entry)))) (now (line .exit)) r ⌝ }
+{
+    let mut at = prepend_byte(line, 256, 10);
+    let mut i = entries.len();
+    while i > 0 {
+        i -= 1;
+        at = prepend_field(line, at, wide(entries[i]));
+    }
+    at
+}
+
+// An entry as a number to print.
+fn wide(entry: u8) -> u64
+    ensures { λ r. ⌜ r ≡ entry ⌝ }
+{
+    entry as u64
+}
+
+// ---- a line into a room
+
+// Bytes to the start of a room that is long enough for them.
+fn copy_in(text: &[u8], room: &mut [u8])
+    requires { ⌜ length (now text) ≤ length (now room) ⌝ }
+    ensures { λ _. ⌜ now (room .exit) ≡ now (text .entry) ++ drop (length (now (text .entry))) (now (room .entry)) ⌝ }
+{
+    let mut i = 0;
+    while i < text.len() {
+        room[i] = text[i];
+        i += 1;
+    }
+}
+
+// A built line into the room, or refusal 11.
+fn write_line(text: &[u8], room: &mut [u8]) -> Written
+    ensures { λ r. ⌜ WritesLine (now (text .entry)) (now (room .entry)) r (now (room .exit)) ⌝ }
+{
+    if room.len() < text.len() {
+        return Written::Refused(Refusal::LineRoom);
+    }
+    copy_in(text, room);
+    Written::Length(text.len())
+}
