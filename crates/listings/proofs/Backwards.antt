@@ -1,6 +1,6 @@
 -- A list gone through from its end to its start: what stands from place i on is put.
 use Prim.Native.Nat.{ℕ, zero, suc, _+_, _-_, _≤_, _<_, max}
-use lib.ListN.{length, drop, getD}
+use lib.ListN.{length, drop, getD, drop-of-length-le}
 use lib.Seq.{drop-cons, drop-length, ext-getD}
 use mathlib.Core.List.{List, [], _∷_, _++_, map}
 use mathlib.Core.Path.{_≡_, refl, ap, subst, sym, _∙_}
@@ -10,7 +10,7 @@ use Rattle.words.specs.Word.{bit}
 use Rattle.listings.specs.Building.{Prepends}
 use Rattle.listings.specs.Decimal.{decimal}
 use Rattle.listings.specs.Lines.{following, positions, largest}
-use Rattle.listings.proofs.Prepending.{prepend-then}
+use Rattle.listings.proofs.Prepending.{prepend-none, prepend-then}
 
 -- one place back
 pub drop-back : (xs : List ℕ) (i : ℕ) → 0 < i → i ≤ length xs → drop (i - 1) xs ≡ getD xs (i - 1) 0 ∷ drop i xs
@@ -43,3 +43,13 @@ positions-at word p (suc n) zero h = let e : p + 0 ≡ p = omega arith in rw e
 positions-at word p (suc n) (suc i) h =
     let e : suc p + i ≡ p + suc i = omega arith in
     positions-at word (suc p) n i (omega arith) ∙ rw e
+
+pub positions-start : (d : List ℕ) (end word n : ℕ) → Prepends d end (drop n (positions word 0 n)) d end
+positions-start d end word n = rw (drop-of-length-le (positions word 0 n) {i = n} (omega (arith, positions-length word 0 n))) (prepend-none d end)
+
+pub positions-on : {d e f : List ℕ} {end at r : ℕ} (word n i : ℕ) → 0 < i → i ≤ n → Prepends d end (drop i (positions word 0 n)) e at
+    → Prepends e at ((48 + bit word (i - 1)) ∷ []) f r → Prepends d end (drop (i - 1) (positions word 0 n)) f r
+positions-on {e = e} {f} {at = at} {r} word n i h l p q =
+    let z : 0 + (i - 1) ≡ i - 1 = omega arith in
+    let s : getD (positions word 0 n) (i - 1) 0 ≡ 48 + bit word (i - 1) = positions-at word 0 n (i - 1) (omega arith) ∙ rw z in
+    bytes-on (positions word 0 n) i h (omega (arith, positions-length word 0 n)) p (rw s q)

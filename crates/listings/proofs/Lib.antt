@@ -1,3 +1,6 @@
 pub mod Prepending
 pub mod Digits
 pub mod Backwards
+pub mod Sign
+pub mod Copying
+pub mod Conditions

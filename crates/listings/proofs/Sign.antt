@@ -1,0 +1,47 @@
+-- A signed 32-bit number's sign and magnitude, by way of 64 bits.
+use Prim.Native.Nat.{ℕ, suc, _^_, _≤_, _<_}
+use borrow.Author.Tests.{ltb-true}
+use lib.Dec.{T}
+use lib.IntN.{ℤ, pos, negsuc, natAbs, _-ℤ_}
+use lib.Signed.{ltZ, nonNeg, natAbs-le}
+use mathlib.Core.Bool.{true, false}
+use mathlib.Core.List.{_∷_}
+use mathlib.Core.Path.{_≡_, refl, ap, _∙_}
+use mir.Facts.{toZ-ofZ, sfits-widen}
+use mir.Syntax.{w32, w64}
+use mir.Val.{SFits, toZ, ofZ}
+use native.Mathlib.Nat.{zero-add}
+use native.Mathlib.Omega.{arith}
+use Rattle.listings.specs.Decimal.{decimal, signed}
+
+-- not below 0
+pub not-below : (z : ℤ) → ltZ z (pos 0) ≡ false → T (nonNeg z)
+not-below (pos n) f = tt
+not-below (negsuc k) f = let e : true ≡ false = f in absurd (let y : _≡_ {A = ℕ} 0 1 = cc in omega arith)
+
+turned : (z : ℤ) → ltZ z (pos 0) ≡ true → pos 0 -ℤ z ≡ pos (natAbs z)
+turned (pos n) f = absurd (omega (arith, ltb-true n 0 f))
+turned (negsuc k) f = ap pos (zero-add (suc k))
+
+module _ (z : ℤ) (s : SFits w32 z) where
+  pub wide-same : toZ w64 (ofZ w64 (toZ w32 (ofZ w32 z))) ≡ z
+  wide-same = rw (toZ-ofZ s) (toZ-ofZ (sfits-widen tt s))
+
+  size-fits : SFits w64 (pos (natAbs z))
+  size-fits = record { sfits = omega (arith, natAbs-le z (s .sfits)) }
+
+  pub turned-fits : ltZ z (pos 0) ≡ true → SFits w64 (pos 0 -ℤ toZ w64 (ofZ w64 (toZ w32 (ofZ w32 z))))
+  turned-fits f = rw (wide-same, turned z f) size-fits
+
+  pub turned-is : ltZ z (pos 0) ≡ true → toZ w64 (ofZ w64 (pos 0 -ℤ toZ w64 (ofZ w64 (toZ w32 (ofZ w32 z))))) ≡ pos (natAbs z)
+  turned-is f = toZ-ofZ (turned-fits f) ∙ rw (wide-same) (turned z f)
+
+-- ---- how it is printed
+
+pub signed-below : (z : ℤ) → ltZ z (pos 0) ≡ true → signed z ≡ 45 ∷ decimal (natAbs z)
+unfolding signed
+signed-below z f = rw f
+
+pub signed-other : (z : ℤ) → ltZ z (pos 0) ≡ false → signed z ≡ decimal (natAbs z)
+unfolding signed
+signed-other z f = rw f
