@@ -4,3 +4,4 @@ pub mod Backwards
 pub mod Sign
 pub mod Copying
 pub mod Conditions
+pub mod Fits256

@@ -1,11 +1,11 @@
 -- Texts put one before the other.
 use Prim.Native.Nat.{ℕ, suc, _+_, _-_, _≤_, _<_}
-use lib.ListN.{length, drop, set, length-append, length-set, drop-of-length-le}
+use lib.ListN.{length, drop, set, length-append, length-set, replicate, length-replicate}
 use lib.Seq.{drop-cons, drop-set-lt, getD-set-same}
 use mathlib.Core.List.{List, [], _∷_, _++_, append-assoc, append-nil}
 use mathlib.Core.Path.{_≡_, refl, ap, ap₂, _∙_}
 use native.Mathlib.Omega.{arith}
-use Rattle.listings.specs.Building.{HasRoom, Prepends}
+use Rattle.listings.specs.Building.{HasRoom, Prepends, Ends}
 
 -- nothing is put
 pub prepend-none : (d : List ℕ) (end : ℕ) → Prepends d end [] d end
@@ -48,8 +48,13 @@ prepend-then {d} {e} {f} {t} {u} {end} {m} {r} p q = record {
       room = omega (arith, p .begins (first h), h .room, length-append u t)
     }
 
--- a whole line, put before the end of the array
-pub prepend-all : {d e t : List ℕ} {r : ℕ} → length d ≡ 256 → length t ≤ 256 → Prepends d 256 t e r → (r ≤ 256) × (drop r e ≡ t)
-prepend-all {d} {e} {t} {r} s l p =
-    let h : HasRoom d 256 t = record { size = s; within = omega arith; room = l } in
-    (omega (arith, p .begins h), p .stands h ∙ rw (drop-of-length-le d {i = 256} (omega arith)) (append-nil t))
+-- a whole line, put before the end of an array of zeros
+module _ {line array : List ℕ} {at : ℕ} (short : length line ≤ 256) (p : Prepends (replicate {A = ℕ} 256 0) 256 line array at) where
+  room : HasRoom (replicate {A = ℕ} 256 0) 256 line
+  room = record { size = length-replicate {A = ℕ} 256 0; within = omega arith; room = short }
+
+  pub line-ends : Ends array at
+  line-ends = record { size = p .same-size ∙ length-replicate {A = ℕ} 256 0; within = omega (arith, p .begins room) }
+
+  pub line-stands : drop at array ≡ line
+  line-stands = p .stands room ∙ append-nil line

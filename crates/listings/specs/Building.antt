@@ -15,3 +15,8 @@ pub record Prepends (array : List ℕ) (end : ℕ) (text array′ : List ℕ) (r
   pub same-size : length array′ ≡ length array
   pub begins : HasRoom array end text → r + length text ≡ end
   pub stands : HasRoom array end text → drop r array′ ≡ text ++ drop end array
+
+-- a line that ends where an array of 256 bytes ends may begin at `at`
+pub record Ends (array : List ℕ) (at : ℕ) : Type 0 where
+  pub size : length array ≡ 256
+  pub within : at ≤ 256

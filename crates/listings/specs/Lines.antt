@@ -1,9 +1,7 @@
 -- The five kinds of listing line, byte by byte.
 use Prim.Native.Nat.{ℕ, zero, suc, _+_, max}
 use lib.IntN.{ℤ}
-use lib.ListN.{take}
 use mathlib.Core.List.{List, [], _∷_, _++_, map}
-use Rattle.plates.specs.declared.Plate.{Plate}
 use Rattle.words.specs.Word.{bit}
 use Rattle.listings.specs.Decimal.{decimal, signed}
 
@@ -22,10 +20,6 @@ line name fields = name ++ following fields
 abbrev pub positions : ℕ → ℕ → ℕ → List ℕ
 positions word position zero = []
 positions word position (suc count) = (48 + bit word position) ∷ positions word (suc position) count
-
--- the profile's entries in use: s(0) to s(n)
-abbrev pub entriesOf : Plate → List ℕ
-entriesOf plate = take (plate .n + 1) (plate .profile)
 
 -- the largest of some entries
 abbrev pub largest : List ℕ → ℕ
@@ -50,18 +44,18 @@ refusedName = 114 ∷ 101 ∷ 102 ∷ 117 ∷ 115 ∷ 101 ∷ 100 ∷ []
 abbrev pub endName : List ℕ
 endName = 101 ∷ 110 ∷ 100 ∷ []
 
--- plate: n, k, m
-unfoldable pub plateLine : Plate → List ℕ
-plateLine plate = line plateName (decimal (plate .n) ∷ decimal (plate .k) ∷ decimal (largest (entriesOf plate)) ∷ [])
+-- plate: n, k, m, where m is the largest entry
+unfoldable pub plateLine : ℕ → ℕ → List ℕ → List ℕ
+plateLine n k entries = line plateName (decimal n ∷ decimal k ∷ decimal (largest entries) ∷ [])
 
 -- profile: s(0) to s(n)
-unfoldable pub profileLine : Plate → List ℕ
-profileLine plate = line profileName (map decimal (entriesOf plate))
+unfoldable pub profileLine : List ℕ → List ℕ
+profileLine entries = line profileName (map decimal entries)
 
 -- word: its first n positions, position 0 at the left, metric, additions, comparisons
-unfoldable pub wordLine : Plate → ℕ → ℤ → ℕ → ℕ → List ℕ
-wordLine plate word metric additions comparisons =
-    line wordName (positions word 0 (plate .n) ∷ signed metric ∷ decimal additions ∷ decimal comparisons ∷ [])
+unfoldable pub wordLine : ℕ → ℕ → ℤ → ℕ → ℕ → List ℕ
+wordLine n word metric additions comparisons =
+    line wordName (positions word 0 n ∷ signed metric ∷ decimal additions ∷ decimal comparisons ∷ [])
 
 -- refused: number and place
 unfoldable pub refusedLine : ℕ → ℕ → List ℕ

@@ -1,7 +1,7 @@
 -- What writing a listing line into a lent room replies, and what it leaves there.
-use Prim.Native.Nat.{ℕ, _<_}
+use Prim.Native.Nat.{ℕ, _+_, _<_}
 use lib.IntN.{ℤ}
-use lib.ListN.{length, drop}
+use lib.ListN.{length, take, drop}
 use mathlib.Core.List.{List, [], _∷_, _++_}
 use mathlib.Core.Path.{_≡_}
 use Rattle.plates.specs.declared.Plate.{Plate}
@@ -30,3 +30,24 @@ WritesLine line room = Writes (lineRoom line room ∷ []) line room
 -- a line that takes a plate: refusals 5, 11
 abbrev pub WritesOf : Plate → List ℕ → List ℕ → Written → List ℕ → Type 0
 WritesOf plate line room = Writes (notPrepared plate ∷ lineRoom line room ∷ []) line room
+
+-- ---- the five calls
+
+-- the profile's entries in use: s(0) to s(n)
+abbrev pub entriesOf : Plate → List ℕ
+entriesOf plate = take (plate .n + 1) (plate .profile)
+
+abbrev pub WritesPlate : Plate → List ℕ → Written → List ℕ → Type 0
+WritesPlate plate = WritesOf plate (plateLine (plate .n) (plate .k) (entriesOf plate))
+
+abbrev pub WritesProfile : Plate → List ℕ → Written → List ℕ → Type 0
+WritesProfile plate = WritesOf plate (profileLine (entriesOf plate))
+
+abbrev pub WritesWord : Plate → ℕ → ℤ → ℕ → ℕ → List ℕ → Written → List ℕ → Type 0
+WritesWord plate word metric additions comparisons = WritesOf plate (wordLine (plate .n) word metric additions comparisons)
+
+abbrev pub WritesRefused : ℕ → ℕ → List ℕ → Written → List ℕ → Type 0
+WritesRefused number place = WritesLine (refusedLine number place)
+
+abbrev pub WritesEnd : ℕ → List ℕ → Written → List ℕ → Type 0
+WritesEnd blocks = WritesLine (endLine blocks)

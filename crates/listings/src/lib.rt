@@ -5,10 +5,10 @@ ghost use mathlib.Core.List.{_∷_, [], _++_, map};
 ghost use Prim.Native.Nat.{_≤_, max};
 ghost use lib.IntN.{natAbs};
 ghost use lib.ListN.{length, drop};
-ghost use Rattle.listings.specs.Building.{Prepends};
+ghost use Rattle.listings.specs.Building.{Prepends, Ends};
 ghost use Rattle.listings.specs.Decimal.{decimal, signed};
-ghost use Rattle.listings.specs.Lines.{line, largest, following, positions, plateName, profileName, wordName, refusedLine, endLine};
-ghost use Rattle.listings.specs.Writing.{WritesLine};
+ghost use Rattle.listings.specs.Lines.{largest, following, positions, plateLine, profileLine, wordLine};
+ghost use Rattle.listings.specs.Writing.{WritesLine, WritesRefused, WritesEnd};
 
 use plates::Refusal;
 
@@ -161,13 +161,80 @@ fn copy_in(text: &[u8], room: &mut [u8])
     }
 }
 
-// A built line into the room, or refusal 11.
-fn write_line(text: &[u8], room: &mut [u8]) -> Written
-    ensures { λ r. ⌜ WritesLine (now (text .entry)) (now (room .entry)) r (now (room .exit)) ⌝ }
+// The line that stands from `at` to the end of the array into the room, or refusal 11.
+fn write_line(line: &Line, at: usize, room: &mut [u8]) -> Written
+    requires { ⌜ Ends (now line) at ⌝ }
+    ensures { λ r. ⌜ WritesLine (drop at (now (line .entry))) (now (room .entry)) r (now (room .exit)) ⌝ }
 {
-    if room.len() < text.len() {
+    let size = 256 - at;
+    if room.len() < size {
         return Written::Refused(Refusal::LineRoom);
     }
-    copy_in(text, room);
-    Written::Length(text.len())
+    let bytes = &line[..];
+    copy_in(&bytes[at..], room);
+    Written::Length(size)
+}
+
+// The line `plate`, from n, k and the profile's entries in use.
+fn put_plate(n: usize, k: usize, entries: &[u8], room: &mut [u8]) -> Written
+    ensures { λ r. ⌜ WritesLine (plateLine n k (now (entries .entry))) (now (room .entry)) r (now (room .exit)) ⌝ }
+{
+    let mut line = [0; 256];
+    let feed = prepend_byte(&mut line, 256, 10);
+    let most = prepend_field(&mut line, feed, wide(largest_entry(entries)));
+    let heads = prepend_field(&mut line, most, k as u64);
+    let long = prepend_field(&mut line, heads, n as u64);
+    let at = prepend_name(&mut line, long, b"plate");
+    write_line(&line, at, room)
+}
+
+// The line `profile`, from the profile's entries in use.
+fn put_profile(entries: &[u8], room: &mut [u8]) -> Written
+    requires { ⌜ length (profileLine (now entries)) ≤ 256 ⌝ }
+    ensures { λ r. ⌜ WritesLine (profileLine (now (entries .entry))) (now (room .entry)) r (now (room .exit)) ⌝ }
+{
+    let mut line = [0; 256];
+    let first = prepend_entries(&mut line, entries);
+    let at = prepend_name(&mut line, first, b"profile");
+    write_line(&line, at, room)
+}
+
+// The line `word`, from n, the word, its metric and the two counts.
+fn put_word(n: usize, word: u64, metric: i32, additions: u64, comparisons: u64, room: &mut [u8]) -> Written
+    requires { ⌜ n ≤ 64 ⌝ }
+    ensures { λ r. ⌜ WritesLine (wordLine n word metric additions comparisons) (now (room .entry)) r (now (room .exit)) ⌝ }
+{
+    let mut line = [0; 256];
+    let feed = prepend_byte(&mut line, 256, 10);
+    let compared = prepend_field(&mut line, feed, comparisons);
+    let added = prepend_field(&mut line, compared, additions);
+    let best = prepend_signed(&mut line, added, metric);
+    let first = prepend_positions(&mut line, best, word, n);
+    let at = prepend_name(&mut line, first, b"word");
+    write_line(&line, at, room)
+}
+
+// ---- public calls
+
+// The line `refused`: a number and a place.
+pub fn write_refused(number: u64, place: u64, room: &mut [u8]) -> Written
+    ensures { λ r. ⌜ WritesRefused number place (now (room .entry)) r (now (room .exit)) ⌝ }
+{
+    let mut line = [0; 256];
+    let feed = prepend_byte(&mut line, 256, 10);
+    let last = prepend_field(&mut line, feed, place);
+    let first = prepend_field(&mut line, last, number);
+    let at = prepend_name(&mut line, first, b"refused");
+    write_line(&line, at, room)
+}
+
+// The line `end`: the number of block lines.
+pub fn write_end(blocks: u64, room: &mut [u8]) -> Written
+    ensures { λ r. ⌜ WritesEnd blocks (now (room .entry)) r (now (room .exit)) ⌝ }
+{
+    let mut line = [0; 256];
+    let feed = prepend_byte(&mut line, 256, 10);
+    let first = prepend_field(&mut line, feed, blocks);
+    let at = prepend_name(&mut line, first, b"end");
+    write_line(&line, at, room)
 }

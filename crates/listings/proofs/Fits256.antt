@@ -1,0 +1,83 @@
+-- Every line of each kind is at most 256 bytes long.
+use Prim.Native.Nat.{ℕ, zero, suc, _+_, _*_, _/_, _%_, _≤_, _<_}
+use lib.Dec.{ltb}
+use lib.IntN.{ℤ, pos, natAbs}
+use lib.ListN.{length, getD, length-append}
+use lib.Signed.{ltZ}
+use mathlib.Core.Bool.{Bool, true, false, cond}
+use mathlib.Core.List.{List, [], _∷_, _++_, map}
+use mathlib.Core.Logic.{_⊎_, inl, inr}
+use mathlib.Core.Path.{_≡_, refl, ap}
+use native.Mathlib.Omega.{arith}
+use Rattle.words.proofs.Span.{lt-tri}
+use Rattle.listings.specs.Decimal.{digits, decimal, signed}
+use Rattle.listings.specs.Lines.{following, positions, largest, plateLine, profileLine, wordLine, refusedLine, endLine}
+use Rattle.listings.proofs.Backwards.{positions-length}
+use Rattle.listings.proofs.Digits.{decimal-low, decimal-high}
+
+-- ---- numbers
+
+shorter : {k : ℕ} (t : Bool) (s : List ℕ) → length s ≤ k → length (cond t [] s) ≤ k
+shorter true s h = omega arith
+shorter false s h = h
+
+digits-length : (k n : ℕ) → length (digits k n) ≤ k
+digits-length zero n = omega arith
+digits-length (suc k) n =
+    omega (arith, length-append (cond (ltb n 10) [] (digits k (n / 10))) ((48 + n % 10) ∷ []), shorter (ltb n 10) (digits k (n / 10)) (digits-length k (n / 10)))
+
+pub decimal-length : (n : ℕ) → length (decimal n) ≤ 20
+unfolding decimal
+decimal-length n = digits-length 20 n
+
+with-minus : (t : Bool) (s : List ℕ) → length s ≤ 20 → length (cond t (45 ∷ s) s) ≤ 21
+with-minus true s h = omega arith
+with-minus false s h = omega arith
+
+pub signed-length : (z : ℤ) → length (signed z) ≤ 21
+unfolding signed
+signed-length z = with-minus (ltZ z (pos 0)) (decimal (natAbs z)) (decimal-length (natAbs z))
+
+-- a number below 100 has at most two digits
+pub decimal-two : (n : ℕ) → n < 100 → length (decimal n) ≤ 2
+decimal-two n h = go (lt-tri n 10)
+  where
+    many : 10 ≤ n → length (decimal n) ≤ 2
+    many l =
+        let e = decimal-high n l (omega arith) in
+        let f = decimal-low (n / 10) (omega arith) in
+        rw (e, f) (omega arith)
+    go : (n < 10) ⊎ ((n ≡ 10) ⊎ (10 < n)) → length (decimal n) ≤ 2
+    go (inl l) = rw (decimal-low n l) (omega arith)
+    go (inr (inl e)) = many (omega arith)
+    go (inr (inr l)) = many (omega arith)
+
+-- ---- lines
+
+pub end-fits-256 : (blocks : ℕ) → length (endLine blocks) ≤ 256
+unfolding endLine
+end-fits-256 blocks = simp length-append (omega (arith, decimal-length blocks))
+
+pub refused-fits-256 : (number place : ℕ) → length (refusedLine number place) ≤ 256
+unfolding refusedLine
+refused-fits-256 number place = simp length-append (omega (arith, decimal-length number, decimal-length place))
+
+pub plate-fits-256 : (n k : ℕ) (entries : List ℕ) → length (plateLine n k entries) ≤ 256
+unfolding plateLine
+plate-fits-256 n k entries = simp length-append (omega (arith, decimal-length n, decimal-length k, decimal-length (largest entries)))
+
+pub word-fits-256 : (n word : ℕ) (metric : ℤ) (additions comparisons : ℕ) → n ≤ 64 → length (wordLine n word metric additions comparisons) ≤ 256
+unfolding wordLine
+word-fits-256 n word metric additions comparisons h =
+    simp length-append
+    (omega (arith, positions-length word 0 n, signed-length metric, decimal-length additions, decimal-length comparisons))
+
+two-each : (entries : List ℕ) → ((t : ℕ) → t < length entries → getD entries t 0 ≤ 12) → length (following (map decimal entries)) ≤ 3 * length entries + 1
+two-each [] h = omega arith
+two-each (entry ∷ entries) h =
+    simp length-append
+    (omega (arith, decimal-two entry (omega (arith, h 0 (omega arith))), two-each entries (λ t l. h (suc t) (omega arith))))
+
+pub profile-fits-256 : (entries : List ℕ) → length entries ≤ 65 → ((t : ℕ) → t < length entries → getD entries t 0 ≤ 12) → length (profileLine entries) ≤ 256
+unfolding profileLine
+profile-fits-256 entries l h = omega (arith, two-each entries h)
