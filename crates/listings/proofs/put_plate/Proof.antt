@@ -35,19 +35,19 @@ prepend-name-requires : tie.Need-prepend-name-requires
 prepend-name-requires c κs = search needs
 
 -- the whole line stands at the end of the array
-whole : (c : tie.After-prepend-name) → Prepends (replicate {A = ℕ} 256 0) 256 (plateLine (c .before .before .before .before .before .before .before .before .before .before .before .before .before .before .args .n) (c .before .before .before .before .before .before .before .before .before .before .before .before .before .before .args .k) (c .before .before .before .before .before .before .before .before .before .before .before .before .before .before .args .entries .now)) (c .prepend-name .last .0) (c .prepend-name .result)
+whole : (c : tie.After-prepend-name) → Prepends (replicate {A = ℕ} 256 0) 256 (plateLine (c .before .before .before .before .before .before .before .before .before .before .before .before .before .before .before .args .n) (c .before .before .before .before .before .before .before .before .before .before .before .before .before .before .before .args .k) (c .before .before .before .before .before .before .before .before .before .before .before .before .before .before .before .args .entries .now)) (c .prepend-name .last .0) (c .prepend-name .result)
 unfolding plateLine
 whole c =
     prepend-then (prepend-then (prepend-then (prepend-then (c .before .before .before .before .before .before .before .before .before .before .before .prepend-byte .ensures) (rw (c .before .before .before .before .before .before .before .before .wide .ensures, c .before .before .before .before .before .before .before .before .before .largest-entry .ensures) at (c .before .before .before .before .before .before .before .prepend-field .ensures))) (c .before .before .before .before .before .prepend-field2 .ensures)) (c .before .before .before .prepend-field3 .ensures)) (c .prepend-name .ensures)
 
 write-line-requires : tie.Need-write-line-requires
-write-line-requires c κs = line-ends (plate-fits-256 (c .before .before .before .before .before .before .before .before .before .before .before .before .before .before .before .before .args .n) (c .before .before .before .before .before .before .before .before .before .before .before .before .before .before .before .before .args .k) (c .before .before .before .before .before .before .before .before .before .before .before .before .before .before .before .before .args .entries .now)) (whole (c .before .before))
+write-line-requires c κs = line-ends (plate-fits-256 (c .before .before .before .before .before .before .before .before .before .before .before .before .before .before .before .before .before .args .n) (c .before .before .before .before .before .before .before .before .before .before .before .before .before .before .before .before .before .args .k) (c .before .before .before .before .before .before .before .before .before .before .before .before .before .before .before .before .before .args .entries .now)) (whole (c .before .before))
 
 same-length : tie.Need-same-length
 same-length c = search needs
 
 returns : tie.Need-returns
-returns c = line-written (plate-fits-256 (c .before .before .before .before .before .before .before .before .before .before .before .before .before .before .before .before .before .before .before .args .n) (c .before .before .before .before .before .before .before .before .before .before .before .before .before .before .before .before .before .before .before .args .k) (c .before .before .before .before .before .before .before .before .before .before .before .before .before .before .before .before .before .before .before .args .entries .now)) (whole (c .before .before .before .before .before)) (c .before .before .write-line .ensures)
+returns c = line-written (plate-fits-256 (c .before .before .before .before .before .before .before .before .before .before .before .before .before .before .before .before .before .before .before .before .args .n) (c .before .before .before .before .before .before .before .before .before .before .before .before .before .before .before .before .before .before .before .before .args .k) (c .before .before .before .before .before .before .before .before .before .before .before .before .before .before .before .before .before .before .before .before .args .entries .now)) (whole (c .before .before .before .before .before)) (c .before .before .write-line .ensures)
 
 pub put-plate-spec : {M : Type 1} → statement M
 put-plate-spec =

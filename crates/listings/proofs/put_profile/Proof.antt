@@ -19,19 +19,19 @@ prepend-name-requires : tie.Need-prepend-name-requires
 prepend-name-requires c κs = search needs
 
 -- the whole line stands at the end of the array
-whole : (c : tie.After-prepend-name) → Prepends (replicate {A = ℕ} 256 0) 256 (profileLine (c .before .before .before .before .before .before .args .entries .now)) (c .prepend-name .last .0) (c .prepend-name .result)
+whole : (c : tie.After-prepend-name) → Prepends (replicate {A = ℕ} 256 0) 256 (profileLine (c .before .before .before .before .before .before .before .args .entries .now)) (c .prepend-name .last .0) (c .prepend-name .result)
 unfolding profileLine
 whole c =
     prepend-then (c .before .before .before .prepend-entries .ensures) (c .prepend-name .ensures)
 
 write-line-requires : tie.Need-write-line-requires
-write-line-requires c κs = line-ends (c .before .before .before .before .before .before .before .before .pre) (whole (c .before .before))
+write-line-requires c κs = line-ends (c .before .before .before .before .before .before .before .before .before .pre) (whole (c .before .before))
 
 same-length : tie.Need-same-length
 same-length c = search needs
 
 returns : tie.Need-returns
-returns c = line-written (c .before .before .before .before .before .before .before .before .before .before .before .pre) (whole (c .before .before .before .before .before)) (c .before .before .write-line .ensures)
+returns c = line-written (c .before .before .before .before .before .before .before .before .before .before .before .before .pre) (whole (c .before .before .before .before .before)) (c .before .before .write-line .ensures)
 
 pub put-profile-spec : {M : Type 1} → statement M
 put-profile-spec =

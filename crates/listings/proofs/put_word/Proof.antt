@@ -2,6 +2,7 @@
 use Prim.Native.Nat.{ℕ}
 use borrow.Author.Needs.{needs}
 use lib.ListN.{replicate}
+use mir.Facts.{toZ-ofZ}
 use Rattle.listings.specs.Building.{Prepends}
 use Rattle.listings.specs.Lines.{wordLine}
 use Rattle.listings.proofs.Conditions.{line-written}
@@ -35,7 +36,7 @@ prepend-name-requires c κs = search needs
 whole : (c : tie.After-prepend-name) → Prepends (replicate {A = ℕ} 256 0) 256 (wordLine (c .before .before .before .before .before .before .before .before .before .before .before .before .before .before .args .n) (c .before .before .before .before .before .before .before .before .before .before .before .before .before .before .args .word) (c .before .before .before .before .before .before .before .before .before .before .before .before .before .before .args .metric) (c .before .before .before .before .before .before .before .before .before .before .before .before .before .before .args .additions) (c .before .before .before .before .before .before .before .before .before .before .before .before .before .before .args .comparisons)) (c .prepend-name .last .0) (c .prepend-name .result)
 unfolding wordLine
 whole c =
-    prepend-then (prepend-then (prepend-then (prepend-then (prepend-then (c .before .before .before .before .before .before .before .before .before .before .before .prepend-byte .ensures) (c .before .before .before .before .before .before .before .before .before .prepend-field .ensures)) (c .before .before .before .before .before .before .before .prepend-field2 .ensures)) (c .before .before .before .before .before .prepend-signed .ensures)) (c .before .before .before .prepend-positions .ensures)) (c .prepend-name .ensures)
+    prepend-then (prepend-then (prepend-then (prepend-then (prepend-then (c .before .before .before .before .before .before .before .before .before .before .before .prepend-byte .ensures) (c .before .before .before .before .before .before .before .before .before .prepend-field .ensures)) (c .before .before .before .before .before .before .before .prepend-field2 .ensures)) (rw (toZ-ofZ (c .before .before .before .before .before .before .before .before .before .before .before .before .before .before .fits .metric)) at (c .before .before .before .before .before .prepend-signed .ensures))) (c .before .before .before .prepend-positions .ensures)) (c .prepend-name .ensures)
 
 write-line-requires : tie.Need-write-line-requires
 write-line-requires c κs = line-ends (word-fits-256 (c .before .before .before .before .before .before .before .before .before .before .before .before .before .before .before .before .args .n) (c .before .before .before .before .before .before .before .before .before .before .before .before .before .before .before .before .args .word) (c .before .before .before .before .before .before .before .before .before .before .before .before .before .before .before .before .args .metric) (c .before .before .before .before .before .before .before .before .before .before .before .before .before .before .before .before .args .additions) (c .before .before .before .before .before .before .before .before .before .before .before .before .before .before .before .before .args .comparisons) (c .before .before .before .before .before .before .before .before .before .before .before .before .before .before .before .before .pre)) (whole (c .before .before))
