@@ -5,3 +5,4 @@ pub mod Sign
 pub mod Copying
 pub mod Conditions
 pub mod Fits256
+pub mod Determined

@@ -48,13 +48,16 @@ prepend-then {d} {e} {f} {t} {u} {end} {m} {r} p q = record {
       room = omega (arith, p .begins (first h), h .room, length-append u t)
     }
 
--- a whole line, put before the end of an array of zeros
-module _ {line array : List ℕ} {at : ℕ} (short : length line ≤ 256) (p : Prepends (replicate {A = ℕ} 256 0) 256 line array at) where
-  room : HasRoom (replicate {A = ℕ} 256 0) 256 line
-  room = record { size = length-replicate {A = ℕ} 256 0; within = omega arith; room = short }
+-- a line of at most 256 bytes, put before the end of an array of zeros
+pub record Built (line array : List ℕ) (at : ℕ) : Type 0 where
+  pub short : length line ≤ 256
+  pub put : Prepends (replicate 256 0) 256 line array at
 
-  pub line-ends : Ends array at
-  line-ends = record { size = p .same-size ∙ length-replicate {A = ℕ} 256 0; within = omega (arith, p .begins room) }
+zeros-room : {line array : List ℕ} {at : ℕ} → Built line array at → HasRoom (replicate 256 0) 256 line
+zeros-room b = record { size = length-replicate {A = ℕ} 256 0; within = omega arith; room = b .short }
 
-  pub line-stands : drop at array ≡ line
-  line-stands = p .stands room ∙ append-nil line
+pub built-ends : {line array : List ℕ} {at : ℕ} → Built line array at → Ends array at
+built-ends b = record { size = b .put .same-size ∙ length-replicate {A = ℕ} 256 0; within = omega (arith, b .put .begins (zeros-room b)) }
+
+pub built-stands : {line array : List ℕ} {at : ℕ} → Built line array at → drop at array ≡ line
+built-stands {line} b = b .put .stands (zeros-room b) ∙ append-nil line

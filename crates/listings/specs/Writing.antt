@@ -17,11 +17,14 @@ use Rattle.listings.specs.Lines.{plateLine, profileLine, wordLine, refus
 abbrev pub lineRoom : List ℕ → List ℕ → Refusal → Type 0
 lineRoom line room q = (length room < length line) × (q ≡ LineRoom)
 
--- A line into a room, under a call's conditions: the first refusal in order, and the room as it was; or the line's length with its line
--- feed, and the line at the start of the room, with the bytes after it as they were
+-- What writing may reply under a call's conditions: refused, with the first refusal in order and the room as it was; or written, where no
+-- condition holds, with the line's length and the line at the start of the room, the bytes after it as they were
+abbrev pub WritesAs : List (Refusal → Type 0) → List ℕ → List ℕ → List ℕ → Written → Type 0
+WritesAs conditions line room room′ (Refused q) = Refuses conditions q × (room′ ≡ room)
+WritesAs conditions line room room′ (Length size) = Passes conditions × (size ≡ length line) × (room′ ≡ line ++ drop (length line) room)
+
 pub record Writes (conditions : List (Refusal → Type 0)) (line room : List ℕ) (r : Written) (room′ : List ℕ) : Type 0 where
-  pub refused : (q : Refusal) → Refuses conditions q → (r ≡ Refused q) × (room′ ≡ room)
-  pub answer : Passes conditions → (r ≡ Length (length line)) × (room′ ≡ line ++ drop (length line) room)
+  pub reply : WritesAs conditions line room room′ r
 
 -- a line that takes no plate: refusal 11
 abbrev pub WritesLine : List ℕ → List ℕ → Written → List ℕ → Type 0

@@ -1,12 +1,9 @@
 -- `listings::put_plate` meets its contract.
-use Prim.Native.Nat.{ℕ}
 use borrow.Author.Needs.{needs}
-use lib.ListN.{replicate}
-use Rattle.listings.specs.Building.{Prepends}
 use Rattle.listings.specs.Lines.{plateLine}
-use Rattle.listings.proofs.Conditions.{line-written}
+use Rattle.listings.proofs.Conditions.{built-written}
 use Rattle.listings.proofs.Fits256.{plate-fits-256}
-use Rattle.listings.proofs.Prepending.{prepend-then, line-ends}
+use Rattle.listings.proofs.Prepending.{Built, prepend-then, built-ends}
 use Rattle.listings.proofs.put_plate.Statement.{statement}
 use Rattle.listings.proofs.put_plate.Tie as tie
 
@@ -34,20 +31,28 @@ slice-aggregate-prepend-name c = search needs
 prepend-name-requires : tie.Need-prepend-name-requires
 prepend-name-requires c κs = search needs
 
+-- what the call takes
+abbrev start : tie.After-prepend-name → tie.Start
+start c = c .before .before .before .before .before .before .before .before .before .before .before .before .before .before .before
+
 -- the whole line stands at the end of the array
-whole : (c : tie.After-prepend-name) → Prepends (replicate {A = ℕ} 256 0) 256 (plateLine (c .before .before .before .before .before .before .before .before .before .before .before .before .before .before .before .args .n) (c .before .before .before .before .before .before .before .before .before .before .before .before .before .before .before .args .k) (c .before .before .before .before .before .before .before .before .before .before .before .before .before .before .before .args .entries .now)) (c .prepend-name .last .0) (c .prepend-name .result)
+built : (c : tie.After-prepend-name) → Built (plateLine (start c .args .n) (start c .args .k) (start c .args .entries .now)) (c .prepend-name .last .0) (c .prepend-name .result)
 unfolding plateLine
-whole c =
-    prepend-then (prepend-then (prepend-then (prepend-then (c .before .before .before .before .before .before .before .before .before .before .before .prepend-byte .ensures) (rw (c .before .before .before .before .before .before .before .before .wide .ensures, c .before .before .before .before .before .before .before .before .before .largest-entry .ensures) at (c .before .before .before .before .before .before .before .prepend-field .ensures))) (c .before .before .before .before .before .prepend-field2 .ensures)) (c .before .before .before .prepend-field3 .ensures)) (c .prepend-name .ensures)
+built c =
+    let n = c .before .before .before in
+    let k = n .before .before in
+    let m = k .before .before in
+    let feed = m .before .before .before .before in
+    record { short = plate-fits-256 (start c .args .n) (start c .args .k) (start c .args .entries .now); put = prepend-then (prepend-then (prepend-then (prepend-then (feed .prepend-byte .ensures) (rw (m .before .wide .ensures, m .before .before .largest-entry .ensures) at (m .prepend-field .ensures))) (k .prepend-field2 .ensures)) (n .prepend-field3 .ensures)) (c .prepend-name .ensures) }
 
 write-line-requires : tie.Need-write-line-requires
-write-line-requires c κs = line-ends (plate-fits-256 (c .before .before .before .before .before .before .before .before .before .before .before .before .before .before .before .before .before .args .n) (c .before .before .before .before .before .before .before .before .before .before .before .before .before .before .before .before .before .args .k) (c .before .before .before .before .before .before .before .before .before .before .before .before .before .before .before .before .before .args .entries .now)) (whole (c .before .before))
+write-line-requires c κs = built-ends (built (c .before .before))
 
 same-length : tie.Need-same-length
 same-length c = search needs
 
 returns : tie.Need-returns
-returns c = line-written (plate-fits-256 (c .before .before .before .before .before .before .before .before .before .before .before .before .before .before .before .before .before .before .before .before .args .n) (c .before .before .before .before .before .before .before .before .before .before .before .before .before .before .before .before .before .before .before .before .args .k) (c .before .before .before .before .before .before .before .before .before .before .before .before .before .before .before .before .before .before .before .before .args .entries .now)) (whole (c .before .before .before .before .before)) (c .before .before .write-line .ensures)
+returns c = built-written (built (c .before .before .before .before .before)) (c .before .before .write-line .ensures)
 
 pub put-plate-spec : {M : Type 1} → statement M
 put-plate-spec =

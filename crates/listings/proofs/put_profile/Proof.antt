@@ -1,11 +1,8 @@
 -- `listings::put_profile` meets its contract.
-use Prim.Native.Nat.{ℕ}
 use borrow.Author.Needs.{needs}
-use lib.ListN.{replicate}
-use Rattle.listings.specs.Building.{Prepends}
 use Rattle.listings.specs.Lines.{profileLine}
-use Rattle.listings.proofs.Conditions.{line-written}
-use Rattle.listings.proofs.Prepending.{prepend-then, line-ends}
+use Rattle.listings.proofs.Conditions.{built-written}
+use Rattle.listings.proofs.Prepending.{Built, prepend-then, built-ends}
 use Rattle.listings.proofs.put_profile.Statement.{statement}
 use Rattle.listings.proofs.put_profile.Tie as tie
 
@@ -18,20 +15,25 @@ slice-aggregate-prepend-name c = search needs
 prepend-name-requires : tie.Need-prepend-name-requires
 prepend-name-requires c κs = search needs
 
+-- what the call takes
+abbrev start : tie.After-prepend-name → tie.Start
+start c = c .before .before .before .before .before .before .before
+
 -- the whole line stands at the end of the array
-whole : (c : tie.After-prepend-name) → Prepends (replicate {A = ℕ} 256 0) 256 (profileLine (c .before .before .before .before .before .before .before .args .entries .now)) (c .prepend-name .last .0) (c .prepend-name .result)
+built : (c : tie.After-prepend-name) → Built (profileLine (start c .args .entries .now)) (c .prepend-name .last .0) (c .prepend-name .result)
 unfolding profileLine
-whole c =
-    prepend-then (c .before .before .before .prepend-entries .ensures) (c .prepend-name .ensures)
+built c =
+    let entries = c .before .before .before in
+    record { short = start c .pre; put = prepend-then (entries .prepend-entries .ensures) (c .prepend-name .ensures) }
 
 write-line-requires : tie.Need-write-line-requires
-write-line-requires c κs = line-ends (c .before .before .before .before .before .before .before .before .before .pre) (whole (c .before .before))
+write-line-requires c κs = built-ends (built (c .before .before))
 
 same-length : tie.Need-same-length
 same-length c = search needs
 
 returns : tie.Need-returns
-returns c = line-written (c .before .before .before .before .before .before .before .before .before .before .before .before .pre) (whole (c .before .before .before .before .before)) (c .before .before .write-line .ensures)
+returns c = built-written (built (c .before .before .before .before .before)) (c .before .before .write-line .ensures)
 
 pub put-profile-spec : {M : Type 1} → statement M
 put-profile-spec =

@@ -1,13 +1,10 @@
 -- `listings::put_word` meets its contract.
-use Prim.Native.Nat.{ℕ}
 use borrow.Author.Needs.{needs}
-use lib.ListN.{replicate}
 use mir.Facts.{toZ-ofZ}
-use Rattle.listings.specs.Building.{Prepends}
 use Rattle.listings.specs.Lines.{wordLine}
-use Rattle.listings.proofs.Conditions.{line-written}
+use Rattle.listings.proofs.Conditions.{built-written}
 use Rattle.listings.proofs.Fits256.{word-fits-256}
-use Rattle.listings.proofs.Prepending.{prepend-then, line-ends}
+use Rattle.listings.proofs.Prepending.{Built, prepend-then, built-ends}
 use Rattle.listings.proofs.put_word.Statement.{statement}
 use Rattle.listings.proofs.put_word.Tie as tie
 
@@ -32,20 +29,29 @@ slice-aggregate-prepend-name c = search needs
 prepend-name-requires : tie.Need-prepend-name-requires
 prepend-name-requires c κs = search needs
 
+-- what the call takes
+abbrev start : tie.After-prepend-name → tie.Start
+start c = c .before .before .before .before .before .before .before .before .before .before .before .before .before .before
+
 -- the whole line stands at the end of the array
-whole : (c : tie.After-prepend-name) → Prepends (replicate {A = ℕ} 256 0) 256 (wordLine (c .before .before .before .before .before .before .before .before .before .before .before .before .before .before .args .n) (c .before .before .before .before .before .before .before .before .before .before .before .before .before .before .args .word) (c .before .before .before .before .before .before .before .before .before .before .before .before .before .before .args .metric) (c .before .before .before .before .before .before .before .before .before .before .before .before .before .before .args .additions) (c .before .before .before .before .before .before .before .before .before .before .before .before .before .before .args .comparisons)) (c .prepend-name .last .0) (c .prepend-name .result)
+built : (c : tie.After-prepend-name) → Built (wordLine (start c .args .n) (start c .args .word) (start c .args .metric) (start c .args .additions) (start c .args .comparisons)) (c .prepend-name .last .0) (c .prepend-name .result)
 unfolding wordLine
-whole c =
-    prepend-then (prepend-then (prepend-then (prepend-then (prepend-then (c .before .before .before .before .before .before .before .before .before .before .before .prepend-byte .ensures) (c .before .before .before .before .before .before .before .before .before .prepend-field .ensures)) (c .before .before .before .before .before .before .before .prepend-field2 .ensures)) (rw (toZ-ofZ (c .before .before .before .before .before .before .before .before .before .before .before .before .before .before .fits .metric)) at (c .before .before .before .before .before .prepend-signed .ensures))) (c .before .before .before .prepend-positions .ensures)) (c .prepend-name .ensures)
+built c =
+    let positions = c .before .before .before in
+    let metric = positions .before .before in
+    let additions = metric .before .before in
+    let comparisons = additions .before .before in
+    let feed = comparisons .before .before in
+    record { short = word-fits-256 (start c .args .n) (start c .args .word) (start c .args .metric) (start c .args .additions) (start c .args .comparisons) (start c .pre); put = prepend-then (prepend-then (prepend-then (prepend-then (prepend-then (feed .prepend-byte .ensures) (comparisons .prepend-field .ensures)) (additions .prepend-field2 .ensures)) (rw (toZ-ofZ (start c .fits .metric)) at (metric .prepend-signed .ensures))) (positions .prepend-positions .ensures)) (c .prepend-name .ensures) }
 
 write-line-requires : tie.Need-write-line-requires
-write-line-requires c κs = line-ends (word-fits-256 (c .before .before .before .before .before .before .before .before .before .before .before .before .before .before .before .before .args .n) (c .before .before .before .before .before .before .before .before .before .before .before .before .before .before .before .before .args .word) (c .before .before .before .before .before .before .before .before .before .before .before .before .before .before .before .before .args .metric) (c .before .before .before .before .before .before .before .before .before .before .before .before .before .before .before .before .args .additions) (c .before .before .before .before .before .before .before .before .before .before .before .before .before .before .before .before .args .comparisons) (c .before .before .before .before .before .before .before .before .before .before .before .before .before .before .before .before .pre)) (whole (c .before .before))
+write-line-requires c κs = built-ends (built (c .before .before))
 
 same-length : tie.Need-same-length
 same-length c = search needs
 
 returns : tie.Need-returns
-returns c = line-written (word-fits-256 (c .before .before .before .before .before .before .before .before .before .before .before .before .before .before .before .before .before .before .before .args .n) (c .before .before .before .before .before .before .before .before .before .before .before .before .before .before .before .before .before .before .before .args .word) (c .before .before .before .before .before .before .before .before .before .before .before .before .before .before .before .before .before .before .before .args .metric) (c .before .before .before .before .before .before .before .before .before .before .before .before .before .before .before .before .before .before .before .args .additions) (c .before .before .before .before .before .before .before .before .before .before .before .before .before .before .before .before .before .before .before .args .comparisons) (c .before .before .before .before .before .before .before .before .before .before .before .before .before .before .before .before .before .before .before .pre)) (whole (c .before .before .before .before .before)) (c .before .before .write-line .ensures)
+returns c = built-written (built (c .before .before .before .before .before)) (c .before .before .write-line .ensures)
 
 pub put-word-spec : {M : Type 1} → statement M
 put-word-spec =

@@ -1,12 +1,9 @@
 -- `listings::write_refused` meets its contract.
-use Prim.Native.Nat.{ℕ}
 use borrow.Author.Needs.{needs}
-use lib.ListN.{replicate}
-use Rattle.listings.specs.Building.{Prepends}
 use Rattle.listings.specs.Lines.{refusedLine}
-use Rattle.listings.proofs.Conditions.{line-written}
+use Rattle.listings.proofs.Conditions.{built-written}
 use Rattle.listings.proofs.Fits256.{refused-fits-256}
-use Rattle.listings.proofs.Prepending.{prepend-then, line-ends}
+use Rattle.listings.proofs.Prepending.{Built, prepend-then, built-ends}
 use Rattle.listings.proofs.write_refused.Statement.{statement}
 use Rattle.listings.proofs.write_refused.Tie as tie
 
@@ -25,20 +22,27 @@ slice-aggregate-prepend-name c = search needs
 prepend-name-requires : tie.Need-prepend-name-requires
 prepend-name-requires c κs = search needs
 
+-- what the call takes
+abbrev start : tie.After-prepend-name → tie.Start
+start c = c .before .before .before .before .before .before .before .before .before .before
+
 -- the whole line stands at the end of the array
-whole : (c : tie.After-prepend-name) → Prepends (replicate {A = ℕ} 256 0) 256 (refusedLine (c .before .before .before .before .before .before .before .before .before .before .args .number) (c .before .before .before .before .before .before .before .before .before .before .args .place)) (c .prepend-name .last .0) (c .prepend-name .result)
+built : (c : tie.After-prepend-name) → Built (refusedLine (start c .args .number) (start c .args .place)) (c .prepend-name .last .0) (c .prepend-name .result)
 unfolding refusedLine
-whole c =
-    prepend-then (prepend-then (prepend-then (c .before .before .before .before .before .before .before .prepend-byte .ensures) (c .before .before .before .before .before .prepend-field .ensures)) (c .before .before .before .prepend-field2 .ensures)) (c .prepend-name .ensures)
+built c =
+    let number = c .before .before .before in
+    let place = number .before .before in
+    let feed = place .before .before in
+    record { short = refused-fits-256 (start c .args .number) (start c .args .place); put = prepend-then (prepend-then (prepend-then (feed .prepend-byte .ensures) (place .prepend-field .ensures)) (number .prepend-field2 .ensures)) (c .prepend-name .ensures) }
 
 write-line-requires : tie.Need-write-line-requires
-write-line-requires c κs = line-ends (refused-fits-256 (c .before .before .before .before .before .before .before .before .before .before .before .before .args .number) (c .before .before .before .before .before .before .before .before .before .before .before .before .args .place)) (whole (c .before .before))
+write-line-requires c κs = built-ends (built (c .before .before))
 
 same-length : tie.Need-same-length
 same-length c = search needs
 
 returns : tie.Need-returns
-returns c = line-written (refused-fits-256 (c .before .before .before .before .before .before .before .before .before .before .before .before .before .before .before .args .number) (c .before .before .before .before .before .before .before .before .before .before .before .before .before .before .before .args .place)) (whole (c .before .before .before .before .before)) (c .before .before .write-line .ensures)
+returns c = built-written (built (c .before .before .before .before .before)) (c .before .before .write-line .ensures)
 
 pub write-refused-spec : {M : Type 1} → statement M
 write-refused-spec =
