@@ -6,3 +6,4 @@ pub mod Copying
 pub mod Conditions
 pub mod Fits256
 pub mod Determined
+pub mod OfPlate
