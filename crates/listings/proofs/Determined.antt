@@ -1,15 +1,14 @@
 -- Determined: two replies with rooms that meet the promise of a call are equal.
 use lib.IntN.{ℤ}
 use lib.ListN.{length, drop}
-use mathlib.Core.List.{List, [], _∷_, _++_}
+use mathlib.Core.List.{List, _++_}
 use mathlib.Core.Path.{_≡_, refl, ap, sym, _∙_}
 use Prim.Native.Nat.{ℕ}
 use Rattle.plates.proofs.Refusing.{Single, never-both, refuses-once}
-use Rattle.plates.specs.Prepare.{notPrepared}
 use Rattle.plates.specs.Refusals.{Refuses, Passes}
 use Rattle.plates.specs.declared.Plate.{Plate}
 use Rattle.plates.specs.declared.Refusal.{Refusal}
-use Rattle.listings.specs.Writing.{Writes, WritesAs, lineRoom, WritesPlate, WritesProfile, WritesWord, WritesRefused, WritesEnd}
+use Rattle.listings.specs.Writing.{Writes, WritesAs, WritesLine, WritesOf, WritesPlate, WritesProfile, WritesWord, WritesRefused, WritesEnd}
 use Rattle.listings.specs.declared.Written.{Written}
 use Rattle.listings.specs.declared.Written.the-variants.{Length, Refused}
 
@@ -38,25 +37,28 @@ module _ (cs : List (Refusal → Type 0)) (single : Single cs) (line room : List
 
 -- ---- the five calls
 
-line-single : (line room : List ℕ) → Single (lineRoom line room ∷ [])
-line-single line room = ((λ p q x y. x .1 ∙ sym (y .1)), tt)
-
-plate-single : (plate : Plate) (line room : List ℕ) → Single (notPrepared plate ∷ lineRoom line room ∷ [])
-plate-single plate line room = ((λ p q x y. x .1 ∙ sym (y .1)), line-single line room)
+once : {refusal : Refusal} {holds : Type 0} (p q : Refusal) → holds × (p ≡ refusal) → holds × (q ≡ refusal) → p ≡ q
+once p q x y = x .1 ∙ sym (y .1)
 
 module _ {room : List ℕ} {r s : Written} {a b : List ℕ} where
+  line-determined : {line : List ℕ} → WritesLine line room r a → WritesLine line room s b → Same r s a b
+  line-determined {line} = determined _ (once, tt) line room
+
+  plate-determined : {plate : Plate} {line : List ℕ} → WritesOf plate line room r a → WritesOf plate line room s b → Same r s a b
+  plate-determined {line = line} = determined _ (once, (once, tt)) line room
+
   pub write-plate-determined : (plate : Plate) → WritesPlate plate room r a → WritesPlate plate room s b → Same r s a b
-  write-plate-determined plate = determined _ (plate-single plate _ room) _ room
+  write-plate-determined plate = plate-determined
 
   pub write-profile-determined : (plate : Plate) → WritesProfile plate room r a → WritesProfile plate room s b → Same r s a b
-  write-profile-determined plate = determined _ (plate-single plate _ room) _ room
+  write-profile-determined plate = plate-determined
 
   pub write-word-determined : (plate : Plate) (word : ℕ) (metric : ℤ) (additions comparisons : ℕ)
       → WritesWord plate word metric additions comparisons room r a → WritesWord plate word metric additions comparisons room s b → Same r s a b
-  write-word-determined plate word metric additions comparisons = determined _ (plate-single plate _ room) _ room
+  write-word-determined plate word metric additions comparisons = plate-determined
 
   pub write-refused-determined : (number place : ℕ) → WritesRefused number place room r a → WritesRefused number place room s b → Same r s a b
-  write-refused-determined number place = determined _ (line-single _ room) _ room
+  write-refused-determined number place = line-determined
 
   pub write-end-determined : (blocks : ℕ) → WritesEnd blocks room r a → WritesEnd blocks room s b → Same r s a b
-  write-end-determined blocks = determined _ (line-single _ room) _ room
+  write-end-determined blocks = line-determined
