@@ -37,6 +37,13 @@ fn prepend_byte(line: &mut Line, end: usize, byte: u8) -> usize
     end - 1
 }
 
+// The line feed, at the end of the array.
+fn line_feed(line: &mut Line) -> usize
+    ensures { λ r. ⌜ Prepends (now (line .entry)) 256 (10 ∷ []) (now (line .exit)) r ⌝ }
+{
+    prepend_byte(line, 256, 10)
+}
+
 // A number's digits before a place.
 fn prepend_number(line: &mut Line, end: usize, value: u64) -> usize
     ensures { λ r. ⌜ Prepends (now (line .entry)) end (decimal value) (now (line .exit)) r ⌝ }
@@ -95,11 +102,11 @@ fn magnitude(value: i32) -> u64
 }
 
 // A tab and a number before a place, with a minus exactly when it is below 0.
-fn prepend_signed(line: &mut Line, end: usize, value: i32) -> usize
-    ensures { λ r. ⌜ Prepends (now (line .entry)) end (9 ∷ signed value) (now (line .exit)) r ⌝ }
+fn prepend_signed(line: &mut Line, end: usize, metric: i32) -> usize
+    ensures { λ r. ⌜ Prepends (now (line .entry)) end (9 ∷ signed metric) (now (line .exit)) r ⌝ }
 {
-    let size = magnitude(value);
-    if value < 0 {
+    let size = magnitude(metric);
+    if metric < 0 {
         let digits = prepend_number(line, end, size);
         let minus = prepend_byte(line, digits, 45);
         return prepend_byte(line, minus, 9);
@@ -131,7 +138,7 @@ fn largest_entry(entries: &[u8]) -> u8
 fn prepend_entries(line: &mut Line, entries: &[u8]) -> usize
     ensures { λ r. ⌜ Prepends (now (line .entry)) 256 (following (map decimal (now (entries .entry)))) (now (line .exit)) r ⌝ }
 {
-    let mut at = prepend_byte(line, 256, 10);
+    let mut at = line_feed(line);
     let mut i = entries.len();
     while i > 0 {
         i -= 1;
@@ -180,7 +187,7 @@ fn put_plate(n: usize, k: usize, entries: &[u8], room: &mut [u8]) -> Written
     ensures { λ r. ⌜ WritesLine (plateLine n k (now (entries .entry))) (now (room .entry)) r (now (room .exit)) ⌝ }
 {
     let mut line = [0; 256];
-    let feed = prepend_byte(&mut line, 256, 10);
+    let feed = line_feed(&mut line);
     let most = prepend_field(&mut line, feed, wide(largest_entry(entries)));
     let heads = prepend_field(&mut line, most, k as u64);
     let long = prepend_field(&mut line, heads, n as u64);
@@ -205,7 +212,7 @@ fn put_word(n: usize, word: u64, metric: i32, additions: u64, comparisons: u64, 
     ensures { λ r. ⌜ WritesLine (wordLine n word metric additions comparisons) (now (room .entry)) r (now (room .exit)) ⌝ }
 {
     let mut line = [0; 256];
-    let feed = prepend_byte(&mut line, 256, 10);
+    let feed = line_feed(&mut line);
     let compared = prepend_field(&mut line, feed, comparisons);
     let added = prepend_field(&mut line, compared, additions);
     let best = prepend_signed(&mut line, added, metric);
@@ -221,7 +228,7 @@ pub fn write_refused(number: u64, place: u64, room: &mut [u8]) -> Written
     ensures { λ r. ⌜ WritesRefused number place (now (room .entry)) r (now (room .exit)) ⌝ }
 {
     let mut line = [0; 256];
-    let feed = prepend_byte(&mut line, 256, 10);
+    let feed = line_feed(&mut line);
     let last = prepend_field(&mut line, feed, place);
     let first = prepend_field(&mut line, last, number);
     let at = prepend_name(&mut line, first, b"refused");
@@ -233,7 +240,7 @@ pub fn write_end(blocks: u64, room: &mut [u8]) -> Written
     ensures { λ r. ⌜ WritesEnd blocks (now (room .entry)) r (now (room .exit)) ⌝ }
 {
     let mut line = [0; 256];
-    let feed = prepend_byte(&mut line, 256, 10);
+    let feed = line_feed(&mut line);
     let first = prepend_field(&mut line, feed, blocks);
     let at = prepend_name(&mut line, first, b"end");
     write_line(&line, at, room)

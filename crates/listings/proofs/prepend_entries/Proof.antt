@@ -20,8 +20,8 @@ Inv-loop line₀ entries at₀ i₀ line at i =
 abbrev μ-loop : tie.MeasureT-loop
 μ-loop line₀ entries at₀ i₀ line at i = i
 
-prepend-byte-requires : tie.Need-prepend-byte-requires Inv-loop μ-loop
-prepend-byte-requires c κs = search needs
+line-feed-requires : tie.Need-line-feed-requires Inv-loop μ-loop
+line-feed-requires c κs = search needs
 
 loop-holds : tie.Need-loop-holds Inv-loop μ-loop
 loop-holds c = (omega arith, λ d end p. rw (drop-length (c .before .before .before .args .entries .now)) p)
@@ -50,7 +50,7 @@ loop-again c =
 returns : tie.Need-returns Inv-loop μ-loop
 returns c = 
     let e : c .before .loop .i ≡ 0 = omega arith in
-    rw e at (c .before .loop .inv .1 _ _ (c .before .before .prepend-byte .ensures))
+    rw e at (c .before .loop .inv .1 _ _ (c .before .before .line-feed .ensures))
 
 pub prepend-entries-spec : {M : Type 1} → statement M
 prepend-entries-spec =
@@ -58,7 +58,7 @@ prepend-entries-spec =
     (tie.spec
     Inv-loop
     μ-loop
-    prepend-byte-requires
+    line-feed-requires
     loop-holds
     sub-i
     shared-slice-read-wide

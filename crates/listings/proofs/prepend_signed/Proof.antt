@@ -25,9 +25,9 @@ prepend-byte-requires-2 c κs = search needs
 returns : tie.Need-returns
 returns c = 
     let a = c .before .before .before .before .before .before .before .before in
-    let e = toZ-ofZ (a .fits .value) in
-    let f : ltZ (a .args .value) (pos 0) ≡ true = rw e at (c .before .before .before .before .before .before .if1 .taken) in
-    rw (signed-below (a .args .value) f, ← e, ← c .before .before .before .before .before .before .before .magnitude .ensures)
+    let e = toZ-ofZ (a .fits .metric) in
+    let f : ltZ (a .args .metric) (pos 0) ≡ true = rw e at (c .before .before .before .before .before .before .if1 .taken) in
+    rw (signed-below (a .args .metric) f, ← e, ← c .before .before .before .before .before .before .before .magnitude .ensures)
     (prepend-then (prepend-then (c .before .before .before .before .prepend-number .ensures) (c .before .before .prepend-byte .ensures)) (c .prepend-byte2 .ensures))
 
 prepend-field-requires : tie.Need-prepend-field-requires
@@ -36,9 +36,9 @@ prepend-field-requires c κs = search needs
 returns-2 : tie.Need-returns-2
 returns-2 c = 
     let a = c .before .before .before .before in
-    let e = toZ-ofZ (a .fits .value) in
-    let f : ltZ (a .args .value) (pos 0) ≡ false = rw e at (c .before .before .if1 .left) in
-    rw (signed-other (a .args .value) f, ← e, ← c .before .before .before .magnitude .ensures) (c .prepend-field .ensures)
+    let e = toZ-ofZ (a .fits .metric) in
+    let f : ltZ (a .args .metric) (pos 0) ≡ false = rw e at (c .before .before .if1 .left) in
+    rw (signed-other (a .args .metric) f, ← e, ← c .before .before .before .magnitude .ensures) (c .prepend-field .ensures)
 
 pub prepend-signed-spec : {M : Type 1} → statement M
 prepend-signed-spec =

@@ -7,8 +7,8 @@ use Rattle.listings.proofs.Prepending.{Built, prepend-then, built-ends}
 use Rattle.listings.proofs.put_plate.Statement.{statement}
 use Rattle.listings.proofs.put_plate.Tie as tie
 
-prepend-byte-requires : tie.Need-prepend-byte-requires
-prepend-byte-requires c κs = search needs
+line-feed-requires : tie.Need-line-feed-requires
+line-feed-requires c κs = search needs
 
 largest-entry-requires : tie.Need-largest-entry-requires
 largest-entry-requires c κs = search needs
@@ -43,7 +43,7 @@ built c =
     let k = n .before .before in
     let m = k .before .before in
     let feed = m .before .before .before .before in
-    record { short = plate-fits-256 (start c .args .n) (start c .args .k) (start c .args .entries .now); put = prepend-then (prepend-then (prepend-then (prepend-then (feed .prepend-byte .ensures) (rw (m .before .wide .ensures, m .before .before .largest-entry .ensures) at (m .prepend-field .ensures))) (k .prepend-field2 .ensures)) (n .prepend-field3 .ensures)) (c .prepend-name .ensures) }
+    record { short = plate-fits-256 (start c .args .n) (start c .args .k) (start c .args .entries .now); put = prepend-then (prepend-then (prepend-then (prepend-then (feed .line-feed .ensures) (rw (m .before .wide .ensures, m .before .before .largest-entry .ensures) at (m .prepend-field .ensures))) (k .prepend-field2 .ensures)) (n .prepend-field3 .ensures)) (c .prepend-name .ensures) }
 
 write-line-requires : tie.Need-write-line-requires
 write-line-requires c κs = built-ends (built (c .before .before))
@@ -58,7 +58,7 @@ pub put-plate-spec : {M : Type 1} → statement M
 put-plate-spec =
     tie.close
     (tie.spec
-    prepend-byte-requires
+    line-feed-requires
     largest-entry-requires
     wide-requires
     prepend-field-requires

@@ -8,8 +8,8 @@ use Rattle.listings.proofs.Prepending.{Built, prepend-then, built-ends}
 use Rattle.listings.proofs.put_word.Statement.{statement}
 use Rattle.listings.proofs.put_word.Tie as tie
 
-prepend-byte-requires : tie.Need-prepend-byte-requires
-prepend-byte-requires c κs = search needs
+line-feed-requires : tie.Need-line-feed-requires
+line-feed-requires c κs = search needs
 
 prepend-field-requires : tie.Need-prepend-field-requires
 prepend-field-requires c κs = search needs
@@ -42,7 +42,7 @@ built c =
     let additions = metric .before .before in
     let comparisons = additions .before .before in
     let feed = comparisons .before .before in
-    record { short = word-fits-256 (start c .args .n) (start c .args .word) (start c .args .metric) (start c .args .additions) (start c .args .comparisons) (start c .pre); put = prepend-then (prepend-then (prepend-then (prepend-then (prepend-then (feed .prepend-byte .ensures) (comparisons .prepend-field .ensures)) (additions .prepend-field2 .ensures)) (rw (toZ-ofZ (start c .fits .metric)) at (metric .prepend-signed .ensures))) (positions .prepend-positions .ensures)) (c .prepend-name .ensures) }
+    record { short = word-fits-256 (start c .args .n) (start c .args .word) (start c .args .metric) (start c .args .additions) (start c .args .comparisons) (start c .pre); put = prepend-then (prepend-then (prepend-then (prepend-then (prepend-then (feed .line-feed .ensures) (comparisons .prepend-field .ensures)) (additions .prepend-field2 .ensures)) (rw (toZ-ofZ (start c .fits .metric)) at (metric .prepend-signed .ensures))) (positions .prepend-positions .ensures)) (c .prepend-name .ensures) }
 
 write-line-requires : tie.Need-write-line-requires
 write-line-requires c κs = built-ends (built (c .before .before))
@@ -57,7 +57,7 @@ pub put-word-spec : {M : Type 1} → statement M
 put-word-spec =
     tie.close
     (tie.spec
-    prepend-byte-requires
+    line-feed-requires
     prepend-field-requires
     prepend-field-requires-2
     prepend-signed-requires

@@ -7,8 +7,8 @@ use Rattle.listings.proofs.Prepending.{Built, prepend-then, built-ends}
 use Rattle.listings.proofs.write_end.Statement.{statement}
 use Rattle.listings.proofs.write_end.Tie as tie
 
-prepend-byte-requires : tie.Need-prepend-byte-requires
-prepend-byte-requires c κs = search needs
+line-feed-requires : tie.Need-line-feed-requires
+line-feed-requires c κs = search needs
 
 prepend-field-requires : tie.Need-prepend-field-requires
 prepend-field-requires c κs = search needs
@@ -29,7 +29,7 @@ unfolding endLine
 built c =
     let blocks = c .before .before .before in
     let feed = blocks .before .before in
-    record { short = end-fits-256 (start c .args .blocks); put = prepend-then (prepend-then (feed .prepend-byte .ensures) (blocks .prepend-field .ensures)) (c .prepend-name .ensures) }
+    record { short = end-fits-256 (start c .args .blocks); put = prepend-then (prepend-then (feed .line-feed .ensures) (blocks .prepend-field .ensures)) (c .prepend-name .ensures) }
 
 write-line-requires : tie.Need-write-line-requires
 write-line-requires c κs = built-ends (built (c .before .before))
@@ -44,7 +44,7 @@ pub write-end-spec : {M : Type 1} → statement M
 write-end-spec =
     tie.close
     (tie.spec
-    prepend-byte-requires
+    line-feed-requires
     prepend-field-requires
     slice-aggregate-prepend-name
     prepend-name-requires

@@ -7,8 +7,8 @@ use Rattle.listings.proofs.Prepending.{Built, prepend-then, built-ends}
 use Rattle.listings.proofs.write_refused.Statement.{statement}
 use Rattle.listings.proofs.write_refused.Tie as tie
 
-prepend-byte-requires : tie.Need-prepend-byte-requires
-prepend-byte-requires c κs = search needs
+line-feed-requires : tie.Need-line-feed-requires
+line-feed-requires c κs = search needs
 
 prepend-field-requires : tie.Need-prepend-field-requires
 prepend-field-requires c κs = search needs
@@ -33,7 +33,7 @@ built c =
     let number = c .before .before .before in
     let place = number .before .before in
     let feed = place .before .before in
-    record { short = refused-fits-256 (start c .args .number) (start c .args .place); put = prepend-then (prepend-then (prepend-then (feed .prepend-byte .ensures) (place .prepend-field .ensures)) (number .prepend-field2 .ensures)) (c .prepend-name .ensures) }
+    record { short = refused-fits-256 (start c .args .number) (start c .args .place); put = prepend-then (prepend-then (prepend-then (feed .line-feed .ensures) (place .prepend-field .ensures)) (number .prepend-field2 .ensures)) (c .prepend-name .ensures) }
 
 write-line-requires : tie.Need-write-line-requires
 write-line-requires c κs = built-ends (built (c .before .before))
@@ -48,7 +48,7 @@ pub write-refused-spec : {M : Type 1} → statement M
 write-refused-spec =
     tie.close
     (tie.spec
-    prepend-byte-requires
+    line-feed-requires
     prepend-field-requires
     prepend-field-requires-2
     slice-aggregate-prepend-name
