@@ -13,7 +13,7 @@ use Rattle.listings.specs.declared.Written.{Written}
 use Rattle.listings.specs.declared.Written.the-variants.{Length, Refused}
 
 -- one reply, and one room after it
-abbrev Same : Written → Written → List ℕ → List ℕ → Type 0
+abbrev pub Same : Written → Written → List ℕ → List ℕ → Type 0
 Same r s a b = (r ≡ s) × (a ≡ b)
 
 module _ (cs : List (Refusal → Type 0)) (single : Single cs) (line room : List ℕ) where

@@ -7,3 +7,5 @@ pub mod Conditions
 pub mod Fits256
 pub mod Determined
 pub mod OfPlate
+pub mod DecimalReads
+pub mod Examples

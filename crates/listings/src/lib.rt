@@ -2,9 +2,10 @@
 // since a number's digits come that way, and copied where the room is long enough: every line is proved to fit the array.
 ghost use mathlib.Core.Path.{_≡_};
 ghost use mathlib.Core.List.{_∷_, [], _++_, map};
-ghost use Prim.Native.Nat.{_≤_, max};
+ghost use Prim.Native.Nat.{_+_, _≤_, max};
 ghost use lib.IntN.{natAbs};
 ghost use lib.ListN.{length, drop};
+ghost use Rattle.words.specs.Word.{bit};
 ghost use Rattle.listings.specs.Building.{Prepends, Ends};
 ghost use Rattle.listings.specs.Decimal.{decimal, signed};
 ghost use Rattle.listings.specs.Lines.{largest, following, positions, plateLine, profileLine, wordLine};
@@ -78,6 +79,13 @@ fn prepend_name(line: &mut Line, end: usize, name: &[u8]) -> usize
     at
 }
 
+// The character of a position, 0 or 1.
+fn character(word: u64, position: usize) -> u8
+    ensures { λ r. ⌜ r ≡ 48 + bit word position ⌝ }
+{
+    48 + words::bit_at(word, position) as u8
+}
+
 // A tab and the first n positions of a word before a place, position 0 at the left.
 fn prepend_positions(line: &mut Line, end: usize, word: u64, n: usize) -> usize
     ensures { λ r. ⌜ Prepends (now (line .entry)) end (9 ∷ positions word 0 n) (now (line .exit)) r ⌝ }
@@ -86,7 +94,7 @@ fn prepend_positions(line: &mut Line, end: usize, word: u64, n: usize) -> usize
     let mut i = n;
     while i > 0 {
         i -= 1;
-        at = prepend_byte(line, at, 48 + words::bit_at(word, i) as u8);
+        at = prepend_byte(line, at, character(word, i));
     }
     prepend_byte(line, at, 9)
 }

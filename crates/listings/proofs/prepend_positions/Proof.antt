@@ -1,9 +1,8 @@
 -- `listings::prepend_positions` meets its contract: the positions from i on stand in the array.
-use Prim.Native.Nat.{_-_, _≤_}
+use Prim.Native.Nat.{_≤_}
 use lib.ListN.{drop}
 use mathlib.Core.Path.{_≡_}
 use native.Mathlib.Omega.{arith}
-use Rattle.words.proofs.Word.{bit-lt}
 use Rattle.listings.specs.Building.{Prepends}
 use Rattle.listings.specs.Lines.{positions}
 use Rattle.listings.proofs.Backwards.{positions-start, positions-on}
@@ -24,14 +23,8 @@ loop-holds c = (omega arith, positions-start _ _ (c .args .word) (c .args .n))
 sub-i : tie.Need-sub-i Inv-loop μ-loop
 sub-i c = omega arith
 
-bit-at-requires : tie.Need-bit-at-requires Inv-loop μ-loop
-bit-at-requires c κs = search needs
-
-cast-prepend-byte : tie.Need-cast-prepend-byte Inv-loop μ-loop
-cast-prepend-byte c = omega (arith, bit-lt (c .before .before .before .loop .i - 1) (c .before .before .before .before .args .word))
-
-add-prepend-byte : tie.Need-add-prepend-byte Inv-loop μ-loop
-add-prepend-byte c = omega (arith, bit-lt (c .before .before .before .loop .i - 1) (c .before .before .before .before .args .word))
+character-requires : tie.Need-character-requires Inv-loop μ-loop
+character-requires c κs = search needs
 
 prepend-byte-requires : tie.Need-prepend-byte-requires Inv-loop μ-loop
 prepend-byte-requires c κs = search needs
@@ -43,7 +36,7 @@ loop-again : tie.Need-loop-again Inv-loop μ-loop
 loop-again c = 
     let l = c .before .before .before .before .loop in
     let a = c .before .before .before .before .before .args in
-    (omega arith, positions-on (a .word) (a .n) _ (c .before .before .before .loop-test .taken) (l .inv .0) (l .inv .1) (rw (c .before .bit-at .ensures) at (c .prepend-byte .ensures)))
+    (omega arith, positions-on (a .word) (a .n) _ (c .before .before .before .loop-test .taken) (l .inv .0) (l .inv .1) (rw (c .before .character .ensures) at (c .prepend-byte .ensures)))
 
 prepend-byte-requires-2 : tie.Need-prepend-byte-requires-2 Inv-loop μ-loop
 prepend-byte-requires-2 c κs = search needs
@@ -62,9 +55,7 @@ prepend-positions-spec =
     μ-loop
     loop-holds
     sub-i
-    bit-at-requires
-    cast-prepend-byte
-    add-prepend-byte
+    character-requires
     prepend-byte-requires
     loop-less
     loop-again
