@@ -1,16 +1,15 @@
 -- A list gone through from its end to its start: what stands from place i on is put.
-use Prim.Native.Nat.{ℕ, zero, suc, _+_, _-_, _≤_, _<_, max}
-use lib.ListN.{length, drop, getD, drop-of-length-le}
-use lib.Seq.{drop-cons, drop-length, ext-getD}
-use mathlib.Core.List.{List, [], _∷_, _++_, map}
-use mathlib.Core.Path.{_≡_, refl, ap, subst, sym, _∙_}
-use native.Mathlib.Numerals.{add-one}
+use lib.ListN.{drop, drop-of-length-le, getD, length}
+use lib.Seq.{drop-cons}
+use mathlib.Core.List.{List, [], map, _∷_}
+use mathlib.Core.Path.{ap, refl, _∙_, _≡_}
 use native.Mathlib.Omega.{arith}
-use Rattle.words.specs.Word.{bit}
+use Prim.Native.Nat.{_+_, _-_, _<_, max, suc, zero, ℕ, _≤_}
+use Rattle.listings.proofs.Prepending.{prepend-none, prepend-then}
 use Rattle.listings.specs.Building.{Prepends}
 use Rattle.listings.specs.Decimal.{decimal}
-use Rattle.listings.specs.Lines.{following, positions, largest}
-use Rattle.listings.proofs.Prepending.{prepend-none, prepend-then}
+use Rattle.listings.specs.Lines.{following, largest, positions}
+use Rattle.words.specs.Word.{bit}
 
 -- one place back
 pub drop-back : (xs : List ℕ) (i : ℕ) → 0 < i → i ≤ length xs → drop (i - 1) xs ≡ getD xs (i - 1) 0 ∷ drop i xs

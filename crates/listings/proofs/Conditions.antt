@@ -1,19 +1,18 @@
 -- A line written under a call's conditions, one condition after the other.
-use Prim.Native.Nat.{ℕ, _-_, _≤_, _<_}
-use lib.ListN.{length, take, drop, length-drop}
+use lib.ListN.{drop, length, length-drop, take}
 use lib.Seq.{take-all}
-use mathlib.Core.List.{List, [], _∷_, _++_}
-use mathlib.Core.Logic.{_⊎_, inl, inr}
-use mathlib.Core.Path.{_≡_, refl, sym, ap, _∙_}
+use mathlib.Core.List.{_++_, List, [], _∷_}
+use mathlib.Core.Logic.{inl, inr}
+use mathlib.Core.Path.{refl, _∙_, _≡_}
 use native.Mathlib.Omega.{arith}
-use Rattle.plates.specs.Refusals.{Refuses, Passes}
-use Rattle.plates.specs.declared.Refusal.{Refusal}
-use Rattle.plates.specs.declared.Refusal.the-variants.{LineRoom}
+use Prim.Native.Nat.{_-_, _<_, ℕ, _≤_}
+use Rattle.listings.proofs.Prepending.{Built, built-stands}
 use Rattle.listings.specs.Building.{Ends}
-use Rattle.listings.specs.Writing.{Writes, WritesLine}
 use Rattle.listings.specs.declared.Written.{Written}
 use Rattle.listings.specs.declared.Written.the-variants.{Length, Refused}
-use Rattle.listings.proofs.Prepending.{Built, built-stands}
+use Rattle.listings.specs.Writing.{Writes, WritesLine}
+use Rattle.plates.specs.declared.Refusal.{Refusal}
+use Rattle.plates.specs.declared.Refusal.the-variants.{LineRoom}
 
 -- the first condition holds: the reply is its refusal
 pub refused-first : {c : Refusal → Type 0} {cs : List (Refusal → Type 0)} {line room : List ℕ} {q : Refusal} → c q → Writes (c ∷ cs) line room (Refused q) room

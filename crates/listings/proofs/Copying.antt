@@ -1,12 +1,12 @@
 -- Bytes copied to the start of a room, one by one.
-use Prim.Native.Nat.{ℕ, suc, _+_, _≤_, _<_}
-use lib.ListN.{length, getD, set}
+use lib.ListN.{getD, length, set}
 use lib.Seq.{paste, paste-suc}
 use mathlib.Core.List.{List}
-use mathlib.Core.Path.{_≡_, ap, subst, _∙_}
+use mathlib.Core.Path.{subst, _≡_}
 use native.Mathlib.Nat.{zero-add}
 use native.Mathlib.Numerals.{add-one}
 use native.Mathlib.Omega.{arith}
+use Prim.Native.Nat.{_+_, _<_, suc, ℕ, _≤_}
 
 pub copied-on : (text room room′ : List ℕ) (i : ℕ) → i < length text → length text ≤ length room → room′ ≡ paste room 0 text i
     → set room′ i (getD text i 0) ≡ paste room 0 text (i + 1)

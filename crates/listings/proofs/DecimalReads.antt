@@ -1,13 +1,12 @@
 -- A printed number read again: its digits have its value, and the first is 0 only for 0 itself.
-use Prim.Native.Nat.{ℕ, zero, suc, _+_, _*_, _-_, _/_, _%_, _^_, _≤_, _<_}
 use lib.ListN.{getD}
-use mathlib.Core.List.{List, [], _∷_, _++_}
-use mathlib.Core.Logic.{_⊎_, inl, inr}
-use mathlib.Core.Path.{_≡_, refl, ap, _∙_}
+use mathlib.Core.List.{_++_, List, [], _∷_}
+use mathlib.Core.Path.{refl, _≡_}
 use native.Mathlib.Decide.{decLt}
 use native.Mathlib.Omega.{arith}
-use Rattle.listings.specs.Decimal.{decimal}
-use Rattle.listings.proofs.Digits.{decimal-low, decimal-high}
+use Prim.Native.Nat.{_%_, _*_, _+_, _-_, _/_, _<_, _^_, suc, zero, ℕ, _≤_}
+use Rattle.listings.proofs.Digits.{decimal-high, decimal-low}
+use Rattle.listings.specs.Decimal.{decimal, digits}
 
 -- digits read from the left, after a value
 abbrev pub read : ℕ → List ℕ → ℕ
@@ -36,6 +35,7 @@ decimal-value = tenths (λ n. read 0 (decimal n) ≡ n) low high
   where
     low : (n : ℕ) → n < 10 → read 0 (decimal n) ≡ n
     low n h = rw (decimal-low n h) (omega arith)
+
     high : (n : ℕ) → 10 ≤ n → n < 2 ^ 64 → read 0 (decimal (n / 10)) ≡ n / 10 → read 0 (decimal n) ≡ n
     high n h l e = rw (decimal-high n h l, read-append 0 (decimal (n / 10)) ((48 + n % 10) ∷ []), e) (omega arith)
 
@@ -45,8 +45,10 @@ no-leading-zero = tenths (λ n. 0 < n → 48 < getD (decimal n) 0 0) low high
   where
     low : (n : ℕ) → n < 10 → 0 < n → 48 < getD (decimal n) 0 0
     low n h p = rw (decimal-low n h) (omega arith)
+
     first : (s t : List ℕ) → 48 < getD s 0 0 → 48 < getD (s ++ t) 0 0
     first [] t h = absurd (omega arith)
     first (x ∷ s) t h = h
+
     high : (n : ℕ) → 10 ≤ n → n < 2 ^ 64 → (0 < n / 10 → 48 < getD (decimal (n / 10)) 0 0) → 0 < n → 48 < getD (decimal n) 0 0
     high n h l less p = rw (decimal-high n h l) (first (decimal (n / 10)) ((48 + n % 10) ∷ []) (less (omega arith)))

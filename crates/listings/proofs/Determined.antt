@@ -1,16 +1,16 @@
 -- Determined: two replies with rooms that meet the promise of a call are equal.
 use lib.IntN.{ℤ}
-use lib.ListN.{length, drop}
-use mathlib.Core.List.{List, _++_}
-use mathlib.Core.Path.{_≡_, refl, ap, sym, _∙_}
+use lib.ListN.{drop, length}
+use mathlib.Core.List.{_++_, List}
+use mathlib.Core.Path.{ap, refl, sym, _∙_, _≡_}
 use Prim.Native.Nat.{ℕ}
-use Rattle.plates.proofs.Refusing.{Single, never-both, refuses-once}
-use Rattle.plates.specs.Refusals.{Refuses, Passes}
-use Rattle.plates.specs.declared.Plate.{Plate}
-use Rattle.plates.specs.declared.Refusal.{Refusal}
-use Rattle.listings.specs.Writing.{Writes, WritesAs, WritesLine, WritesOf, WritesPlate, WritesProfile, WritesWord, WritesRefused, WritesEnd}
 use Rattle.listings.specs.declared.Written.{Written}
 use Rattle.listings.specs.declared.Written.the-variants.{Length, Refused}
+use Rattle.listings.specs.Writing.{Writes, WritesAs, WritesEnd, WritesLine, WritesOf, WritesPlate, WritesProfile, WritesRefused, WritesWord}
+use Rattle.plates.proofs.Refusing.{Single, never-both, refuses-once}
+use Rattle.plates.specs.declared.Plate.{Plate}
+use Rattle.plates.specs.declared.Refusal.{Refusal}
+use Rattle.plates.specs.Refusals.{Passes, Refuses}
 
 -- one reply, and one room after it
 abbrev pub Same : Written → Written → List ℕ → List ℕ → Type 0

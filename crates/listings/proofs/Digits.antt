@@ -1,15 +1,15 @@
 -- The digits of a number, taken from the last to the first.
-use Prim.Native.Nat.{ℕ, zero, suc, _+_, _*_, _/_, _%_, _^_, _≤_, _<_}
-use borrow.Author.Tests.{lt-ltb, le-ltb}
+use borrow.Author.Tests.{le-ltb, lt-ltb}
 use lib.Dec.{ltb}
 use mathlib.Core.Bool.{cond}
-use mathlib.Core.List.{List, [], _∷_, _++_, append-assoc, append-nil}
-use mathlib.Core.Path.{_≡_, refl, sym, ap, subst, _∙_}
+use mathlib.Core.List.{_++_, List, [], append-assoc, append-nil, _∷_}
+use mathlib.Core.Path.{ap, subst, sym, _∙_, _≡_}
 use native.Mathlib.Nat.{pow-suc}
 use native.Mathlib.Omega.{arith}
-use Rattle.listings.specs.Building.{Prepends}
-use Rattle.listings.specs.Decimal.{digits, decimal}
+use Prim.Native.Nat.{_%_, _*_, _+_, _/_, _<_, _^_, suc, zero, ℕ, _≤_}
 use Rattle.listings.proofs.Prepending.{prepend-none, prepend-then}
+use Rattle.listings.specs.Building.{Prepends}
+use Rattle.listings.specs.Decimal.{decimal, digits}
 
 -- one digit more of room changes nothing
 more : (k n : ℕ) → n < 10 ^ suc k → digits (suc k) n ≡ digits (suc (suc k)) n
@@ -49,7 +49,7 @@ digits-on {rest = rest} s h p = record {
   text = (48 + rest % 10) ∷ s .text;
   put = prepend-then (s .put) p;
   whole = sym (append-assoc (decimal (rest / 10)) ((48 + rest % 10) ∷ []) (s .text)) ∙ rw (decimal-high rest h (s .small)) at (s .whole);
-  small = omega (arith, s .small)
+  small = omega (arith, s .small);
 }
 
 pub digits-end : {d e f : List ℕ} {end value at r rest : ℕ} → Digits d end value e at rest → rest < 10

@@ -1,9 +1,9 @@
 -- The paper's listing and the ends of the ranges, computed.
-use lib.IntN.{pos, negsuc}
+use lib.IntN.{negsuc, pos}
 use mathlib.Core.List.{[], _∷_}
-use mathlib.Core.Path.{_≡_, refl}
+use mathlib.Core.Path.{refl, _≡_}
 use Rattle.listings.specs.Decimal.{decimal, signed}
-use Rattle.listings.specs.Lines.{plateLine, profileLine, wordLine, refusedLine, endLine}
+use Rattle.listings.specs.Lines.{endLine, plateLine, profileLine, refusedLine, wordLine}
 
 -- plate 8 4 3
 pub plate-example : plateLine 8 4 (0 ∷ 1 ∷ 2 ∷ 3 ∷ 2 ∷ 3 ∷ 2 ∷ 1 ∷ 0 ∷ []) ≡ 112 ∷ 108 ∷ 97 ∷ 116 ∷ 101 ∷ 9 ∷ 56 ∷ 9 ∷ 52 ∷ 9 ∷ 51 ∷ 10 ∷ []

@@ -1,19 +1,19 @@
 -- Every line of each kind is at most 256 bytes long.
-use Prim.Native.Nat.{ℕ, zero, suc, _+_, _*_, _/_, _%_, _≤_, _<_}
 use lib.Dec.{ltb}
-use lib.IntN.{ℤ, pos, natAbs}
-use lib.ListN.{length, getD, length-append}
+use lib.IntN.{natAbs, pos, ℤ}
+use lib.ListN.{getD, length, length-append}
 use lib.Signed.{ltZ}
-use mathlib.Core.Bool.{Bool, true, false, cond}
-use mathlib.Core.List.{List, [], _∷_, _++_, map}
-use mathlib.Core.Logic.{_⊎_, inl, inr}
-use mathlib.Core.Path.{_≡_, refl, ap}
+use mathlib.Core.Bool.{Bool, cond, false, true}
+use mathlib.Core.List.{List, [], map, _∷_}
+use mathlib.Core.Logic.{inl, inr, _⊎_}
+use mathlib.Core.Path.{_≡_}
 use native.Mathlib.Omega.{arith}
-use Rattle.words.proofs.Span.{lt-tri}
-use Rattle.listings.specs.Decimal.{digits, decimal, signed}
-use Rattle.listings.specs.Lines.{following, positions, largest, plateLine, profileLine, wordLine, refusedLine, endLine}
+use Prim.Native.Nat.{_%_, _*_, _+_, _/_, _<_, suc, zero, ℕ, _≤_}
 use Rattle.listings.proofs.Backwards.{positions-length}
-use Rattle.listings.proofs.Digits.{decimal-low, decimal-high}
+use Rattle.listings.proofs.Digits.{decimal-high, decimal-low}
+use Rattle.listings.specs.Decimal.{decimal, digits, signed}
+use Rattle.listings.specs.Lines.{endLine, following, largest, plateLine, profileLine, refusedLine, wordLine}
+use Rattle.words.proofs.Span.{lt-tri}
 
 -- ---- numbers
 
@@ -47,6 +47,7 @@ decimal-two n h = go (lt-tri n 10)
         let e = decimal-high n l (omega arith) in
         let f = decimal-low (n / 10) (omega arith) in
         rw (e, f) (omega arith)
+
     go : (n < 10) ⊎ ((n ≡ 10) ⊎ (10 < n)) → length (decimal n) ≤ 2
     go (inl l) = rw (decimal-low n l) (omega arith)
     go (inr (inl e)) = many (omega arith)

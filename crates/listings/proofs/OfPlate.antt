@@ -1,21 +1,20 @@
 -- Lines of a plate: refusal 5 comes first, and a prepared plate's lines fit 256 bytes.
-use lib.ListN.{length, getD}
+use lib.ListN.{getD, length}
 use lib.Seq.{getD-take, length-take-le}
 use mathlib.Core.List.{List}
-use mathlib.Core.Path.{_≡_, refl, _∙_}
+use mathlib.Core.Path.{refl, _≡_}
 use native.Mathlib.Omega.{arith}
-use Prim.Native.Nat.{ℕ, _+_, _≤_, _<_}
-use Rattle.plates.proofs.SoundIsPrepared.{sound}
-use Rattle.plates.specs.Prepare.{IsPrepared}
-use Rattle.plates.specs.Sound.{Sound}
-use Rattle.plates.specs.declared.Plate.{Plate}
-use Rattle.plates.specs.declared.Refusal.the-variants.{NotPrepared}
-use Rattle.listings.specs.Lines.{profileLine}
-use Rattle.listings.specs.Writing.{WritesLine, WritesOf, entriesOf}
+use Prim.Native.Nat.{_+_, _<_, ℕ, _≤_}
+use Rattle.listings.proofs.Conditions.{passed-first, refused-first}
+use Rattle.listings.proofs.Fits256.{profile-fits-256}
 use Rattle.listings.specs.declared.Written.{Written}
 use Rattle.listings.specs.declared.Written.the-variants.{Refused}
-use Rattle.listings.proofs.Conditions.{refused-first, passed-first}
-use Rattle.listings.proofs.Fits256.{profile-fits-256}
+use Rattle.listings.specs.Lines.{profileLine}
+use Rattle.listings.specs.Writing.{WritesLine, WritesOf, entriesOf}
+use Rattle.plates.proofs.SoundIsPrepared.{sound}
+use Rattle.plates.specs.declared.Plate.{Plate}
+use Rattle.plates.specs.declared.Refusal.the-variants.{NotPrepared}
+use Rattle.plates.specs.Prepare.{IsPrepared}
 
 pub plate-refused : {plate : Plate} {line room : List ℕ} → (IsPrepared plate → ⊥) → WritesOf plate line room (Refused NotPrepared) room
 plate-refused h = refused-first (h, refl)

@@ -1,17 +1,17 @@
 -- A signed 32-bit number's sign and magnitude, by way of 64 bits.
-use Prim.Native.Nat.{ℕ, suc, _^_, _≤_, _<_}
 use borrow.Author.Tests.{ltb-true}
 use lib.Dec.{T}
-use lib.IntN.{ℤ, pos, negsuc, natAbs, _-ℤ_}
-use lib.Signed.{ltZ, nonNeg, natAbs-le}
-use mathlib.Core.Bool.{true, false}
+use lib.IntN.{_-ℤ_, natAbs, negsuc, pos, ℤ}
+use lib.Signed.{ltZ, natAbs-le, nonNeg}
+use mathlib.Core.Bool.{false, true}
 use mathlib.Core.List.{_∷_}
-use mathlib.Core.Path.{_≡_, refl, ap, _∙_}
-use mir.Facts.{toZ-ofZ, sfits-widen}
+use mathlib.Core.Path.{ap, _∙_, _≡_}
+use mir.Facts.{sfits-widen, toZ-ofZ}
 use mir.Syntax.{w32, w64}
-use mir.Val.{SFits, toZ, ofZ}
+use mir.Val.{SFits, ofZ, toZ}
 use native.Mathlib.Nat.{zero-add}
 use native.Mathlib.Omega.{arith}
+use Prim.Native.Nat.{suc, ℕ}
 use Rattle.listings.specs.Decimal.{decimal, signed}
 
 -- not below 0

@@ -1,8 +1,8 @@
 -- A line built from its last byte to its first, for the functions within the crate.
-use Prim.Native.Nat.{ℕ, _+_, _≤_}
-use lib.ListN.{length, drop}
-use mathlib.Core.List.{List, _++_}
+use lib.ListN.{drop, length}
+use mathlib.Core.List.{_++_, List}
 use mathlib.Core.Path.{_≡_}
+use Prim.Native.Nat.{_+_, ℕ, _≤_}
 
 -- an array of 256 bytes has room for `text` before the place `end`
 pub record HasRoom (array : List ℕ) (end : ℕ) (text : List ℕ) : Type 0 where

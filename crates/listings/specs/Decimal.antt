@@ -1,10 +1,10 @@
 -- Numbers as a listing prints them.
-use Prim.Native.Nat.{ℕ, zero, suc, _+_, _/_, _%_}
 use lib.Dec.{ltb}
-use lib.IntN.{ℤ, pos, natAbs}
+use lib.IntN.{natAbs, pos, ℤ}
 use lib.Signed.{ltZ}
 use mathlib.Core.Bool.{cond}
-use mathlib.Core.List.{List, [], _∷_, _++_}
+use mathlib.Core.List.{_++_, List, [], _∷_}
+use Prim.Native.Nat.{_%_, _+_, _/_, suc, zero, ℕ}
 
 -- the last k digits of a number, or all of them where it has no more, with no leading zero but for 0 itself
 abbrev pub digits : ℕ → ℕ → List ℕ

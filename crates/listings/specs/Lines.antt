@@ -1,9 +1,9 @@
 -- The five kinds of listing line, byte by byte.
-use Prim.Native.Nat.{ℕ, zero, suc, _+_, max}
 use lib.IntN.{ℤ}
-use mathlib.Core.List.{List, [], _∷_, _++_, map}
-use Rattle.words.specs.Word.{bit}
+use mathlib.Core.List.{_++_, List, [], map, _∷_}
+use Prim.Native.Nat.{_+_, max, suc, zero, ℕ}
 use Rattle.listings.specs.Decimal.{decimal, signed}
+use Rattle.words.specs.Word.{bit}
 
 -- ---- fields
 

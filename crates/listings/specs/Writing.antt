@@ -1,17 +1,17 @@
 -- What writing a listing line into a lent room replies, and what it leaves there.
-use Prim.Native.Nat.{ℕ, _+_, _<_}
 use lib.IntN.{ℤ}
-use lib.ListN.{length, take, drop}
-use mathlib.Core.List.{List, [], _∷_, _++_}
+use lib.ListN.{drop, length, take}
+use mathlib.Core.List.{_++_, List, [], _∷_}
 use mathlib.Core.Path.{_≡_}
+use Prim.Native.Nat.{_+_, _<_, ℕ}
+use Rattle.listings.specs.declared.Written.{Written}
+use Rattle.listings.specs.declared.Written.the-variants.{Length, Refused}
+use Rattle.listings.specs.Lines.{endLine, plateLine, profileLine, refusedLine, wordLine}
 use Rattle.plates.specs.declared.Plate.{Plate}
 use Rattle.plates.specs.declared.Refusal.{Refusal}
 use Rattle.plates.specs.declared.Refusal.the-variants.{LineRoom}
 use Rattle.plates.specs.Prepare.{notPrepared}
-use Rattle.plates.specs.Refusals.{Refuses, Passes}
-use Rattle.listings.specs.declared.Written.{Written}
-use Rattle.listings.specs.declared.Written.the-variants.{Length, Refused}
-use Rattle.listings.specs.Lines.{plateLine, profileLine, wordLine, refusedLine, endLine}
+use Rattle.plates.specs.Refusals.{Passes, Refuses}
 
 -- 11: the line is longer than its room
 abbrev pub lineRoom : List ℕ → List ℕ → Refusal → Type 0

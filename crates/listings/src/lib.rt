@@ -10,7 +10,6 @@ ghost use Rattle.listings.specs.Building.{Prepends, Ends};
 ghost use Rattle.listings.specs.Decimal.{decimal, signed};
 ghost use Rattle.listings.specs.Lines.{largest, following, positions, plateLine, profileLine, wordLine};
 ghost use Rattle.listings.specs.Writing.{WritesLine, WritesRefused, WritesEnd};
-
 use plates::Refusal;
 
 // What writing replies: the line's length with its line feed, or why it is refused.
@@ -215,7 +214,14 @@ fn put_profile(entries: &[u8], room: &mut [u8]) -> Written
 }
 
 // The line `word`, from n, the word, its metric and the two counts.
-fn put_word(n: usize, word: u64, metric: i32, additions: u64, comparisons: u64, room: &mut [u8]) -> Written
+fn put_word(
+    n: usize,
+    word: u64,
+    metric: i32,
+    additions: u64,
+    comparisons: u64,
+    room: &mut [u8],
+) -> Written
     requires { ⌜ n ≤ 64 ⌝ }
     ensures { λ r. ⌜ WritesLine (wordLine n word metric additions comparisons) (now (room .entry)) r (now (room .exit)) ⌝ }
 {

@@ -1,13 +1,11 @@
 -- `listings::copy_in` meets its contract: the first i bytes are copied.
-use Prim.Native.Nat.{ℕ, _-_, _≤_}
-use lib.ListN.{length, getD, set, length-set}
-use lib.Seq.{paste, paste-zero, paste-suc, take-length}
-use mathlib.Core.List.{List}
-use mathlib.Core.Path.{_≡_, refl, ap, _∙_}
+use Prim.Native.Nat.{_-_, _≤_}
+use lib.ListN.{length, length-set}
+use lib.Seq.{paste, paste-zero, take-length}
+use mathlib.Core.Path.{_≡_, refl}
 use native.Mathlib.Nat.{zero-add}
 use Rattle.listings.proofs.Copying.{copied-on}
 use native.Mathlib.Omega.{arith}
-use borrow.Author.Needs.{needs}
 use Rattle.listings.proofs.copy_in.Statement.{statement}
 use Rattle.listings.proofs.copy_in.Tie as tie
 
@@ -33,18 +31,19 @@ loop-less : tie.Need-loop-less Inv-loop μ-loop
 loop-less c = omega arith
 
 loop-again : tie.Need-loop-again Inv-loop μ-loop
-loop-again c = 
+loop-again c =
     let l = c .before .before .loop in
-    let a = c .before .before .before .args in
-    (omega arith,
-    simp length-set (l .inv .1),
-    copied-on (a .text .now) (a .room .now) (l .room) (l .i) (c .before .loop-test .taken) (c .before .before .before .pre) (l .inv .2))
+    let a = c .before .before .before .args in (
+      omega arith,
+      simp length-set (l .inv .1),
+      copied-on (a .text .now) (a .room .now) (l .room) (l .i) (c .before .loop-test .taken) (c .before .before .before .pre) (l .inv .2),
+    )
 
 same-length : tie.Need-same-length Inv-loop μ-loop
 same-length c = c .before .loop .inv .1
 
 returns : tie.Need-returns Inv-loop μ-loop
-returns c = 
+returns c =
     let l = c .before .loop in
     let e : l .i ≡ length (c .before .before .args .text .now) = omega arith in
     rw (e, take-length, zero-add) at (l .inv .2)

@@ -32,12 +32,12 @@ loop-less : tie.Need-loop-less Inv-loop μ-loop
 loop-less c = omega arith
 
 loop-again : tie.Need-loop-again Inv-loop μ-loop
-loop-again c = 
+loop-again c =
     let l = c .before .before .before .loop in
     (omega arith, c .larger .ensures ∙ rw (l .inv .1) (sym (largest-on _ _ (c .before .before .loop-test .taken) (l .inv .0))))
 
 returns : tie.Need-returns Inv-loop μ-loop
-returns c = 
+returns c =
     let e : c .before .loop .i ≡ 0 = omega arith in
     rw e at (c .before .loop .inv .1)
 

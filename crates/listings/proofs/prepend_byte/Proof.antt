@@ -1,8 +1,5 @@
 -- `listings::prepend_byte` meets its contract.
 use native.Mathlib.Omega.{arith}
-use Prim.Native.Nat.{_≤_}
-use mathlib.Core.Path.{_≡_}
-use borrow.Author.Needs.{needs}
 use Rattle.listings.proofs.Prepending.{prepend-full, prepend-one}
 use Rattle.listings.proofs.prepend_byte.Statement.{statement}
 use Rattle.listings.proofs.prepend_byte.Tie as tie

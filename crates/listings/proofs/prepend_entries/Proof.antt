@@ -14,7 +14,7 @@ use Rattle.listings.proofs.prepend_entries.Statement.{statement}
 use Rattle.listings.proofs.prepend_entries.Tie as tie
 
 abbrev Inv-loop : tie.InvT-loop
-Inv-loop line₀ entries at₀ i₀ line at i = 
+Inv-loop line₀ entries at₀ i₀ line at i =
     (i ≤ length entries) × ((d : List ℕ) (end : ℕ) → Prepends d end (10 ∷ []) line₀ at₀ → Prepends d end (following (map decimal (drop i entries))) line at)
 
 abbrev μ-loop : tie.MeasureT-loop
@@ -42,13 +42,14 @@ loop-less : tie.Need-loop-less Inv-loop μ-loop
 loop-less c = omega arith
 
 loop-again : tie.Need-loop-again Inv-loop μ-loop
-loop-again c = 
-    let l = c .before .before .before .before .before .loop in
-    (omega arith,
-    λ d end p. fields-on _ _ (c .before .before .before .before .loop-test .taken) (l .inv .0) (l .inv .1 d end p) (rw (c .before .wide .ensures) at (c .prepend-field .ensures)))
+loop-again c =
+    let l = c .before .before .before .before .before .loop in (
+      omega arith,
+      λ d end p. fields-on _ _ (c .before .before .before .before .loop-test .taken) (l .inv .0) (l .inv .1 d end p) (rw (c .before .wide .ensures) at (c .prepend-field .ensures)),
+    )
 
 returns : tie.Need-returns Inv-loop μ-loop
-returns c = 
+returns c =
     let e : c .before .loop .i ≡ 0 = omega arith in
     rw e at (c .before .loop .inv .1 _ _ (c .before .before .line-feed .ensures))
 

@@ -33,7 +33,7 @@ loop-less : tie.Need-loop-less Inv-loop μ-loop
 loop-less c = omega arith
 
 loop-again : tie.Need-loop-again Inv-loop μ-loop
-loop-again c = 
+loop-again c =
     let l = c .before .before .before .before .loop in
     let a = c .before .before .before .before .before .args in
     (omega arith, positions-on (a .word) (a .n) _ (c .before .before .before .loop-test .taken) (l .inv .0) (l .inv .1) (rw (c .before .character .ensures) at (c .prepend-byte .ensures)))
@@ -42,7 +42,7 @@ prepend-byte-requires-2 : tie.Need-prepend-byte-requires-2 Inv-loop μ-loop
 prepend-byte-requires-2 c κs = search needs
 
 returns : tie.Need-returns Inv-loop μ-loop
-returns c = 
+returns c =
     let l = c .before .before .before .loop in
     let e : l .i ≡ 0 = omega arith in
     prepend-then (rw e at (l .inv .1)) (c .prepend-byte2 .ensures)

@@ -23,7 +23,7 @@ prepend-byte-requires-2 : tie.Need-prepend-byte-requires-2
 prepend-byte-requires-2 c κs = search needs
 
 returns : tie.Need-returns
-returns c = 
+returns c =
     let a = c .before .before .before .before .before .before .before .before in
     let e = toZ-ofZ (a .fits .metric) in
     let f : ltZ (a .args .metric) (pos 0) ≡ true = rw e at (c .before .before .before .before .before .before .if1 .taken) in
@@ -34,7 +34,7 @@ prepend-field-requires : tie.Need-prepend-field-requires
 prepend-field-requires c κs = search needs
 
 returns-2 : tie.Need-returns-2
-returns-2 c = 
+returns-2 c =
     let a = c .before .before .before .before in
     let e = toZ-ofZ (a .fits .metric) in
     let f : ltZ (a .args .metric) (pos 0) ≡ false = rw e at (c .before .before .if1 .left) in

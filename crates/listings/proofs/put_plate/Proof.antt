@@ -39,11 +39,17 @@ start c = c .before .before .before .before .before .before .before .before .bef
 built : (c : tie.After-prepend-name) → Built (plateLine (start c .args .n) (start c .args .k) (start c .args .entries .now)) (c .prepend-name .last .0) (c .prepend-name .result)
 unfolding plateLine
 built c =
+    let a = start c .args in
     let n = c .before .before .before in
     let k = n .before .before in
     let m = k .before .before in
     let feed = m .before .before .before .before in
-    record { short = plate-fits-256 (start c .args .n) (start c .args .k) (start c .args .entries .now); put = prepend-then (prepend-then (prepend-then (prepend-then (feed .line-feed .ensures) (rw (m .before .wide .ensures, m .before .before .largest-entry .ensures) at (m .prepend-field .ensures))) (k .prepend-field2 .ensures)) (n .prepend-field3 .ensures)) (c .prepend-name .ensures) }
+    let largest = rw (m .before .wide .ensures, m .before .before .largest-entry .ensures) at (m .prepend-field .ensures) in
+    let fields = prepend-then (prepend-then (prepend-then (feed .line-feed .ensures) largest) (k .prepend-field2 .ensures)) (n .prepend-field3 .ensures) in
+    record {
+      short = plate-fits-256 (a .n) (a .k) (a .entries .now);
+      put = prepend-then fields (c .prepend-name .ensures);
+    }
 
 write-line-requires : tie.Need-write-line-requires
 write-line-requires c κs = built-ends (built (c .before .before))

@@ -34,15 +34,25 @@ abbrev start : tie.After-prepend-name → tie.Start
 start c = c .before .before .before .before .before .before .before .before .before .before .before .before .before .before
 
 -- the whole line stands at the end of the array
-built : (c : tie.After-prepend-name) → Built (wordLine (start c .args .n) (start c .args .word) (start c .args .metric) (start c .args .additions) (start c .args .comparisons)) (c .prepend-name .last .0) (c .prepend-name .result)
+built : (c : tie.After-prepend-name)
+    → Built (wordLine (start c .args .n) (start c .args .word) (start c .args .metric) (start c .args .additions) (start c .args .comparisons))
+    (c .prepend-name .last .0)
+    (c .prepend-name .result)
 unfolding wordLine
 built c =
+    let a = start c .args in
     let positions = c .before .before .before in
     let metric = positions .before .before in
     let additions = metric .before .before in
     let comparisons = additions .before .before in
     let feed = comparisons .before .before in
-    record { short = word-fits-256 (start c .args .n) (start c .args .word) (start c .args .metric) (start c .args .additions) (start c .args .comparisons) (start c .pre); put = prepend-then (prepend-then (prepend-then (prepend-then (prepend-then (feed .line-feed .ensures) (comparisons .prepend-field .ensures)) (additions .prepend-field2 .ensures)) (rw (toZ-ofZ (start c .fits .metric)) at (metric .prepend-signed .ensures))) (positions .prepend-positions .ensures)) (c .prepend-name .ensures) }
+    let counts = prepend-then (prepend-then (feed .line-feed .ensures) (comparisons .prepend-field .ensures)) (additions .prepend-field2 .ensures) in
+    let signed = rw (toZ-ofZ (start c .fits .metric)) at (metric .prepend-signed .ensures) in
+    let fields = prepend-then (prepend-then counts signed) (positions .prepend-positions .ensures) in
+    record {
+      short = word-fits-256 (a .n) (a .word) (a .metric) (a .additions) (a .comparisons) (start c .pre);
+      put = prepend-then fields (c .prepend-name .ensures);
+    }
 
 write-line-requires : tie.Need-write-line-requires
 write-line-requires c κs = built-ends (built (c .before .before))

@@ -27,9 +27,13 @@ start c = c .before .before .before .before .before .before .before .before
 built : (c : tie.After-prepend-name) → Built (endLine (start c .args .blocks)) (c .prepend-name .last .0) (c .prepend-name .result)
 unfolding endLine
 built c =
+    let a = start c .args in
     let blocks = c .before .before .before in
     let feed = blocks .before .before in
-    record { short = end-fits-256 (start c .args .blocks); put = prepend-then (prepend-then (feed .line-feed .ensures) (blocks .prepend-field .ensures)) (c .prepend-name .ensures) }
+    record {
+      short = end-fits-256 (a .blocks);
+      put = prepend-then (prepend-then (feed .line-feed .ensures) (blocks .prepend-field .ensures)) (c .prepend-name .ensures);
+    }
 
 write-line-requires : tie.Need-write-line-requires
 write-line-requires c κs = built-ends (built (c .before .before))

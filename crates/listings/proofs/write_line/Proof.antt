@@ -28,7 +28,7 @@ same-length : tie.Need-same-length
 same-length c = search needs
 
 returns-2 : tie.Need-returns-2
-returns-2 c = 
+returns-2 c =
     let s = c .before .before .before .before .before .before .before .before in
     tail-written _ _ _ _ (s .pre) (c .before .before .before .before .before .before .if1 .left) (c .before .before .copy-in .ensures)
 

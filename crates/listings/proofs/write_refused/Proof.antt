@@ -30,10 +30,15 @@ start c = c .before .before .before .before .before .before .before .before .bef
 built : (c : tie.After-prepend-name) → Built (refusedLine (start c .args .number) (start c .args .place)) (c .prepend-name .last .0) (c .prepend-name .result)
 unfolding refusedLine
 built c =
+    let a = start c .args in
     let number = c .before .before .before in
     let place = number .before .before in
     let feed = place .before .before in
-    record { short = refused-fits-256 (start c .args .number) (start c .args .place); put = prepend-then (prepend-then (prepend-then (feed .line-feed .ensures) (place .prepend-field .ensures)) (number .prepend-field2 .ensures)) (c .prepend-name .ensures) }
+    let fields = prepend-then (prepend-then (feed .line-feed .ensures) (place .prepend-field .ensures)) (number .prepend-field2 .ensures) in
+    record {
+      short = refused-fits-256 (a .number) (a .place);
+      put = prepend-then fields (c .prepend-name .ensures);
+    }
 
 write-line-requires : tie.Need-write-line-requires
 write-line-requires c κs = built-ends (built (c .before .before))
