@@ -9,7 +9,8 @@ ghost use Rattle.words.specs.Word.{bit};
 ghost use Rattle.listings.specs.Building.{Prepends, Ends};
 ghost use Rattle.listings.specs.Decimal.{decimal, signed};
 ghost use Rattle.listings.specs.Lines.{largest, following, positions, plateLine, profileLine, wordLine};
-ghost use Rattle.listings.specs.Writing.{WritesLine, WritesRefused, WritesEnd};
+ghost use Rattle.listings.specs.Writing.{WritesLine, WritesPlate, WritesProfile, WritesWord, WritesRefused, WritesEnd};
+use plates::Plate;
 use plates::Refusal;
 
 // What writing replies: the line's length with its line feed, or why it is refused.
@@ -236,6 +237,47 @@ fn put_word(
 }
 
 // ---- public calls
+
+// The line `plate`: n, k and the largest profile entry.
+pub fn write_plate(plate: Plate, room: &mut [u8]) -> Written
+    ensures { λ r. ⌜ WritesPlate plate (now (room .entry)) r (now (room .exit)) ⌝ }
+{
+    if plates::is_prepared(plate) {
+        let profile = plate.profile;
+        let count = plate.n + 1;
+        return put_plate(plate.n, plate.k, &profile[..count], room);
+    }
+    Written::Refused(Refusal::NotPrepared)
+}
+
+// The line `profile`: its entries s(0) to s(n).
+pub fn write_profile(plate: Plate, room: &mut [u8]) -> Written
+    ensures { λ r. ⌜ WritesProfile plate (now (room .entry)) r (now (room .exit)) ⌝ }
+{
+    if plates::is_prepared(plate) {
+        let profile = plate.profile;
+        let count = plate.n + 1;
+        return put_profile(&profile[..count], room);
+    }
+    Written::Refused(Refusal::NotPrepared)
+}
+
+// The line `word`: its first n positions, the metric, additions and comparisons.
+pub fn write_word(
+    plate: Plate,
+    word: u64,
+    metric: i32,
+    additions: u64,
+    comparisons: u64,
+    room: &mut [u8],
+) -> Written
+    ensures { λ r. ⌜ WritesWord plate word metric additions comparisons (now (room .entry)) r (now (room .exit)) ⌝ }
+{
+    if plates::is_prepared(plate) {
+        return put_word(plate.n, word, metric, additions, comparisons, room);
+    }
+    Written::Refused(Refusal::NotPrepared)
+}
 
 // The line `refused`: a number and a place.
 pub fn write_refused(number: u64, place: u64, room: &mut [u8]) -> Written
