@@ -1,15 +1,15 @@
-// The five kinds of listing line, written into a lent room. A line is built in an array of 256 bytes from its last byte to its first,
-// since a number's digits come that way, and copied where the room is long enough: every line is proved to fit the array.
+// The five kinds of listing line, written into a lent room. A line is built in an array of 256 bytes, which every line is proved to fit,
+// and copied where the room is long enough.
 ghost use mathlib.Core.Path.{_≡_};
-ghost use mathlib.Core.List.{_∷_, [], _++_, map};
-ghost use Prim.Native.Nat.{_+_, _≤_, max};
-ghost use lib.IntN.{natAbs};
+ghost use mathlib.Core.List.{_++_};
+ghost use Prim.Native.Nat.{_≤_};
 ghost use lib.ListN.{length, drop};
-ghost use Rattle.words.specs.Word.{bit};
-ghost use Rattle.listings.specs.Building.{Prepends, Ends};
-ghost use Rattle.listings.specs.Decimal.{decimal, signed};
-ghost use Rattle.listings.specs.Lines.{largest, following, positions, plateLine, profileLine, wordLine};
+ghost use Rattle.listings.specs.Building.{Ends};
+ghost use Rattle.listings.specs.Lines.{plateLine, profileLine, wordLine};
 ghost use Rattle.listings.specs.Writing.{WritesLine, WritesPlate, WritesProfile, WritesWord, WritesRefused, WritesEnd};
+
+mod pieces;
+
 use plates::Plate;
 use plates::Refusal;
 
@@ -17,149 +17,6 @@ use plates::Refusal;
 pub enum Written {
     Length(usize),
     Refused(Refusal),
-}
-
-// The array that a line is built in.
-type Line = [u8; 256];
-
-// ---- the pieces of a line
-
-// One byte before a place.
-fn prepend_byte(line: &mut Line, end: usize, byte: u8) -> usize
-    ensures { λ r. ⌜ Prepends (now (line .entry)) end (byte ∷ []) (now (line .exit)) r ⌝ }
-{
-    if end == 0 {
-        return 0;
-    }
-    if end > 256 {
-        return end;
-    }
-    line[end - 1] = byte;
-    end - 1
-}
-
-// The line feed, at the end of the array.
-fn line_feed(line: &mut Line) -> usize
-    ensures { λ r. ⌜ Prepends (now (line .entry)) 256 (10 ∷ []) (now (line .exit)) r ⌝ }
-{
-    prepend_byte(line, 256, 10)
-}
-
-// A number's digits before a place.
-fn prepend_number(line: &mut Line, end: usize, value: u64) -> usize
-    ensures { λ r. ⌜ Prepends (now (line .entry)) end (decimal value) (now (line .exit)) r ⌝ }
-{
-    let mut at = end;
-    let mut rest = value;
-    while rest >= 10 {
-        at = prepend_byte(line, at, 48 + (rest % 10) as u8);
-        rest /= 10;
-    }
-    prepend_byte(line, at, 48 + rest as u8)
-}
-
-// A tab and a number before a place.
-fn prepend_field(line: &mut Line, end: usize, value: u64) -> usize
-    ensures { λ r. ⌜ Prepends (now (line .entry)) end (9 ∷ decimal value) (now (line .exit)) r ⌝ }
-{
-    let at = prepend_number(line, end, value);
-    prepend_byte(line, at, 9)
-}
-
-// The letters of a name before a place.
-fn prepend_name(line: &mut Line, end: usize, name: &[u8]) -> usize
-    ensures { λ r. ⌜ Prepends (now (line .entry)) end (now (name .entry)) (now (line .exit)) r ⌝ }
-{
-    let mut at = end;
-    let mut i = name.len();
-    while i > 0 {
-        i -= 1;
-        at = prepend_byte(line, at, name[i]);
-    }
-    at
-}
-
-// The character of a position, 0 or 1.
-fn character(word: u64, position: usize) -> u8
-    ensures { λ r. ⌜ r ≡ 48 + bit word position ⌝ }
-{
-    48 + words::bit_at(word, position) as u8
-}
-
-// A tab and the first n positions of a word before a place, position 0 at the left.
-fn prepend_positions(line: &mut Line, end: usize, word: u64, n: usize) -> usize
-    ensures { λ r. ⌜ Prepends (now (line .entry)) end (9 ∷ positions word 0 n) (now (line .exit)) r ⌝ }
-{
-    let mut at = end;
-    let mut i = n;
-    while i > 0 {
-        i -= 1;
-        at = prepend_byte(line, at, character(word, i));
-    }
-    prepend_byte(line, at, 9)
-}
-
-// How far a number is from 0.
-fn magnitude(value: i32) -> u64
-    ensures { λ r. ⌜ r ≡ natAbs value ⌝ }
-{
-    if value < 0 {
-        return (0 - (value as i64)) as u64;
-    }
-    value as u64
-}
-
-// A tab and a number before a place, with a minus exactly when it is below 0.
-fn prepend_signed(line: &mut Line, end: usize, metric: i32) -> usize
-    ensures { λ r. ⌜ Prepends (now (line .entry)) end (9 ∷ signed metric) (now (line .exit)) r ⌝ }
-{
-    let size = magnitude(metric);
-    if metric < 0 {
-        let digits = prepend_number(line, end, size);
-        let minus = prepend_byte(line, digits, 45);
-        return prepend_byte(line, minus, 9);
-    }
-    prepend_field(line, end, size)
-}
-
-// The larger of two entries.
-fn larger(entry: u8, other: u8) -> u8
-    ensures { λ r. ⌜ r ≡ max entry other ⌝ }
-{
-    if entry < other { other } else { entry }
-}
-
-// The largest of some entries.
-fn largest_entry(entries: &[u8]) -> u8
-    ensures { λ r. ⌜ r ≡ largest (now (entries .entry)) ⌝ }
-{
-    let mut most = 0;
-    let mut i = entries.len();
-    while i > 0 {
-        i -= 1;
-        most = larger(entries[i], most);
-    }
-    most
-}
-
-// Entries as fields, and the line feed, at the end of the array.
-fn prepend_entries(line: &mut Line, entries: &[u8]) -> usize
-    ensures { λ r. ⌜ Prepends (now (line .entry)) 256 (following (map decimal (now (entries .entry)))) (now (line .exit)) r ⌝ }
-{
-    let mut at = line_feed(line);
-    let mut i = entries.len();
-    while i > 0 {
-        i -= 1;
-        at = prepend_field(line, at, wide(entries[i]));
-    }
-    at
-}
-
-// An entry as a number to print.
-fn wide(entry: u8) -> u64
-    ensures { λ r. ⌜ r ≡ entry ⌝ }
-{
-    entry as u64
 }
 
 // ---- a line into a room
@@ -177,7 +34,7 @@ fn copy_in(text: &[u8], room: &mut [u8])
 }
 
 // The line that stands from `at` to the end of the array into the room, or refusal 11.
-fn write_line(line: &Line, at: usize, room: &mut [u8]) -> Written
+fn write_line(line: &pieces::Line, at: usize, room: &mut [u8]) -> Written
     requires { ⌜ Ends (now line) at ⌝ }
     ensures { λ r. ⌜ WritesLine (drop at (now (line .entry))) (now (room .entry)) r (now (room .exit)) ⌝ }
 {
@@ -195,11 +52,15 @@ fn put_plate(n: usize, k: usize, entries: &[u8], room: &mut [u8]) -> Written
     ensures { λ r. ⌜ WritesLine (plateLine n k (now (entries .entry))) (now (room .entry)) r (now (room .exit)) ⌝ }
 {
     let mut line = [0; 256];
-    let feed = line_feed(&mut line);
-    let most = prepend_field(&mut line, feed, wide(largest_entry(entries)));
-    let heads = prepend_field(&mut line, most, k as u64);
-    let long = prepend_field(&mut line, heads, n as u64);
-    let at = prepend_name(&mut line, long, b"plate");
+    let feed = pieces::line_feed(&mut line);
+    let most = pieces::prepend_field(
+        &mut line,
+        feed,
+        pieces::wide(pieces::largest_entry(entries)),
+    );
+    let heads = pieces::prepend_field(&mut line, most, k as u64);
+    let long = pieces::prepend_field(&mut line, heads, n as u64);
+    let at = pieces::prepend_name(&mut line, long, b"plate");
     write_line(&line, at, room)
 }
 
@@ -209,8 +70,8 @@ fn put_profile(entries: &[u8], room: &mut [u8]) -> Written
     ensures { λ r. ⌜ WritesLine (profileLine (now (entries .entry))) (now (room .entry)) r (now (room .exit)) ⌝ }
 {
     let mut line = [0; 256];
-    let first = prepend_entries(&mut line, entries);
-    let at = prepend_name(&mut line, first, b"profile");
+    let first = pieces::prepend_entries(&mut line, entries);
+    let at = pieces::prepend_name(&mut line, first, b"profile");
     write_line(&line, at, room)
 }
 
@@ -227,12 +88,12 @@ fn put_word(
     ensures { λ r. ⌜ WritesLine (wordLine n word metric additions comparisons) (now (room .entry)) r (now (room .exit)) ⌝ }
 {
     let mut line = [0; 256];
-    let feed = line_feed(&mut line);
-    let compared = prepend_field(&mut line, feed, comparisons);
-    let added = prepend_field(&mut line, compared, additions);
-    let best = prepend_signed(&mut line, added, metric);
-    let first = prepend_positions(&mut line, best, word, n);
-    let at = prepend_name(&mut line, first, b"word");
+    let feed = pieces::line_feed(&mut line);
+    let compared = pieces::prepend_field(&mut line, feed, comparisons);
+    let added = pieces::prepend_field(&mut line, compared, additions);
+    let best = pieces::prepend_signed(&mut line, added, metric);
+    let first = pieces::prepend_positions(&mut line, best, word, n);
+    let at = pieces::prepend_name(&mut line, first, b"word");
     write_line(&line, at, room)
 }
 
@@ -284,10 +145,10 @@ pub fn write_refused(number: u64, place: u64, room: &mut [u8]) -> Written
     ensures { λ r. ⌜ WritesRefused number place (now (room .entry)) r (now (room .exit)) ⌝ }
 {
     let mut line = [0; 256];
-    let feed = line_feed(&mut line);
-    let last = prepend_field(&mut line, feed, place);
-    let first = prepend_field(&mut line, last, number);
-    let at = prepend_name(&mut line, first, b"refused");
+    let feed = pieces::line_feed(&mut line);
+    let last = pieces::prepend_field(&mut line, feed, place);
+    let first = pieces::prepend_field(&mut line, last, number);
+    let at = pieces::prepend_name(&mut line, first, b"refused");
     write_line(&line, at, room)
 }
 
@@ -296,8 +157,8 @@ pub fn write_end(blocks: u64, room: &mut [u8]) -> Written
     ensures { λ r. ⌜ WritesEnd blocks (now (room .entry)) r (now (room .exit)) ⌝ }
 {
     let mut line = [0; 256];
-    let feed = line_feed(&mut line);
-    let first = prepend_field(&mut line, feed, blocks);
-    let at = prepend_name(&mut line, first, b"end");
+    let feed = pieces::line_feed(&mut line);
+    let first = pieces::prepend_field(&mut line, feed, blocks);
+    let at = pieces::prepend_name(&mut line, first, b"end");
     write_line(&line, at, room)
 }

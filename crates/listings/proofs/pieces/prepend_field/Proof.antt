@@ -1,8 +1,8 @@
--- `listings::prepend_field` meets its contract.
+-- `listings::pieces::prepend_field` meets its contract.
 use Rattle.listings.proofs.Prepending.{prepend-then}
 use borrow.Author.Needs.{needs}
-use Rattle.listings.proofs.prepend_field.Statement.{statement}
-use Rattle.listings.proofs.prepend_field.Tie as tie
+use Rattle.listings.proofs.pieces.prepend_field.Statement.{statement}
+use Rattle.listings.proofs.pieces.prepend_field.Tie as tie
 
 prepend-number-requires : tie.Need-prepend-number-requires
 prepend-number-requires c κs = search needs

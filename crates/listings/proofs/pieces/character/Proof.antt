@@ -1,9 +1,9 @@
--- `listings::character` meets its contract.
+-- `listings::pieces::character` meets its contract.
 use borrow.Author.Needs.{needs}
 use native.Mathlib.Omega.{arith}
 use Rattle.words.proofs.Word.{bit-lt}
-use Rattle.listings.proofs.character.Statement.{statement}
-use Rattle.listings.proofs.character.Tie as tie
+use Rattle.listings.proofs.pieces.character.Statement.{statement}
+use Rattle.listings.proofs.pieces.character.Tie as tie
 
 bit-at-requires : tie.Need-bit-at-requires
 bit-at-requires c κs = search needs

@@ -1,4 +1,4 @@
--- `listings::largest_entry` meets its contract: the largest from i on is found.
+-- `listings::pieces::largest_entry` meets its contract: the largest from i on is found.
 use Prim.Native.Nat.{_≤_}
 use lib.ListN.{length, drop}
 use lib.Seq.{drop-length}
@@ -7,8 +7,8 @@ use native.Mathlib.Omega.{arith}
 use Rattle.listings.specs.Lines.{largest}
 use Rattle.listings.proofs.Backwards.{largest-on}
 use borrow.Author.Needs.{needs}
-use Rattle.listings.proofs.largest_entry.Statement.{statement}
-use Rattle.listings.proofs.largest_entry.Tie as tie
+use Rattle.listings.proofs.pieces.largest_entry.Statement.{statement}
+use Rattle.listings.proofs.pieces.largest_entry.Tie as tie
 
 abbrev Inv-loop : tie.InvT-loop
 Inv-loop entries most₀ i₀ most i = (i ≤ length entries) × (most ≡ largest (drop i entries))

@@ -1,9 +1,9 @@
--- `listings::prepend_number` meets its contract: the digits put so far stand to the right of those of `rest`.
+-- `listings::pieces::prepend_number` meets its contract: the digits put so far stand to the right of those of `rest`.
 use native.Mathlib.Omega.{arith}
 use borrow.Author.Needs.{needs}
 use Rattle.listings.proofs.Digits.{Digits, digits-start, digits-on, digits-end}
-use Rattle.listings.proofs.prepend_number.Statement.{statement}
-use Rattle.listings.proofs.prepend_number.Tie as tie
+use Rattle.listings.proofs.pieces.prepend_number.Statement.{statement}
+use Rattle.listings.proofs.pieces.prepend_number.Tie as tie
 
 abbrev Inv-loop : tie.InvT-loop
 Inv-loop line₀ end value at₀ rest₀ line at rest = Digits line₀ end value line at rest

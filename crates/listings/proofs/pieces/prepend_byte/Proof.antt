@@ -1,8 +1,8 @@
--- `listings::prepend_byte` meets its contract.
+-- `listings::pieces::prepend_byte` meets its contract.
 use native.Mathlib.Omega.{arith}
 use Rattle.listings.proofs.Prepending.{prepend-full, prepend-one}
-use Rattle.listings.proofs.prepend_byte.Statement.{statement}
-use Rattle.listings.proofs.prepend_byte.Tie as tie
+use Rattle.listings.proofs.pieces.prepend_byte.Statement.{statement}
+use Rattle.listings.proofs.pieces.prepend_byte.Tie as tie
 
 returns : tie.Need-returns
 returns c = rw (c .if1 .taken) (prepend-full _ _ _ (λ h. omega arith))

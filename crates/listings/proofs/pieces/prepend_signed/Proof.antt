@@ -1,4 +1,4 @@
--- `listings::prepend_signed` meets its contract.
+-- `listings::pieces::prepend_signed` meets its contract.
 use lib.IntN.{pos}
 use lib.Signed.{ltZ}
 use mathlib.Core.Bool.{true, false}
@@ -7,8 +7,8 @@ use mir.Facts.{toZ-ofZ}
 use Rattle.listings.proofs.Prepending.{prepend-then}
 use Rattle.listings.proofs.Sign.{signed-below, signed-other}
 use borrow.Author.Needs.{needs}
-use Rattle.listings.proofs.prepend_signed.Statement.{statement}
-use Rattle.listings.proofs.prepend_signed.Tie as tie
+use Rattle.listings.proofs.pieces.prepend_signed.Statement.{statement}
+use Rattle.listings.proofs.pieces.prepend_signed.Tie as tie
 
 magnitude-requires : tie.Need-magnitude-requires
 magnitude-requires c κs = search needs

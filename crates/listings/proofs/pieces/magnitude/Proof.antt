@@ -1,12 +1,12 @@
--- `listings::magnitude` meets its contract.
+-- `listings::pieces::magnitude` meets its contract.
 use lib.IntN.{pos, natAbs}
 use lib.Signed.{ltZ}
 use mathlib.Core.Bool.{true, false}
 use mathlib.Core.Path.{_≡_, ap}
 use mir.Facts.{toZ-ofZ, sfits-widen, fits-natAbs}
 use Rattle.listings.proofs.Sign.{not-below, turned-fits, turned-is}
-use Rattle.listings.proofs.magnitude.Statement.{statement}
-use Rattle.listings.proofs.magnitude.Tie as tie
+use Rattle.listings.proofs.pieces.magnitude.Statement.{statement}
+use Rattle.listings.proofs.pieces.magnitude.Tie as tie
 
 below : (c : tie.Then1) → ltZ (c .before .args .value) (pos 0) ≡ true
 below c = rw (toZ-ofZ (c .before .fits .value)) at (c .if1 .taken)

@@ -1,4 +1,4 @@
--- `listings::prepend_entries` meets its contract: the entries from i on stand before the line feed.
+-- `listings::pieces::prepend_entries` meets its contract: the entries from i on stand before the line feed.
 use Prim.Native.Nat.{ℕ, _≤_}
 use lib.ListN.{length, drop}
 use lib.Seq.{drop-length}
@@ -10,8 +10,8 @@ use Rattle.listings.specs.Decimal.{decimal}
 use Rattle.listings.specs.Lines.{following}
 use Rattle.listings.proofs.Backwards.{fields-on}
 use borrow.Author.Needs.{needs}
-use Rattle.listings.proofs.prepend_entries.Statement.{statement}
-use Rattle.listings.proofs.prepend_entries.Tie as tie
+use Rattle.listings.proofs.pieces.prepend_entries.Statement.{statement}
+use Rattle.listings.proofs.pieces.prepend_entries.Tie as tie
 
 abbrev Inv-loop : tie.InvT-loop
 Inv-loop line₀ entries at₀ i₀ line at i =

@@ -1,4 +1,4 @@
--- `listings::prepend_name` meets its contract: the letters from i on stand in the array.
+-- `listings::pieces::prepend_name` meets its contract: the letters from i on stand in the array.
 use Prim.Native.Nat.{_≤_}
 use lib.ListN.{length, drop}
 use lib.Seq.{drop-length}
@@ -8,8 +8,8 @@ use Rattle.listings.specs.Building.{Prepends}
 use Rattle.listings.proofs.Backwards.{bytes-on}
 use Rattle.listings.proofs.Prepending.{prepend-none}
 use borrow.Author.Needs.{needs}
-use Rattle.listings.proofs.prepend_name.Statement.{statement}
-use Rattle.listings.proofs.prepend_name.Tie as tie
+use Rattle.listings.proofs.pieces.prepend_name.Statement.{statement}
+use Rattle.listings.proofs.pieces.prepend_name.Tie as tie
 
 abbrev Inv-loop : tie.InvT-loop
 Inv-loop line₀ end name at₀ i₀ line at i = (i ≤ length name) × Prepends line₀ end (drop i name) line at

@@ -1,4 +1,4 @@
--- `listings::prepend_positions` meets its contract: the positions from i on stand in the array.
+-- `listings::pieces::prepend_positions` meets its contract: the positions from i on stand in the array.
 use Prim.Native.Nat.{_≤_}
 use lib.ListN.{drop}
 use mathlib.Core.Path.{_≡_}
@@ -8,8 +8,8 @@ use Rattle.listings.specs.Lines.{positions}
 use Rattle.listings.proofs.Backwards.{positions-start, positions-on}
 use Rattle.listings.proofs.Prepending.{prepend-then}
 use borrow.Author.Needs.{needs}
-use Rattle.listings.proofs.prepend_positions.Statement.{statement}
-use Rattle.listings.proofs.prepend_positions.Tie as tie
+use Rattle.listings.proofs.pieces.prepend_positions.Statement.{statement}
+use Rattle.listings.proofs.pieces.prepend_positions.Tie as tie
 
 abbrev Inv-loop : tie.InvT-loop
 Inv-loop line₀ end word n at₀ i₀ line at i = (i ≤ n) × Prepends line₀ end (drop i (positions word 0 n)) line at
