@@ -27,11 +27,13 @@ pub fields-on : {d e f : List ℕ} {end at r : ℕ} (xs : List ℕ) (i : ℕ) �
     → Prepends e at (9 ∷ decimal (getD xs (i - 1) 0)) f r → Prepends d end (following (map decimal (drop (i - 1) xs))) f r
 fields-on xs i h l p q = rw (drop-back xs i h l) (prepend-then p q)
 
+-- the largest entry, one place back
 pub largest-on : (xs : List ℕ) (i : ℕ) → 0 < i → i ≤ length xs → largest (drop (i - 1) xs) ≡ max (getD xs (i - 1) 0) (largest (drop i xs))
 largest-on xs i h l = rw (drop-back xs i h l)
 
 -- ---- the characters of a word
 
+-- n positions are n characters
 pub positions-length : (word p n : ℕ) → length (positions word p n) ≡ n
 positions-length word p zero = refl
 positions-length word p (suc n) = ap suc (positions-length word (suc p) n)
@@ -43,9 +45,11 @@ positions-at word p (suc n) (suc i) h =
     let e : suc p + i ≡ p + suc i = omega arith in
     positions-at word (suc p) n i (omega arith) ∙ rw e
 
+-- none are put yet
 pub positions-start : (d : List ℕ) (end word n : ℕ) → Prepends d end (drop n (positions word 0 n)) d end
 positions-start d end word n = rw (drop-of-length-le (positions word 0 n) {i = n} (omega (arith, positions-length word 0 n))) (prepend-none d end)
 
+-- one position more
 pub positions-on : {d e f : List ℕ} {end at r : ℕ} (word n i : ℕ) → 0 < i → i ≤ n → Prepends d end (drop i (positions word 0 n)) e at
     → Prepends e at ((48 + bit word (i - 1)) ∷ []) f r → Prepends d end (drop (i - 1) (positions word 0 n)) f r
 positions-on {e = e} {f} {at = at} {r} word n i h l p q =

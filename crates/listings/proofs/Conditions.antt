@@ -30,9 +30,11 @@ written line room = record { reply = (tt, refl, refl) }
 
 -- ---- a line and its room
 
+-- a room that is too short
 pub too-long : (line room : List ℕ) → length room < length line → WritesLine line room (Refused LineRoom) room
 too-long line room h = refused-first (h, refl)
 
+-- a room that is long enough
 pub fits-room : (line room : List ℕ) → length line ≤ length room → WritesLine line room (Length (length line)) (line ++ drop (length line) room)
 fits-room line room h = passed-first (λ p f. omega (arith, f .0)) (written line room)
 

@@ -8,6 +8,7 @@ use native.Mathlib.Numerals.{add-one}
 use native.Mathlib.Omega.{arith}
 use Prim.Native.Nat.{_+_, _<_, suc, ℕ, _≤_}
 
+-- one byte more
 pub copied-on : (text room room′ : List ℕ) (i : ℕ) → i < length text → length text ≤ length room → room′ ≡ paste room 0 text i
     → set room′ i (getD text i 0) ≡ paste room 0 text (i + 1)
 copied-on text room room′ i h l e =

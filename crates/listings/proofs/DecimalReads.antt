@@ -13,12 +13,14 @@ abbrev pub read : ℕ → List ℕ → ℕ
 read value [] = value
 read value (digit ∷ digits) = read (value * 10 + (digit - 48)) digits
 
+-- digits after digits
 read-append : (value : ℕ) (s t : List ℕ) → read value (s ++ t) ≡ read (read value s) t
 read-append value [] t = refl
 read-append value (digit ∷ digits) t = read-append (value * 10 + (digit - 48)) digits t
 
 -- what is so for one digit, and for a number where it is so for its tenth, is so for all of 64 bits
 module _ (P : ℕ → Type 0) (low : (n : ℕ) → n < 10 → P n) (high : (n : ℕ) → 10 ≤ n → n < 2 ^ 64 → P (n / 10) → P n) where
+  -- by numbers up to k
   up-to : (k n : ℕ) → n ≤ k → n < 2 ^ 64 → P n
   up-to zero n l h = low n (omega arith)
   up-to (suc k) n l h = here (decLt n 10) (λ m a. up-to k m (omega arith) (omega arith))
@@ -27,9 +29,11 @@ module _ (P : ℕ → Type 0) (low : (n : ℕ) → n < 10 → P n) (high : (n : 
       here (yes a) less = low n a
       here (no a) less = high n (omega arith) h (less (n / 10) (omega arith))
 
+  -- for all of them
   tenths : (n : ℕ) → n < 2 ^ 64 → P n
   tenths n = up-to n n (omega arith)
 
+-- the digits have the value
 pub decimal-value : (n : ℕ) → n < 2 ^ 64 → read 0 (decimal n) ≡ n
 decimal-value = tenths (λ n. read 0 (decimal n) ≡ n) low high
   where

@@ -17,12 +17,14 @@ abbrev pub Same : Written → Written → List ℕ → List ℕ → Type 0
 Same r s a b = (r ≡ s) × (a ≡ b)
 
 module _ (cs : List (Refusal → Type 0)) (single : Single cs) (line room : List ℕ) where
+  -- by cases on the two replies
   by-cases : (r s : Written) (a b : List ℕ) → WritesAs cs line room a r → WritesAs cs line room b s → Same r s a b
   by-cases (Refused p) (Refused q) a b x y = (ap Refused (refuses-once cs single p q (x .0) (y .0)), x .1 ∙ sym (y .1))
   by-cases (Refused p) (Length m) a b x y = absurd (never-both cs (y .0) p (x .0))
   by-cases (Length l) (Refused q) a b x y = absurd (never-both cs (x .0) q (y .0))
   by-cases (Length l) (Length m) a b x y = (ap Length (x .1 ∙ sym (y .1)), x .2 ∙ sym (y .2))
 
+  -- two replies, with the rooms after them, that meet one promise are equal
   pub determined : {r s : Written} {a b : List ℕ} → Writes cs line room r a → Writes cs line room s b → Same r s a b
   determined {r} {s} {a} {b} x y = by-cases r s a b (x .reply) (y .reply)
 
@@ -37,13 +39,16 @@ module _ (cs : List (Refusal → Type 0)) (single : Single cs) (line room : List
 
 -- ---- the five calls
 
+-- each condition gives one refusal
 once : {refusal : Refusal} {holds : Type 0} (p q : Refusal) → holds × (p ≡ refusal) → holds × (q ≡ refusal) → p ≡ q
 once p q x y = x .1 ∙ sym (y .1)
 
 module _ {room : List ℕ} {r s : Written} {a b : List ℕ} where
+  -- a line that takes no plate
   line-determined : {line : List ℕ} → WritesLine line room r a → WritesLine line room s b → Same r s a b
   line-determined {line} = determined _ (once, tt) line room
 
+  -- a line that takes one
   plate-determined : {plate : Plate} {line : List ℕ} → WritesOf plate line room r a → WritesOf plate line room s b → Same r s a b
   plate-determined {line = line} = determined _ (once, (once, tt)) line room
 

@@ -40,9 +40,11 @@ pub record Digits (d : List ℕ) (end value : ℕ) (e : List ℕ) (at rest : ℕ
   pub whole : decimal rest ++ text ≡ decimal value
   pub small : rest < 2 ^ 64
 
+-- none are put yet
 pub digits-start : (d : List ℕ) (end value : ℕ) → value < 2 ^ 64 → Digits d end value d end value
 digits-start d end value h = record { text = []; put = prepend-none d end; whole = append-nil (decimal value); small = h }
 
+-- one digit more
 pub digits-on : {d e f : List ℕ} {end value at r rest : ℕ} → Digits d end value e at rest → 10 ≤ rest
     → Prepends e at ((48 + rest % 10) ∷ []) f r → Digits d end value f r (rest / 10)
 digits-on {rest = rest} s h p = record {
@@ -52,6 +54,7 @@ digits-on {rest = rest} s h p = record {
   small = omega (arith, s .small);
 }
 
+-- the first digit is put
 pub digits-end : {d e f : List ℕ} {end value at r rest : ℕ} → Digits d end value e at rest → rest < 10
     → Prepends e at ((48 + rest) ∷ []) f r → Prepends d end (decimal value) f r
 digits-end {d} {f = f} {end} {r = r} {rest} s h p =

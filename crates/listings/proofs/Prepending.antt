@@ -54,11 +54,14 @@ pub record Built (line array : List ℕ) (at : ℕ) : Type 0 where
   pub short : length line ≤ 256
   pub put : Prepends (replicate 256 0) 256 line array at
 
+-- it has room there
 zeros-room : {line array : List ℕ} {at : ℕ} → Built line array at → HasRoom (replicate 256 0) 256 line
 zeros-room b = record { size = length-replicate {A = ℕ} 256 0; within = omega arith; room = b .short }
 
+-- it ends with the array
 pub built-ends : {line array : List ℕ} {at : ℕ} → Built line array at → Ends array at
 built-ends b = record { size = b .put .same-size ∙ length-replicate {A = ℕ} 256 0; within = omega (arith, b .put .begins (zeros-room b)) }
 
+-- and is all that stands from its beginning on
 pub built-stands : {line array : List ℕ} {at : ℕ} → Built line array at → drop at array ≡ line
 built-stands {line} b = b .put .stands (zeros-room b) ∙ append-nil line

@@ -26,21 +26,25 @@ abbrev pub largest : List ℕ → ℕ
 largest [] = 0
 largest (entry ∷ entries) = max entry (largest entries)
 
--- ---- lines
+-- ---- lines: the first field of each kind is its name
 
--- the first field of each kind: the letters of its name
+-- the letters plate
 abbrev pub plateName : List ℕ
 plateName = 112 ∷ 108 ∷ 97 ∷ 116 ∷ 101 ∷ []
 
+-- the letters profile
 abbrev pub profileName : List ℕ
 profileName = 112 ∷ 114 ∷ 111 ∷ 102 ∷ 105 ∷ 108 ∷ 101 ∷ []
 
+-- the letters word
 abbrev pub wordName : List ℕ
 wordName = 119 ∷ 111 ∷ 114 ∷ 100 ∷ []
 
+-- the letters refused
 abbrev pub refusedName : List ℕ
 refusedName = 114 ∷ 101 ∷ 102 ∷ 117 ∷ 115 ∷ 101 ∷ 100 ∷ []
 
+-- the letters end
 abbrev pub endName : List ℕ
 endName = 101 ∷ 110 ∷ 100 ∷ []
 

@@ -23,6 +23,7 @@ abbrev pub WritesAs : List (Refusal → Type 0) → List ℕ → List ℕ → Li
 WritesAs conditions line room room′ (Refused q) = Refuses conditions q × (room′ ≡ room)
 WritesAs conditions line room room′ (Length size) = Passes conditions × (size ≡ length line) × (room′ ≡ line ++ drop (length line) room)
 
+-- the promise of a call that writes a line
 pub record Writes (conditions : List (Refusal → Type 0)) (line room : List ℕ) (r : Written) (room′ : List ℕ) : Type 0 where
   pub reply : WritesAs conditions line room room′ r
 
@@ -40,17 +41,22 @@ WritesOf plate line room = Writes (notPrepared plate ∷ lineRoom line room ∷ 
 abbrev pub entriesOf : Plate → List ℕ
 entriesOf plate = take (plate .n + 1) (plate .profile)
 
+-- plate: n, k and the largest entry
 abbrev pub WritesPlate : Plate → List ℕ → Written → List ℕ → Type 0
 WritesPlate plate = WritesOf plate (plateLine (plate .n) (plate .k) (entriesOf plate))
 
+-- profile: its entries in use
 abbrev pub WritesProfile : Plate → List ℕ → Written → List ℕ → Type 0
 WritesProfile plate = WritesOf plate (profileLine (entriesOf plate))
 
+-- word: its first n positions, its metric and the two counts
 abbrev pub WritesWord : Plate → ℕ → ℤ → ℕ → ℕ → List ℕ → Written → List ℕ → Type 0
 WritesWord plate word metric additions comparisons = WritesOf plate (wordLine (plate .n) word metric additions comparisons)
 
+-- refused: a number and a place
 abbrev pub WritesRefused : ℕ → ℕ → List ℕ → Written → List ℕ → Type 0
 WritesRefused number place = WritesLine (refusedLine number place)
 
+-- end: the number of block lines
 abbrev pub WritesEnd : ℕ → List ℕ → Written → List ℕ → Type 0
 WritesEnd blocks = WritesLine (endLine blocks)
