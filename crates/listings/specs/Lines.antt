@@ -1,0 +1,70 @@
+-- The five kinds of listing line, byte by byte.
+use lib.IntN.{ℤ}
+use mathlib.Core.List.{_++_, List, [], map, _∷_}
+use Prim.Native.Nat.{_+_, max, suc, zero, ℕ}
+use Rattle.listings.specs.Decimal.{decimal, signed}
+use Rattle.words.specs.Word.{bit}
+
+-- ---- fields
+
+-- fields that follow another, each after a tab, and the line feed
+abbrev pub following : List (List ℕ) → List ℕ
+following [] = 10 ∷ []
+following (field ∷ fields) = 9 ∷ (field ++ following fields)
+
+-- a line: fields parted by tabs, of which the first names its kind
+abbrev pub line : List ℕ → List (List ℕ) → List ℕ
+line name fields = name ++ following fields
+
+-- `count` positions of a word from `position` on, as characters 0 or 1
+abbrev pub positions : ℕ → ℕ → ℕ → List ℕ
+positions word position zero = []
+positions word position (suc count) = (48 + bit word position) ∷ positions word (suc position) count
+
+-- the largest of some entries
+abbrev pub largest : List ℕ → ℕ
+largest [] = 0
+largest (entry ∷ entries) = max entry (largest entries)
+
+-- ---- lines: the first field of each kind is its name
+
+-- the letters plate
+abbrev pub plateName : List ℕ
+plateName = 112 ∷ 108 ∷ 97 ∷ 116 ∷ 101 ∷ []
+
+-- the letters profile
+abbrev pub profileName : List ℕ
+profileName = 112 ∷ 114 ∷ 111 ∷ 102 ∷ 105 ∷ 108 ∷ 101 ∷ []
+
+-- the letters word
+abbrev pub wordName : List ℕ
+wordName = 119 ∷ 111 ∷ 114 ∷ 100 ∷ []
+
+-- the letters refused
+abbrev pub refusedName : List ℕ
+refusedName = 114 ∷ 101 ∷ 102 ∷ 117 ∷ 115 ∷ 101 ∷ 100 ∷ []
+
+-- the letters end
+abbrev pub endName : List ℕ
+endName = 101 ∷ 110 ∷ 100 ∷ []
+
+-- plate: n, k, m, where m is the largest entry
+unfoldable pub plateLine : ℕ → ℕ → List ℕ → List ℕ
+plateLine n k entries = line plateName (decimal n ∷ decimal k ∷ decimal (largest entries) ∷ [])
+
+-- profile: s(0) to s(n)
+unfoldable pub profileLine : List ℕ → List ℕ
+profileLine entries = line profileName (map decimal entries)
+
+-- word: its first n positions, position 0 at the left, metric, additions, comparisons
+unfoldable pub wordLine : ℕ → ℕ → ℤ → ℕ → ℕ → List ℕ
+wordLine n word metric additions comparisons =
+    line wordName (positions word 0 n ∷ signed metric ∷ decimal additions ∷ decimal comparisons ∷ [])
+
+-- refused: number and place
+unfoldable pub refusedLine : ℕ → ℕ → List ℕ
+refusedLine number place = line refusedName (decimal number ∷ decimal place ∷ [])
+
+-- end: the number of block lines
+unfoldable pub endLine : ℕ → List ℕ
+endLine blocks = line endName (decimal blocks ∷ [])

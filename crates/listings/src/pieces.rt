@@ -1,0 +1,151 @@
+// The pieces of a line, each put before a place of the array: from the last byte to the first, since a number's digits come that way.
+// Where a piece does not fit before its place nothing is promised.
+ghost use mathlib.Core.Path.{_≡_};
+ghost use mathlib.Core.List.{_∷_, [], map};
+ghost use Prim.Native.Nat.{_+_, max};
+ghost use lib.IntN.{natAbs};
+ghost use Rattle.words.specs.Word.{bit};
+ghost use Rattle.listings.specs.Building.{Prepends};
+ghost use Rattle.listings.specs.Decimal.{decimal, signed};
+ghost use Rattle.listings.specs.Lines.{largest, following, positions};
+
+// The array that a line is built in.
+pub type Line = [u8; 256];
+
+// One byte before a place.
+pub fn prepend_byte(line: &mut Line, end: usize, byte: u8) -> usize
+    ensures { λ r. ⌜ Prepends (now (line .entry)) end (byte ∷ []) (now (line .exit)) r ⌝ }
+{
+    if end == 0 {
+        return 0;
+    }
+    if end > 256 {
+        return end;
+    }
+    line[end - 1] = byte;
+    end - 1
+}
+
+// The line feed, at the end of the array.
+pub fn line_feed(line: &mut Line) -> usize
+    ensures { λ r. ⌜ Prepends (now (line .entry)) 256 (10 ∷ []) (now (line .exit)) r ⌝ }
+{
+    prepend_byte(line, 256, 10)
+}
+
+// A number's digits before a place.
+pub fn prepend_number(line: &mut Line, end: usize, value: u64) -> usize
+    ensures { λ r. ⌜ Prepends (now (line .entry)) end (decimal value) (now (line .exit)) r ⌝ }
+{
+    let mut at = end;
+    let mut rest = value;
+    while rest >= 10 {
+        at = prepend_byte(line, at, 48 + (rest % 10) as u8);
+        rest /= 10;
+    }
+    prepend_byte(line, at, 48 + rest as u8)
+}
+
+// A tab and a number before a place.
+pub fn prepend_field(line: &mut Line, end: usize, value: u64) -> usize
+    ensures { λ r. ⌜ Prepends (now (line .entry)) end (9 ∷ decimal value) (now (line .exit)) r ⌝ }
+{
+    let at = prepend_number(line, end, value);
+    prepend_byte(line, at, 9)
+}
+
+// The letters of a name before a place.
+pub fn prepend_name(line: &mut Line, end: usize, name: &[u8]) -> usize
+    ensures { λ r. ⌜ Prepends (now (line .entry)) end (now (name .entry)) (now (line .exit)) r ⌝ }
+{
+    let mut at = end;
+    let mut i = name.len();
+    while i > 0 {
+        i -= 1;
+        at = prepend_byte(line, at, name[i]);
+    }
+    at
+}
+
+// The character of a position, 0 or 1.
+pub fn character(word: u64, position: usize) -> u8
+    ensures { λ r. ⌜ r ≡ 48 + bit word position ⌝ }
+{
+    48 + words::bit_at(word, position) as u8
+}
+
+// A tab and the first n positions of a word before a place, position 0 at the left.
+pub fn prepend_positions(line: &mut Line, end: usize, word: u64, n: usize) -> usize
+    ensures { λ r. ⌜ Prepends (now (line .entry)) end (9 ∷ positions word 0 n) (now (line .exit)) r ⌝ }
+{
+    let mut at = end;
+    let mut i = n;
+    while i > 0 {
+        i -= 1;
+        at = prepend_byte(line, at, character(word, i));
+    }
+    prepend_byte(line, at, 9)
+}
+
+// How far a number is from 0.
+pub fn magnitude(value: i32) -> u64
+    ensures { λ r. ⌜ r ≡ natAbs value ⌝ }
+{
+    if value < 0 {
+        return (0 - (value as i64)) as u64;
+    }
+    value as u64
+}
+
+// A tab and a number before a place, with a minus exactly when it is below 0.
+pub fn prepend_signed(line: &mut Line, end: usize, metric: i32) -> usize
+    ensures { λ r. ⌜ Prepends (now (line .entry)) end (9 ∷ signed metric) (now (line .exit)) r ⌝ }
+{
+    let size = magnitude(metric);
+    if metric < 0 {
+        let digits = prepend_number(line, end, size);
+        let minus = prepend_byte(line, digits, 45);
+        return prepend_byte(line, minus, 9);
+    }
+    prepend_field(line, end, size)
+}
+
+// The larger of two entries.
+pub fn larger(entry: u8, other: u8) -> u8
+    ensures { λ r. ⌜ r ≡ max entry other ⌝ }
+{
+    if entry < other { other } else { entry }
+}
+
+// The largest of some entries.
+pub fn largest_entry(entries: &[u8]) -> u8
+    ensures { λ r. ⌜ r ≡ largest (now (entries .entry)) ⌝ }
+{
+    let mut most = 0;
+    let mut i = entries.len();
+    while i > 0 {
+        i -= 1;
+        most = larger(entries[i], most);
+    }
+    most
+}
+
+// Entries as fields, and the line feed, at the end of the array.
+pub fn prepend_entries(line: &mut Line, entries: &[u8]) -> usize
+    ensures { λ r. ⌜ Prepends (now (line .entry)) 256 (following (map decimal (now (entries .entry)))) (now (line .exit)) r ⌝ }
+{
+    let mut at = line_feed(line);
+    let mut i = entries.len();
+    while i > 0 {
+        i -= 1;
+        at = prepend_field(line, at, wide(entries[i]));
+    }
+    at
+}
+
+// An entry as a number to print.
+pub fn wide(entry: u8) -> u64
+    ensures { λ r. ⌜ r ≡ entry ⌝ }
+{
+    entry as u64
+}
