@@ -35,3 +35,5 @@ pub mod SumsAdded
 pub mod StatesEntered
 pub mod BranchesCounted
 pub mod ExampleCounted
+pub mod SampleLimits
+pub mod SearchEnds

@@ -11,3 +11,4 @@ pub mod Patterns
 pub mod Blocks
 pub mod Needs
 pub mod Totals
+pub mod Searching

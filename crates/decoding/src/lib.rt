@@ -5,6 +5,8 @@ mod choices;
 mod live;
 mod patterns;
 mod rooms;
+mod samples;
+mod search;
 mod states;
 mod step;
 mod sweep;

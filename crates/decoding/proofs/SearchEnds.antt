@@ -1,0 +1,52 @@
+-- The sweep at the start gives what the walk asks, and the best metric.
+use lib.IntN.{pos, ℤ}
+use lib.ListN.{getD, length, take}
+use lib.Pow.{pow-pos}
+use mathlib.Core.List.{List}
+use mathlib.Core.Logic.{inl, inr, _⊎_}
+use mathlib.Core.Path.{ap, _∙_, _≡_}
+use native.Mathlib.Omega.{arith}
+use Prim.Native.Nat.{_+_, _<_, zero-le, ℕ, _≤_}
+use Rattle.decoding.specs.Backward.{wordFrom}
+use Rattle.decoding.specs.declared.Answer.{Answer}
+use Rattle.decoding.specs.declared.sweep.Sizes.{Sizes}
+use Rattle.decoding.specs.LiveRows.{EndsAre}
+use Rattle.decoding.specs.Searching.{Searched}
+use Rattle.decoding.specs.Sweeping.{RoomsFit, SectionSwept, SizesFit, WalkFits}
+use Rattle.decoding.specs.declared.sweep.Standing.{Standing}
+use Rattle.trellises.specs.SectionOf.{sectionOf}
+use Rattle.trellises.specs.States.{table}
+
+module _ (table : List ℕ) (z : Sizes) (samples metrics : List ℤ) (decisions : List ℕ) (fit : SizesFit table z) (rooms : RoomsFit z samples metrics decisions)
+    (ends : List ℕ) (ends-are : EndsAre (take (z .k) table) ends) (metrics′ : List ℤ) (decisions′ : List ℕ) (s : Standing)
+    (w : SectionSwept table z samples 0 metrics decisions metrics′ decisions′ s) where
+  pub walk-fits : WalkFits table z ends samples decisions′
+  walk-fits = record {
+    fit = fit;
+    ends-are = ends-are;
+    size = rooms .size;
+    room = omega (arith, rooms .decision-room, w .kept .decisions-size);
+    decision = λ t h i k. w .swept .decision t zero-le h i k;
+  }
+
+  first-side : (s .from ≡ 0) ⊎ (s .from ≡ z .half) → s .from ≤ z .half
+  first-side (inl e) = omega (arith, e)
+  first-side (inr e) = omega (arith, e)
+
+  pub from-small : s .from ≤ z .half
+  from-small = first-side (w .swept .side)
+
+  pub metric-there : s .from < length metrics′
+  metric-there =
+      omega (arith, first-side (w .swept .side), rooms .metric-room, w .kept .metrics-size, fit .half-room 0 zero-le, pow-pos ((sectionOf (take (z .k) table) 0) .live))
+
+  pub searched : (a : Answer) → a .word ≡ wordFrom (sectionOf (take (z .k) table)) samples 0 0 → a .metric ≡ getD metrics′ (s .from) (pos 0) → a .counts ≡ s .counts
+      → Searched table z samples metrics decisions metrics′ decisions′ a
+  searched a e m k = record {
+    word = e;
+    metric =
+        let o : s .from ≡ s .from + 0 = omega arith in
+        m ∙ ap (λ (i : ℕ). getD metrics′ i (pos 0)) o ∙ w .swept .metric 0 (pow-pos ((sectionOf (take (z .k) table) 0) .live));
+    counts = k ∙ w .swept .counts;
+    kept = w .kept;
+  }

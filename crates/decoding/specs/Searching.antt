@@ -1,0 +1,31 @@
+-- What the parts of a decode find: the first sample outside the limit, and the best codeword.
+use Prim.Native.Nat.{ℕ, _≤_, _<_}
+use lib.IntN.{ℤ, pos, natAbs}
+use lib.ListN.{length, getD, take}
+use mathlib.Core.Bool.{Bool, true, false}
+use mathlib.Core.List.{List}
+use mathlib.Core.Path.{_≡_}
+use Rattle.trellises.specs.SectionOf.{sectionOf}
+use Rattle.decoding.specs.declared.Answer.{Answer}
+use Rattle.decoding.specs.declared.sweep.Sizes.{Sizes}
+use Rattle.decoding.specs.Backward.{best, counted, wordFrom}
+use Rattle.decoding.specs.Metric.{limit}
+use Rattle.decoding.specs.Sweeping.{Kept}
+
+-- r says whether a sample is outside the limit
+pub record IsOver (y : ℤ) (r : Bool) : Type 0 where
+  pub yes-is : r ≡ true → limit < natAbs y
+  pub no-is : r ≡ false → natAbs y ≤ limit
+
+-- r is the first position whose sample is outside the limit, or the number of samples
+pub record FirstOver (samples : List ℤ) (r : ℕ) : Type 0 where
+  pub most : r ≤ length samples
+  pub before : (i : ℕ) → i < r → natAbs (getD samples i (pos 0)) ≤ limit
+  pub here : r < length samples → limit < natAbs (getD samples r (pos 0))
+
+-- the word read off, the best metric and the counts, and the rooms behind the needed places kept
+pub record Searched (table : List ℕ) (z : Sizes) (samples metrics : List ℤ) (decisions : List ℕ) (metrics′ : List ℤ) (decisions′ : List ℕ) (a : Answer) : Type 0 where
+  pub word : a .word ≡ wordFrom (sectionOf (take (z .k) table)) samples 0 0
+  pub metric : a .metric ≡ best (sectionOf (take (z .k) table)) samples 0 0
+  pub counts : a .counts ≡ counted (sectionOf (take (z .k) table)) samples 0
+  pub kept : Kept z metrics decisions metrics′ decisions′
