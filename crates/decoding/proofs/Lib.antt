@@ -37,3 +37,5 @@ pub mod BranchesCounted
 pub mod ExampleCounted
 pub mod SampleLimits
 pub mod SearchEnds
+pub mod PlateSizes
+pub mod DecodeCalls

@@ -1,5 +1,12 @@
 // Decoding: the codeword of greatest correlation with soft samples.
+use crate::rooms::clear_decisions;
+use crate::rooms::clear_metrics;
+use crate::rooms::sizes_of;
+use crate::samples::first_over;
+use crate::search::search;
+use plates::Plate;
 use plates::Refusal;
+ghost use Rattle.decoding.specs.Decode.{Decodes};
 
 mod choices;
 mod live;
@@ -29,4 +36,34 @@ pub struct Answer {
 pub enum Decoded {
     Found(Answer),
     Refused(Refusal),
+}
+
+// The codeword of a prepared plate that has the greatest correlation with the samples, of equals the one with 0 at the first difference.
+pub fn decode(plate: Plate, samples: &[i16], metrics: &mut [i32], decisions: &mut [u64]) -> Decoded
+    ensures { λ r. ⌜ Decodes plate (now (samples .entry)) (now (metrics .entry)) (now (decisions .entry)) (now (metrics .exit)) (now (decisions .exit)) r ⌝ }
+{
+    if !plates::is_prepared(plate) {
+        return Decoded::Refused(Refusal::NotPrepared);
+    }
+    let n = plate.n;
+    if samples.len() != n {
+        return Decoded::Refused(Refusal::SampleCount);
+    }
+    let over = first_over(samples);
+    if over < n {
+        return Decoded::Refused(Refusal::SampleRange(over));
+    }
+    let sizes = sizes_of(n, plate.k, &plate.profile);
+    let metric_need = sizes.half + sizes.half;
+    if metrics.len() < metric_need {
+        return Decoded::Refused(Refusal::MetricRoom);
+    }
+    let decision_need = n * sizes.words;
+    if decisions.len() < decision_need {
+        return Decoded::Refused(Refusal::DecisionRoom);
+    }
+    let answer = search(&plate.rows, sizes, samples, &mut *metrics, &mut *decisions);
+    clear_metrics(&mut *metrics, metric_need);
+    clear_decisions(&mut *decisions, decision_need);
+    Decoded::Found(answer)
 }

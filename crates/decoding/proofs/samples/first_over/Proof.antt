@@ -50,9 +50,10 @@ loop-less c = search needs
 loop-again : tie.Need-loop-again Inv-loop μ-loop
 loop-again c =
     let l = c .before .before .before .before .loop in
-    let s = c .before .before .before .before .before in
-    (omega (arith, c .before .before .before .loop-test .taken),
-    λ j h. passed (s .args .samples .now) (l .i) (l .inv .1) (subst (λ (y : ℤ). natAbs y ≤ limit) {y = getD (s .args .samples .now) (l .i) (pos 0)} (toZ-ofZ {w = w16} (record { sfits = c .before .before .is-over-arg .given })) (c .before .is-over .ensures .no-is (c .if1 .left))) j h)
+    let s = c .before .before .before .before .before in (
+      omega (arith, c .before .before .before .loop-test .taken),
+      λ j h. passed (s .args .samples .now) (l .i) (l .inv .1) (subst (λ (y : ℤ). natAbs y ≤ limit) {y = getD (s .args .samples .now) (l .i) (pos 0)} (toZ-ofZ {w = w16} (record { sfits = c .before .before .is-over-arg .given })) (c .before .is-over .ensures .no-is (c .if1 .left))) j h,
+    )
 
 returns-2 : tie.Need-returns-2 Inv-loop μ-loop
 returns-2 c =
