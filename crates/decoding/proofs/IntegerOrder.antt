@@ -2,7 +2,7 @@
 use borrow.Author.Tests.{le-ltb, lt-ltb, ltb-true}
 use lib.Dec.{T, leb→le, le→leb, ltb, ltb→lt, lt→ltb}
 use lib.IntN.{_+ℤ_, +ℤ-assoc, negsuc, pos, subℕ, ℤ}
-use lib.Signed.{_<ℤ_, leZ, ltZ, _≤ℤ_}
+use lib.Signed.{_<ℤ_, <ℤ-irrefl, <ℤ-≤ℤ-trans, leZ, ltZ, _≤ℤ_}
 use mathlib.Core.Bool.{Bool, cond, false, true}
 use mathlib.Core.Logic.{inl, inr, _⊎_, ⊎-elim}
 use mathlib.Core.Path.{ap, refl, subst, sym, _∙_, _≡_}
@@ -59,3 +59,10 @@ lt-le (negsuc a) (negsuc b) h = le→leb b a (omega (arith, ltb→lt b a h))
 
 pub <ℤ-≤ℤ : {a b : ℤ} → a <ℤ b → a ≤ℤ b
 <ℤ-≤ℤ {a} {b} h = record { le = lt-le a b (h .lt) }
+
+pub ≤ℤ-antisym : {a b : ℤ} → a ≤ℤ b → b ≤ℤ a → a ≡ b
+≤ℤ-antisym {a} {b} h k = go (le-lt-or-eq h)
+  where
+    go : (a <ℤ b) ⊎ (a ≡ b) → a ≡ b
+    go (inl l) = absurd (<ℤ-irrefl (<ℤ-≤ℤ-trans l k))
+    go (inr e) = e

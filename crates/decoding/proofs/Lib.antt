@@ -39,3 +39,4 @@ pub mod SampleLimits
 pub mod SearchEnds
 pub mod PlateSizes
 pub mod DecodeCalls
+pub mod DecodeDetermined

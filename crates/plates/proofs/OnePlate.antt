@@ -10,7 +10,8 @@ use Rattle.words.proofs.Span.{lt-tri, zero-one}
 use Rattle.words.specs.Span.{First, Last}
 use Rattle.words.specs.Word.{Earlier, bit}
 
-not-both : (a b : ℕ) → Earlier a b → Earlier b a → ⊥
+-- neither of two words is earlier than the other if the other is
+pub not-both : (a b : ℕ) → Earlier a b → Earlier b a → ⊥
 not-both a b s t = go (lt-tri (s .place) (t .place))
   where
     go : (s .place < t .place) ⊎ ((s .place ≡ t .place) ⊎ (t .place < s .place)) → ⊥
