@@ -3,3 +3,5 @@ pub mod OnePlate
 pub mod OneCheck
 pub mod ProfileDimensions
 pub mod OneDimension
+pub mod Searching
+pub mod Gaining

@@ -6,3 +6,4 @@ pub mod Dimension
 pub mod Reduced
 pub mod Prepare
 pub mod Sound
+pub mod Working

@@ -3,10 +3,12 @@ use lib.Arith.{bin-ind, digits-div, digits-mod}
 use lib.Bits.{and-comm, and-step, and-zero-r, bitAnd, bitXor, differ}
 use lib.Count.{ones, ones-step}
 use mathlib.Core.Path.{ap, ap₂, refl, sym, _∙_, _≡_}
+use native.Mathlib.Nat.{pow-suc}
 use native.Mathlib.Omega.{arith}
-use Prim.Native.Nat.{_%_, _+_, _/_, _<_, min, suc, zero, ℕ}
-use Rattle.words.proofs.Word.{xor-half, xor-odd}
+use Prim.Native.Nat.{_%_, _+_, _/_, _<_, _^_, min, suc, zero, ℕ}
+use Rattle.words.proofs.Word.{bit-lt, xor-half, xor-odd}
 use Rattle.words.specs.Parity.{parity}
+use Rattle.words.specs.Word.{bit}
 
 and-odd : (a b : ℕ) → bitAnd a b % 2 ≡ min (a % 2) (b % 2)
 and-odd a b = rw (and-step a b) (digits-mod (bitAnd (a / 2) (b / 2)) (omega arith))
@@ -65,3 +67,12 @@ parity-sum =
 
 pub parity-xor : (a b c : ℕ) → parity (bitXor a b) c ≡ differ (parity a c) (parity b c)
 parity-xor a b c = parity-sum c a b ∙ sym (differ-mod (parity a c) (parity b c) (omega arith) (omega arith))
+
+-- the parity with a unit word is the bit there
+pub parity-unit : (i w : ℕ) → parity (2 ^ i) w ≡ bit w i
+parity-unit zero w = parity-step 1 w ∙ omega (arith, parity-comm 0 (w / 2), parity-zero (w / 2))
+parity-unit (suc i) w =
+    let e : 2 ^ suc i % 2 ≡ 0 = omega (arith, pow-suc 2 i) in
+    let f : 2 ^ suc i / 2 ≡ 2 ^ i = omega (arith, pow-suc 2 i) in
+    parity-step (2 ^ suc i) w ∙ ap₂ (λ (x y : ℕ). (min x (w % 2) + parity y (w / 2)) % 2) e f
+    ∙ omega (arith, parity-unit i (w / 2), bit-lt i (w / 2))
