@@ -112,3 +112,11 @@ gained-end {t} {u} {P} {a} {b} {i} {p} h k g = let e : i ≡ b = omega arith in 
 pub odd-tells : {check w d : ℕ} → d ≡ parity check w → Tells (Odd check w) d
 odd-tells {check} {w} {d} e =
     record { digit = digit d (omega arith); yes-is = λ q. record { odd = sym e ∙ q }; no-is = λ q o. omega (arith, o .odd) }
+
+-- a parity that is not odd is even
+pub not-odd : {check w : ℕ} → (Odd check w → ⊥) → parity check w ≡ 0
+not-odd {check} {w} n = go (digit (parity check w) (omega arith))
+  where
+    go : (parity check w ≡ 0) ⊎ (parity check w ≡ 1) → parity check w ≡ 0
+    go (inl e) = e
+    go (inr e) = absurd (n (record { odd = e }))

@@ -5,3 +5,5 @@ pub mod ProfileDimensions
 pub mod OneDimension
 pub mod Searching
 pub mod Gaining
+pub mod TableFilled
+pub mod CheckTaken

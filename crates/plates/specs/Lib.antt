@@ -7,3 +7,4 @@ pub mod Reduced
 pub mod Prepare
 pub mod Sound
 pub mod Working
+pub mod Filling
