@@ -5,14 +5,15 @@ use lib.Seq.{getD-set-other, getD-set-same, set-getD}
 use mathlib.Core.List.{List}
 use mathlib.Core.Logic.{inl, inr, _↔_, _≢_, _⊎_}
 use mathlib.Core.Path.{ap, refl, subst, sym, _∙_, _≡_}
-use native.Mathlib.Decide.{ℕ-discrete}
+use native.Mathlib.Decide.{decLt, ℕ-discrete}
 use native.Mathlib.Omega.{arith}
-use Prim.Native.Nat.{_+_, _<_, suc, zero, ℕ, _≤_}
+use Prim.Native.Nat.{_+_, _<_, _^_, suc, zero, ℕ, _≤_}
 use Rattle.plates.specs.Working.{Gained, Odd, SameSums, Tells, gainRow}
 use Rattle.words.proofs.Rows.{same-code}
-use Rattle.words.proofs.Word.{digit}
+use Rattle.words.proofs.Sums.{all-zero, in-row}
+use Rattle.words.proofs.Word.{below-bits, bits-below, digit}
 use Rattle.words.specs.Parity.{parity}
-use Rattle.words.specs.Sum.{IsSum, addRow, taken}
+use Rattle.words.specs.Sum.{IsSum, addRow, sumOf, taken}
 
 -- ---- lists with the same sums
 
@@ -120,3 +121,27 @@ not-odd {check} {w} n = go (digit (parity check w) (omega arith))
     go : (parity check w ≡ 0) ⊎ (parity check w ≡ 1) → parity check w ≡ 0
     go (inl e) = e
     go (inr e) = absurd (n (record { odd = e }))
+
+-- a row is as it was, or had P and gained row p
+pub gained-cases : {t u : List ℕ} {P : ℕ → Type 0} {a b p : ℕ} → Gained t u P a b p → (m : ℕ)
+    → (getD u m 0 ≡ getD t m 0) ⊎ (P (getD t m 0) × (m < b) × (getD u m 0 ≡ bitXor (getD t m 0) (getD t p 0)))
+gained-cases {t} {u} {P} {a} {b} {p} g m = go (decLt m a) (decLt m b)
+  where
+    inside : m < b → (P (getD t m 0) × (getD u m 0 ≡ bitXor (getD t m 0) (getD t p 0))) ⊎ ((P (getD t m 0) → ⊥) × (getD u m 0 ≡ getD t m 0))
+        → (getD u m 0 ≡ getD t m 0) ⊎ (P (getD t m 0) × (m < b) × (getD u m 0 ≡ bitXor (getD t m 0) (getD t p 0)))
+    inside h (inl q) = inr (q .0, h, q .1)
+    inside h (inr q) = inl (q .1)
+
+    go : Dec (m < a) → Dec (m < b) → (getD u m 0 ≡ getD t m 0) ⊎ (P (getD t m 0) × (m < b) × (getD u m 0 ≡ bitXor (getD t m 0) (getD t p 0)))
+    go (yes h) d = inl (g .others m (inl h))
+    go (no h) (yes k) = inside k (g .rows m (omega arith) k)
+    go (no h) (no k) = inl (g .others m (inr (omega arith)))
+
+-- ---- rows with the same sums are as long
+
+-- sums of words of length n are words of length n
+pub sums-below : (n : ℕ) (t : List ℕ) → ((j : ℕ) → getD t j 0 < 2 ^ n) → (w : ℕ) → IsSum t w → w < 2 ^ n
+sums-below n t h w g = subst (λ (x : ℕ). x < 2 ^ n) (g .sum) (below-bits n (sumOf t (g .by)) (λ i l. all-zero t i (λ j k. bits-below n (getD t j 0) (h j) i l) (g .by)))
+
+pub narrow-same : (n : ℕ) {t u : List ℕ} → ((j : ℕ) → getD t j 0 < 2 ^ n) → SameSums t u → (j : ℕ) → getD u j 0 < 2 ^ n
+narrow-same n {t} {u} h s j = sums-below n t h (getD u j 0) (s .from (getD u j 0) (in-row u j))

@@ -7,3 +7,6 @@ pub mod Searching
 pub mod Gaining
 pub mod TableFilled
 pub mod CheckTaken
+pub mod FirstOnesRise
+pub mod LastOnesDiffer
+pub mod HeadsCleared

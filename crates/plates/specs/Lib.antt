@@ -8,3 +8,4 @@ pub mod Prepare
 pub mod Sound
 pub mod Working
 pub mod Filling
+pub mod Reducing
