@@ -114,6 +114,14 @@ pub odd-tells : {check w d : ℕ} → d ≡ parity check w → Tells (Odd check 
 odd-tells {check} {w} {d} e =
     record { digit = digit d (omega arith); yes-is = λ q. record { odd = sym e ∙ q }; no-is = λ q o. omega (arith, o .odd) }
 
+-- a digit that is not 1 tells no
+pub tells-not : {P : Type 0} {d : ℕ} → Tells P d → (d ≡ 1 → ⊥) → P → ⊥
+tells-not {P} {d} t n = go (t .digit)
+  where
+    go : (d ≡ 0) ⊎ (d ≡ 1) → P → ⊥
+    go (inl e) = t .no-is e
+    go (inr e) = absurd (n e)
+
 -- a parity that is not odd is even
 pub not-odd : {check w : ℕ} → (Odd check w → ⊥) → parity check w ≡ 0
 not-odd {check} {w} n = go (digit (parity check w) (omega arith))

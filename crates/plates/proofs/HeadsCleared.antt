@@ -32,6 +32,9 @@ covers-yes {f} {l} {w} {r} {d} h o b e = record { digit = digit d (omega (arith,
 pub covers-no : {f l w r : ℕ} → w < 2 ^ 64 → LastOne w r → r ≤ l → Tells (Covers f l w) 0
 covers-no {f} {l} {w} {r} h o b = record { digit = inl refl; yes-is = λ z. absurd (omega arith); no-is = λ z c. omega (arith, c .ends, last-one-is (some-pos w f (c .one)) h o) }
 
+pub gained-covers : {t u : List ℕ} {f l g m a b p : ℕ} → f ≡ g → l ≡ m → Gained t u (Covers f l) a b p → Gained t u (Covers g m) a b p
+gained-covers {t} {u} {f} {l} {g} {m} {a} {b} {p} e q s = subst (λ (x : ℕ). Gained t u (Covers x m) a b p) e (subst (λ (x : ℕ). Gained t u (Covers f x) a b p) q s)
+
 -- ---- one row
 
 module _ {t u : List ℕ} {k j : ℕ} (s : Basis t k) (h : j < k) (g : Gained t u (Covers (firsts t j) (lasts t j)) 0 j j) where

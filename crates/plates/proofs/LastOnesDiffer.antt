@@ -1,6 +1,6 @@
 -- Rows that gain a later row keep their first ones; and column by column from the right the last ones are made to differ.
 use lib.Bits.{bitXor}
-use lib.ListN.{getD}
+use lib.ListN.{getD, length}
 use mathlib.Core.List.{List}
 use mathlib.Core.Logic.{inl, inr, _⊎_}
 use mathlib.Core.Path.{ap, refl, subst, sym, _∙_, _≡_}
@@ -22,6 +22,10 @@ use Rattle.words.specs.Span.{First, Last}
 
 pub last-of : {t : List ℕ} {k : ℕ} → Basis t k → (i : ℕ) → i < k → Last (getD t i 0) (lasts t i)
 last-of {t} s i h = last-is (getD t i 0) (some-pos (getD t i 0) (firsts t i) (s .begins i h .one)) (s .table .narrow i)
+
+-- each of its rows is a word that is not zero
+pub row-ready : {t : List ℕ} {k j : ℕ} → Basis t k → j < k → (j < 64) × ((length t ≡ 64) × ((0 < getD t j 0) × (getD t j 0 < 2 ^ 64)))
+row-ready {t} {k} {j} s h = (omega (arith, s .table .few), (s .table .size, (some-pos (getD t j 0) (firsts t j) (s .begins j h .one), s .table .narrow j)))
 
 module _ {t u : List ℕ} {P : ℕ → Type 0} {a b p k : ℕ} (s : Basis t k) (hp : p < k) (hb : b ≤ p) (g : Gained t u P a b p) where
   kept-narrow : (j : ℕ) → getD u j 0 < 2 ^ 64

@@ -3,7 +3,7 @@ ghost use mathlib.Core.Path.{_≡_};
 ghost use Rattle.plates.specs.Refusals.{number, place};
 
 mod matrix;
-//mod reduce;
+mod reduce;
 mod rows;
 
 // How a matrix gives its code: as generator, or as parity check.
