@@ -127,6 +127,8 @@ all-reduced {t} {u} {v} {w} {n} {used} {k} s a b d =
     let same : SameSums t w = same-trans (a .same) (same-trans (b .same) (d .same)) in
     record {
       same = same;
-      table = record { size = d .basis .table .size; short = s .short; few = d .basis .table .few; narrow = narrow-same n (s .narrow) same; unused = d .basis .table .unused };
-      reduced = rows-reduced (d .basis) (d .parted) (d .cleared);
+      rows = record {
+        table = record { size = d .basis .table .size; short = s .short; few = d .basis .table .few; narrow = narrow-same n (s .narrow) same; unused = d .basis .table .unused };
+        reduced = rows-reduced (d .basis) (d .parted) (d .cleared);
+      };
     }

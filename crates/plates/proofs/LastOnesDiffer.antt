@@ -17,6 +17,7 @@ use Rattle.words.proofs.Steps.{keeps-first, last-falls}
 use Rattle.words.proofs.Word.{bits-below}
 use Rattle.words.specs.Ends.{LastOne, firsts, last, lasts}
 use Rattle.words.specs.Span.{First, Last}
+use Rattle.words.specs.Word.{bit}
 
 -- ---- a basis stays one
 
@@ -102,16 +103,16 @@ module _ {t u : List ℕ} {k c p : ℕ} (s : Basis t k) (q : Parted t k (c + 1))
 
 -- ---- all columns
 
--- a word of length n ends before n
-pub ends-below : {w l n : ℕ} → w < 2 ^ n → Last w l → l < n
-ends-below {w} {l} {n} h e = go (decLt l n)
+-- a one of a word of length n is before n
+pub one-below : (n : ℕ) {w l : ℕ} → w < 2 ^ n → bit w l ≡ 1 → l < n
+one-below n {w} {l} h e = go (decLt l n)
   where
     go : Dec (l < n) → l < n
     go (yes b) = b
-    go (no b) = absurd (zero-one (bits-below n w h l (omega arith)) (e .one))
+    go (no b) = absurd (zero-one (bits-below n w h l (omega arith)) e)
 
 pub parts-start : {t : List ℕ} {k n : ℕ} → Basis t k → ((j : ℕ) → getD t j 0 < 2 ^ n) → PartedFrom t t k n
-parts-start {t} s h = record { same = same-refl; basis = s; parted = λ i j l m e. ends-below (h i) (last-of s i (omega arith)) }
+parts-start {t} {k} {n} s h = record { same = same-refl; basis = s; parted = λ i j l m e. one-below n (h i) (last-of s i (omega arith) .one) }
 
 pub parted-before : {t u : List ℕ} {k c : ℕ} → 0 < c → PartedFrom t u k c → Parted u k (c - 1 + 1)
 parted-before h p i j l m e = omega (arith, p .parted i j l m e)

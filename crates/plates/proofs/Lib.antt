@@ -10,3 +10,5 @@ pub mod CheckTaken
 pub mod FirstOnesRise
 pub mod LastOnesDiffer
 pub mod HeadsCleared
+pub mod LiveCounted
+pub mod ProfilePassed

@@ -9,3 +9,4 @@ pub mod Sound
 pub mod Working
 pub mod Filling
 pub mod Reducing
+pub mod Profiling

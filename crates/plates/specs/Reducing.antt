@@ -62,8 +62,13 @@ pub record ClearedFrom (t u : List ℕ) (k j : ℕ) : Type 0 where
   pub parted : Parted u k 0
   pub cleared : Cleared u j
 
--- ---- the whole: the table has the plate's k rows, of length n
+-- ---- the whole
+
+-- the first k rows of the table are plate rows of length n
+pub record PlateRows (t : List ℕ) (n k : ℕ) : Type 0 where
+  pub table : Table t n k
+  pub reduced : Reduced (take k t) (firsts (take k t)) (lasts (take k t))
+
 pub record ReducedFrom (t u : List ℕ) (n k : ℕ) : Type 0 where
   pub same : SameSums t u
-  pub table : Table u n k
-  pub reduced : Reduced (take k u) (firsts (take k u)) (lasts (take k u))
+  pub rows : PlateRows u n k

@@ -1,0 +1,131 @@
+-- The pass over the depths leaves the profile of the plate rows.
+use lib.Dec.{leb, ltb}
+use lib.ListN.{getD, length, length-set, replicate, set, take}
+use lib.Seq.{getD-set-other, getD-set-same, getD-take, length-take-le}
+use mathlib.Core.Bool.{_&&_}
+use mathlib.Core.List.{List}
+use mathlib.Core.Path.{ap, refl, subst, sym, _∙_, _≡_}
+use native.Mathlib.Decide.{decLt, ℕ-discrete}
+use native.Mathlib.Numerals.{add-one}
+use native.Mathlib.Omega.{arith}
+use Prim.Native.Nat.{_+_, _-_, _<_, _^_, suc, ℕ, _≤_}
+use Rattle.plates.proofs.FirstOnesRise.{widen}
+use Rattle.plates.proofs.LastOnesDiffer.{one-below}
+use Rattle.plates.proofs.LiveCounted.{count-le, count-same, live-none, live-step}
+use Rattle.plates.proofs.TableFilled.{zeros-at}
+use Rattle.plates.specs.Profile.{live, liveAt}
+use Rattle.plates.specs.Profiling.{Marks, ProfileOf}
+use Rattle.plates.specs.Reducing.{PlateRows}
+use Rattle.words.proofs.Ends.{first-one-is, last-one-is, some-pos}
+use Rattle.words.proofs.Span.{zero-one}
+use Rattle.words.specs.Choice.{count}
+use Rattle.words.specs.Ends.{FirstOne, LastOne, first, firsts, last, lasts}
+use Rattle.words.specs.Span.{First, Last}
+use Rattle.words.specs.Word.{bit}
+
+-- ---- what plate rows in a table have
+
+module _ {t : List ℕ} {n k : ℕ} (s : PlateRows t n k) where
+  taken-length : length (take k t) ≡ k
+  taken-length = length-take-le k t (omega (arith, s .table .size, s .table .few))
+
+  taken-row : (j : ℕ) → j < k → getD (take k t) j 0 ≡ getD t j 0
+  taken-row j h = getD-take k t j 0 h
+
+  begins : (j : ℕ) → j < k → First (getD t j 0) (firsts t j)
+  begins j h = subst (λ (x : ℕ). First x (first x)) (taken-row j h) (s .reduced .spans .first j (omega (arith, taken-length)))
+
+  ends : (j : ℕ) → j < k → Last (getD t j 0) (lasts t j)
+  ends j h = subst (λ (x : ℕ). Last x (last x)) (taken-row j h) (s .reduced .spans .last j (omega (arith, taken-length)))
+
+  wide : (j : ℕ) → getD t j 0 < 2 ^ 64
+  wide = widen (s .table) .narrow
+
+  some : (j : ℕ) → j < k → 0 < getD t j 0
+  some j h = some-pos (getD t j 0) (firsts t j) (begins j h .one)
+
+  pub widen-rows : PlateRows t 64 k
+  widen-rows = record { table = widen (s .table); reduced = s .reduced }
+
+  -- where `first_one` and `last_one` find the ends of a row
+  pub first-there : {j r : ℕ} → j < k → FirstOne (getD t j 0) r → (r ≡ firsts t j) × (r < 64)
+  first-there {j} {r} h f = let e : r ≡ firsts t j = first-one-is (some j h) (wide j) f in (e, one-below 64 (wide j) (f .some (some j h) .one))
+
+  pub last-there : {j r : ℕ} → j < k → LastOne (getD t j 0) r → (r ≡ lasts t j) × (r < 64)
+  last-there {j} {r} h f = let e : r ≡ lasts t j = last-one-is (some j h) (wide j) f in (e, one-below 64 (wide j) (f .some (some j h) .one))
+
+  -- no two rows begin, or end, at one position
+  pub heads-fresh : {j : ℕ} → j < k → (i : ℕ) → i < j → firsts t i ≡ firsts t j → ⊥
+  heads-fresh {j} h i l e =
+      let r : firsts (take k t) i < firsts (take k t) j = s .reduced .spans .rising i j l (omega (arith, taken-length)) in
+      omega (arith, ap first (taken-row i (omega arith)), ap first (taken-row j h))
+
+  pub ends-fresh : {j : ℕ} → j < k → (i : ℕ) → i < j → lasts t i ≡ lasts t j → ⊥
+  ends-fresh {j} h i l e =
+      let r : i ≡ j = s .reduced .spans .apart i j (omega (arith, taken-length)) (omega (arith, taken-length)) (ap last (taken-row i (omega arith)) ∙ e ∙ ap last (sym (taken-row j h))) in
+      omega arith
+
+  begin-end : (j : ℕ) → j < k → firsts t j ≤ lasts t j
+  begin-end j h = go (decLt (lasts t j) (firsts t j))
+    where
+      go : Dec (lasts t j < firsts t j) → firsts t j ≤ lasts t j
+      go (yes b) = absurd (zero-one (begins j h .zeros (lasts t j) b) (ends j h .one))
+      go (no b) = omega arith
+
+  -- the live rows counted in the table are those of the plate rows
+  pub live-rows : (d : ℕ) → liveAt (take k t) d ≡ count k (live (firsts t) (lasts t) d)
+  live-rows d =
+      ap (λ (x : ℕ). count x (live (firsts (take k t)) (lasts (take k t)) d)) taken-length
+      ∙ count-same k (live (firsts (take k t)) (lasts (take k t)) d) (live (firsts t) (lasts t) d) (λ j h. ap (λ (x : ℕ). ltb (first x) d && leb d (last x)) (taken-row j h))
+
+  -- one depth further
+  pub live-next : (d : ℕ) {h e : ℕ} → Marks (firsts t) k h → Marks (lasts t) k e
+      → count k (live (firsts t) (lasts t) (suc d)) + bit e d ≡ count k (live (firsts t) (lasts t) d) + bit h d
+  live-next d {h} {e} mh me = ap (λ (x : ℕ). count k (live (firsts t) (lasts t) (suc d)) + x) (me .at d) ∙ live-step k (firsts t) (lasts t) begin-end d ∙ ap (λ (x : ℕ). count k (live (firsts t) (lasts t) d) + x) (sym (mh .at d))
+
+-- ---- the pass: the entries up to depth d are those of the profile, and `now` rows are live
+
+pub record Passed (t : List ℕ) (k : ℕ) (p : List ℕ) (now d : ℕ) : Type 0 where
+  pub entries : length p ≡ 65
+  pub live-now : now ≡ count k (live (firsts t) (lasts t) d)
+  pub here : (i : ℕ) → i ≤ d → getD p i 0 ≡ count k (live (firsts t) (lasts t) i)
+  pub rest : (i : ℕ) → d < i → getD p i 0 ≡ 0
+
+pub passed-start : {t : List ℕ} {k : ℕ} → Passed t k (replicate 65 0) 0 0
+passed-start {t} {k} = record {
+  entries = refl;
+  live-now = sym (live-none k (firsts t) (lasts t));
+  here = λ i h. zeros-at 65 i ∙ sym (live-none k (firsts t) (lasts t)) ∙ ap (λ (x : ℕ). count k (live (firsts t) (lasts t) x)) (omega arith);
+  rest = λ i h. zeros-at 65 i;
+}
+
+pub passed-on : {t p : List ℕ} {n k now next d h e x y : ℕ} → PlateRows t n k → d < n → Marks (firsts t) k h → Marks (lasts t) k e → Passed t k p now d
+    → x ≡ bit h d → y ≡ bit e d → next ≡ now + x - y → Passed t k (set p (d + 1) next) next (d + 1)
+passed-on {t} {p} {n} {k} {now} {next} {d} {h} {e} s l mh me a ex ey q = record {
+  entries = length-set p (d + 1) next ∙ a .entries;
+  live-now = is-next;
+  here = λ i b. at i b (ℕ-discrete i (d + 1));
+  rest = λ i b. getD-set-other p (d + 1) i next 0 (λ z. omega arith) ∙ a .rest i (omega arith);
+}
+  where
+    is-next : next ≡ count k (live (firsts t) (lasts t) (d + 1))
+    is-next = omega (arith, q, ex, ey, a .live-now, live-next s d mh me, ap (λ (x : ℕ). count k (live (firsts t) (lasts t) x)) (add-one d))
+
+    at : (i : ℕ) → i ≤ d + 1 → Dec (i ≡ d + 1) → getD (set p (d + 1) next) i 0 ≡ count k (live (firsts t) (lasts t) i)
+    at i b (yes z) = ap (λ (x : ℕ). getD (set p (d + 1) next) x 0) z ∙ getD-set-same p (d + 1) next 0 (omega (arith, a .entries, s .table .short)) ∙ is-next ∙ ap (λ (x : ℕ). count k (live (firsts t) (lasts t) x)) (sym z)
+    at i b (no z) = getD-set-other p (d + 1) i next 0 z ∙ a .here i (omega arith)
+
+-- no more rows end than are live or begin
+pub no-less : {t p : List ℕ} {n k now d h e x y : ℕ} → PlateRows t n k → Marks (firsts t) k h → Marks (lasts t) k e → Passed t k p now d → x ≡ bit h d → y ≡ bit e d → y ≤ now + x
+no-less {t} {d = d} s mh me a ex ey = omega (arith, live-next s d mh me, a .live-now)
+
+-- a count of rows is at most 64
+pub live-few : {t p : List ℕ} {n k now d : ℕ} → PlateRows t n k → Passed t k p now d → now ≤ 64
+live-few {t} {k = k} {d = d} s a = omega (arith, a .live-now, count-le k (live (firsts t) (lasts t) d), s .table .few)
+
+pub passed-end : {t p : List ℕ} {n k now d : ℕ} → PlateRows t n k → d ≤ n → n ≤ d → Passed t k p now d → ProfileOf (take k t) n p
+passed-end {t} {p} {n} {k} {now} {d} s l m a = record {
+  entries = a .entries;
+  here = λ i h. a .here i (omega arith) ∙ sym (live-rows s i);
+  unused = λ i h. a .rest i (omega arith);
+}
