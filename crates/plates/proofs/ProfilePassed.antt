@@ -99,9 +99,9 @@ passed-start {t} {k} = record {
   rest = λ i h. zeros-at 65 i;
 }
 
-pub passed-on : {t p : List ℕ} {n k now next d h e x y : ℕ} → PlateRows t n k → d < n → Marks (firsts t) k h → Marks (lasts t) k e → Passed t k p now d
-    → x ≡ bit h d → y ≡ bit e d → next ≡ now + x - y → Passed t k (set p (d + 1) next) next (d + 1)
-passed-on {t} {p} {n} {k} {now} {next} {d} {h} {e} s l mh me a ex ey q = record {
+pub passed-on : {t p : List ℕ} {n k now next d h e : ℕ} → PlateRows t n k → d < n → Marks (firsts t) k h → Marks (lasts t) k e → Passed t k p now d
+    → next ≡ now + bit h d - bit e d → Passed t k (set p (d + 1) next) next (d + 1)
+passed-on {t} {p} {n} {k} {now} {next} {d} {h} {e} s l mh me a q = record {
   entries = length-set p (d + 1) next ∙ a .entries;
   live-now = is-next;
   here = λ i b. at i b (ℕ-discrete i (d + 1));
@@ -109,15 +109,15 @@ passed-on {t} {p} {n} {k} {now} {next} {d} {h} {e} s l mh me a ex ey q = record 
 }
   where
     is-next : next ≡ count k (live (firsts t) (lasts t) (d + 1))
-    is-next = omega (arith, q, ex, ey, a .live-now, live-next s d mh me, ap (λ (x : ℕ). count k (live (firsts t) (lasts t) x)) (add-one d))
+    is-next = omega (arith, q, a .live-now, live-next s d mh me, ap (λ (x : ℕ). count k (live (firsts t) (lasts t) x)) (add-one d))
 
     at : (i : ℕ) → i ≤ d + 1 → Dec (i ≡ d + 1) → getD (set p (d + 1) next) i 0 ≡ count k (live (firsts t) (lasts t) i)
     at i b (yes z) = ap (λ (x : ℕ). getD (set p (d + 1) next) x 0) z ∙ getD-set-same p (d + 1) next 0 (omega (arith, a .entries, s .table .short)) ∙ is-next ∙ ap (λ (x : ℕ). count k (live (firsts t) (lasts t) x)) (sym z)
     at i b (no z) = getD-set-other p (d + 1) i next 0 z ∙ a .here i (omega arith)
 
 -- no more rows end than are live or begin
-pub no-less : {t p : List ℕ} {n k now d h e x y : ℕ} → PlateRows t n k → Marks (firsts t) k h → Marks (lasts t) k e → Passed t k p now d → x ≡ bit h d → y ≡ bit e d → y ≤ now + x
-no-less {t} {d = d} s mh me a ex ey = omega (arith, live-next s d mh me, a .live-now)
+pub no-less : {t p : List ℕ} {n k now d h e : ℕ} → PlateRows t n k → Marks (firsts t) k h → Marks (lasts t) k e → Passed t k p now d → bit e d ≤ now + bit h d
+no-less {t} {d = d} s mh me a = omega (arith, live-next s d mh me, a .live-now)
 
 -- a count of rows is at most 64
 pub live-few : {t p : List ℕ} {n k now d : ℕ} → PlateRows t n k → Passed t k p now d → now ≤ 64

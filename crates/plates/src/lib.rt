@@ -3,6 +3,7 @@ ghost use mathlib.Core.Path.{_≡_};
 ghost use Rattle.plates.specs.Refusals.{number, place};
 
 mod matrix;
+mod profile;
 mod reduce;
 mod rows;
 
