@@ -12,3 +12,4 @@ pub mod LastOnesDiffer
 pub mod HeadsCleared
 pub mod LiveCounted
 pub mod ProfilePassed
+pub mod Replies

@@ -10,3 +10,4 @@ pub mod Working
 pub mod Filling
 pub mod Reducing
 pub mod Profiling
+pub mod Replying

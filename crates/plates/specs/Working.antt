@@ -47,8 +47,8 @@ abbrev pub EndsAt : ℕ → ℕ → Type 0
 EndsAt c w = Last w c
 
 -- a one at n or beyond
-abbrev pub Beyond : ℕ → ℕ → Type 0
-Beyond n w = 2 ^ n ≤ w
+pub record Beyond (n w : ℕ) : Type 0 where
+  pub over : 2 ^ n ≤ w
 
 -- a profile entry over 12
 abbrev pub OverTwelve : ℕ → Type 0

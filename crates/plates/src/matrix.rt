@@ -3,10 +3,37 @@ ghost use mathlib.Core.Path.{_≡_};
 ghost use Prim.Native.Nat.{ℕ, _^_, _<_, _≤_};
 ghost use lib.ListN.{getD, length, replicate};
 ghost use Rattle.plates.specs.Filling.{Filled, Holds, Passing, PassingOne, rowAt, unit};
-ghost use Rattle.plates.specs.Working.{Table};
+ghost use Rattle.plates.specs.Working.{Beyond, FirstWhere, Table, Tells};
 
 use crate::Kind;
 use crate::rows;
+
+// 1 where the word has a one at n or beyond, and 0 elsewhere.
+fn reaches(word: u64, n: usize) -> u64
+    ensures { λ r. ⌜ Tells (Beyond n word) r ⌝ }
+{
+    if word == 0 {
+        return 0;
+    }
+    if words::last_one(word) < n {
+        return 0;
+    }
+    1
+}
+
+// The first row with a one at n or beyond; the number of rows where there is none.
+pub fn first_beyond(rows: &[u64], n: usize) -> usize
+    ensures { λ r. ⌜ FirstWhere (now (rows .entry)) (Beyond n) 0 (length (now (rows .entry))) r ⌝ }
+{
+    let mut i: usize = 0;
+    while i < rows.len() {
+        if reaches(rows[i], n) == 1 {
+            return i;
+        }
+        i += 1;
+    }
+    i
+}
 
 // The rows of the matrix, in a table of zero words.
 fn load_rows(table: &mut [u64; 64], rows: &[u64])
