@@ -83,13 +83,19 @@ refuse-rows some short many = refuse (inr (good-length some short, inl (many, re
 pub refuse-beyond : {n i : ℕ} {kind : Kind} {rows : List ℕ} {r : Prepared} → 0 < n → n ≤ 64 → length rows ≤ 64 → FirstWhere rows (Beyond n) 0 (length rows) i
     → i < length rows → r ≡ refusedWith (RowBeyond i) → Prepares n kind rows r
 refuse-beyond {n} {i} some short few f h =
-    refuse (inr (good-length some short, inr ((λ p c. omega (arith, c .0)), inl (record {
-      row = i;
-      there = h;
-      over = f .here h .over;
-      first = λ j l. not-beyond (f .none j zero-le l);
-      is = refl;
-    }))))
+    refuse (inr (
+      good-length some short,
+      inr (
+        (λ p c. omega (arith, c .0)),
+        inl (record {
+          row = i;
+          there = h;
+          over = f .here h .over;
+          first = λ j l. not-beyond (f .none j zero-le l);
+          is = refl;
+        }),
+      ),
+    ))
 
 -- ---- refusal 4, and the plate
 
@@ -124,14 +130,23 @@ module _ {n used k : ℕ} {kind : Kind} {rows t u p : List ℕ} (some : 0 < n) (
 
   pub refuse-wide : {d : ℕ} {r : Prepared} → FirstWhere p OverTwelve 0 (n + 1) d → d ≤ n → r ≡ refusedWith TooWide → Prepares n kind rows r
   refuse-wide {d} w h =
-      refuse (inr (good-length some (s .rows .table .short), inr ((λ c o. omega (arith, o .0)), inr (good-rows, inl (record {
-        rows = take k u;
-        plate = the-rows;
-        depth = d;
-        within = h;
-        over = subst (λ (x : ℕ). 12 < x) (q .here d h) (w .here (omega arith));
-        is = refl;
-      })))))
+      refuse (inr (
+        good-length some (s .rows .table .short),
+        inr (
+          (λ c o. omega (arith, o .0)),
+          inr (
+            good-rows,
+            inl (record {
+              rows = take k u;
+              plate = the-rows;
+              depth = d;
+              within = h;
+              over = subst (λ (x : ℕ). 12 < x) (q .here d h) (w .here (omega arith));
+              is = refl;
+            }),
+          ),
+        ),
+      ))
 
   pub accept : {d : ℕ} → FirstWhere p OverTwelve 0 (n + 1) d → n < d → Prepares n kind rows (record { verdict = Accepted; plate = record { n = n; k = k; rows = u; profile = p } })
   accept {d} w h = record {

@@ -4,7 +4,6 @@ ghost use Prim.Native.Nat.{ℕ, _^_, _<_, _≤_};
 ghost use lib.ListN.{getD, length, replicate};
 ghost use Rattle.plates.specs.Filling.{Filled, Holds, Passing, PassingOne, rowAt, unit};
 ghost use Rattle.plates.specs.Working.{Beyond, FirstWhere, Table, Tells};
-
 use crate::Kind;
 use crate::rows;
 

@@ -5,7 +5,6 @@ ghost use lib.ListN.{getD, length};
 ghost use Rattle.words.specs.Ends.{first, last};
 ghost use Rattle.plates.specs.Reducing.{Basis, BasisFrom, ClearedFrom, Covers, Echelon, EchelonFrom, Parted, PartedFrom, ReducedFrom};
 ghost use Rattle.plates.specs.Working.{EndsAt, Gained, LastWhere, Table, Tells};
-
 use crate::rows;
 
 // One column: the first row from k on with a one there becomes row k, and is added to the later rows with a one there.
