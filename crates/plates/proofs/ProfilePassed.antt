@@ -8,13 +8,13 @@ use mathlib.Core.Path.{ap, refl, subst, sym, _∙_, _≡_}
 use native.Mathlib.Decide.{decLt, ℕ-discrete}
 use native.Mathlib.Numerals.{add-one}
 use native.Mathlib.Omega.{arith}
-use Prim.Native.Nat.{_+_, _-_, _<_, _^_, suc, ℕ, _≤_}
+use Prim.Native.Nat.{_+_, _-_, _<_, _^_, suc, zero, ℕ, _≤_}
 use Rattle.plates.proofs.FirstOnesRise.{widen}
 use Rattle.plates.proofs.LastOnesDiffer.{one-below}
 use Rattle.plates.proofs.LiveCounted.{count-le, count-same, live-none, live-step}
 use Rattle.plates.proofs.TableFilled.{zeros-at}
 use Rattle.plates.specs.Profile.{live, liveAt}
-use Rattle.plates.specs.Profiling.{Marks, ProfileOf}
+use Rattle.plates.specs.Profiling.{Balanced, Marks, Tallied, runs}
 use Rattle.plates.specs.Reducing.{PlateRows}
 use Rattle.words.proofs.Ends.{first-one-is, last-one-is, some-pos}
 use Rattle.words.proofs.Span.{zero-one}
@@ -83,49 +83,70 @@ module _ {t : List ℕ} {n k : ℕ} (s : PlateRows t n k) where
       → count k (live (firsts t) (lasts t) (suc d)) + bit e d ≡ count k (live (firsts t) (lasts t) d) + bit h d
   live-next d {h} {e} mh me = ap (λ (x : ℕ). count k (live (firsts t) (lasts t) (suc d)) + x) (me .at d) ∙ live-step k (firsts t) (lasts t) begin-end d ∙ ap (λ (x : ℕ). count k (live (firsts t) (lasts t) d) + x) (sym (mh .at d))
 
--- ---- the pass: the entries up to depth d are those of the profile, and `now` rows are live
+  -- so the marks count the live rows
+  runs-live : {h e : ℕ} → Marks (firsts t) k h → Marks (lasts t) k e → (d : ℕ) → runs h e d ≡ count k (live (firsts t) (lasts t) d)
+  unfolding runs
+  runs-live mh me zero = sym (live-none k (firsts t) (lasts t))
+  runs-live mh me (suc d) = omega (arith, runs-live mh me d, live-next d mh me)
 
-pub record Passed (t : List ℕ) (k : ℕ) (p : List ℕ) (now d : ℕ) : Type 0 where
+  pub marks-balanced : {h e : ℕ} → Marks (firsts t) k h → Marks (lasts t) k e → Balanced h e n
+  marks-balanced mh me = record {
+    short = s .table .short;
+    enough = λ d l. omega (arith, runs-live mh me d, live-next d mh me);
+    few = λ d l. omega (arith, runs-live mh me d, count-le k (live (firsts t) (lasts t) d), s .table .few);
+  }
+
+  -- and the entries are those of the profile
+  pub live-tallied : {h e : ℕ} {p : List ℕ} → Marks (firsts t) k h → Marks (lasts t) k e → Tallied h e n p → (d : ℕ) → d ≤ n → getD p d 0 ≡ liveAt (take k t) d
+  live-tallied mh me q d l = q .here d l ∙ runs-live mh me d ∙ sym (live-rows d)
+
+-- ---- the pass: the entries up to depth d are counted, and `now` rows are live
+
+pub record Passed (heads ends : ℕ) (p : List ℕ) (now d : ℕ) : Type 0 where
   pub entries : length p ≡ 65
-  pub live-now : now ≡ count k (live (firsts t) (lasts t) d)
-  pub here : (i : ℕ) → i ≤ d → getD p i 0 ≡ count k (live (firsts t) (lasts t) i)
+  pub live-now : now ≡ runs heads ends d
+  pub here : (i : ℕ) → i ≤ d → getD p i 0 ≡ runs heads ends i
   pub rest : (i : ℕ) → d < i → getD p i 0 ≡ 0
 
-pub passed-start : {t : List ℕ} {k : ℕ} → Passed t k (replicate 65 0) 0 0
-passed-start {t} {k} = record {
-  entries = refl;
-  live-now = sym (live-none k (firsts t) (lasts t));
-  here = λ i h. zeros-at 65 i ∙ sym (live-none k (firsts t) (lasts t)) ∙ ap (λ (x : ℕ). count k (live (firsts t) (lasts t) x)) (omega arith);
-  rest = λ i h. zeros-at 65 i;
+pub passed-start : {heads ends : ℕ} {p : List ℕ} → p ≡ replicate 65 0 → Passed heads ends p 0 0
+unfolding runs
+passed-start {heads} {ends} {p} e = record {
+  entries = ap length e;
+  live-now = refl;
+  here = λ i h. (let z : 0 ≡ i = omega arith in zero-there i ∙ ap (runs heads ends) z);
+  rest = λ i h. zero-there i;
 }
+  where
+    zero-there : (i : ℕ) → getD p i 0 ≡ 0
+    zero-there i = ap (λ (x : List ℕ). getD x i 0) e ∙ zeros-at 65 i
 
-pub passed-on : {t p : List ℕ} {n k now next d h e : ℕ} → PlateRows t n k → d < n → Marks (firsts t) k h → Marks (lasts t) k e → Passed t k p now d
-    → next ≡ now + bit h d - bit e d → Passed t k (set p (d + 1) next) next (d + 1)
-passed-on {t} {p} {n} {k} {now} {next} {d} {h} {e} s l mh me a q = record {
+-- one depth further
+runs-next : (heads ends d : ℕ) → runs heads ends (d + 1) ≡ runs heads ends d + bit heads d - bit ends d
+unfolding runs
+runs-next heads ends d = ap (runs heads ends) (add-one d)
+
+pub passed-on : {heads ends n now next d : ℕ} {p : List ℕ} → n ≤ 64 → d < n → Passed heads ends p now d → next ≡ now + bit heads d - bit ends d
+    → Passed heads ends (set p (d + 1) next) next (d + 1)
+passed-on {heads} {ends} {n} {now} {next} {d} {p} short l a q = record {
   entries = length-set p (d + 1) next ∙ a .entries;
   live-now = is-next;
   here = λ i b. at i b (ℕ-discrete i (d + 1));
   rest = λ i b. getD-set-other p (d + 1) i next 0 (λ z. omega arith) ∙ a .rest i (omega arith);
 }
   where
-    is-next : next ≡ count k (live (firsts t) (lasts t) (d + 1))
-    is-next = omega (arith, q, a .live-now, live-next s d mh me, ap (λ (x : ℕ). count k (live (firsts t) (lasts t) x)) (add-one d))
+    is-next : next ≡ runs heads ends (d + 1)
+    is-next = omega (arith, a .live-now, runs-next heads ends d)
 
-    at : (i : ℕ) → i ≤ d + 1 → Dec (i ≡ d + 1) → getD (set p (d + 1) next) i 0 ≡ count k (live (firsts t) (lasts t) i)
-    at i b (yes z) = ap (λ (x : ℕ). getD (set p (d + 1) next) x 0) z ∙ getD-set-same p (d + 1) next 0 (omega (arith, a .entries, s .table .short)) ∙ is-next ∙ ap (λ (x : ℕ). count k (live (firsts t) (lasts t) x)) (sym z)
+    at : (i : ℕ) → i ≤ d + 1 → Dec (i ≡ d + 1) → getD (set p (d + 1) next) i 0 ≡ runs heads ends i
+    at i b (yes z) = ap (λ (x : ℕ). getD (set p (d + 1) next) x 0) z ∙ getD-set-same p (d + 1) next 0 (omega (arith, a .entries)) ∙ is-next ∙ ap (runs heads ends) (sym z)
     at i b (no z) = getD-set-other p (d + 1) i next 0 z ∙ a .here i (omega arith)
 
--- no more rows end than are live or begin
-pub no-less : {t p : List ℕ} {n k now d h e : ℕ} → PlateRows t n k → Marks (firsts t) k h → Marks (lasts t) k e → Passed t k p now d → bit e d ≤ now + bit h d
-no-less {t} {d = d} s mh me a = omega (arith, live-next s d mh me, a .live-now)
+-- what `next_live` asks, and that its answer fits a byte
+pub next-ready : {heads ends n now d : ℕ} {p : List ℕ} → Balanced heads ends n → d < n → Passed heads ends p now d → (now ≤ 64) × (bit ends d ≤ now + bit heads d)
+next-ready {d = d} s l a = (omega (arith, a .live-now, s .few d (omega arith)), omega (arith, a .live-now, s .enough d l))
 
--- a count of rows is at most 64
-pub live-few : {t p : List ℕ} {n k now d : ℕ} → PlateRows t n k → Passed t k p now d → now ≤ 64
-live-few {t} {k = k} {d = d} s a = omega (arith, a .live-now, count-le k (live (firsts t) (lasts t) d), s .table .few)
+pub next-fits : {heads ends n now next d : ℕ} {p : List ℕ} → Balanced heads ends n → d < n → Passed heads ends p now d → next ≡ now + bit heads d - bit ends d → next ≤ 64
+next-fits {heads} {ends} {d = d} s l a q = omega (arith, a .live-now, runs-next heads ends d, s .few (d + 1) (omega arith))
 
-pub passed-end : {t p : List ℕ} {n k now d : ℕ} → PlateRows t n k → d ≤ n → n ≤ d → Passed t k p now d → ProfileOf (take k t) n p
-passed-end {t} {p} {n} {k} {now} {d} s l m a = record {
-  entries = a .entries;
-  here = λ i h. a .here i (omega arith) ∙ sym (live-rows s i);
-  unused = λ i h. a .rest i (omega arith);
-}
+pub passed-end : {heads ends n now d : ℕ} {p : List ℕ} → d ≤ n → n ≤ d → Passed heads ends p now d → Tallied heads ends n p
+passed-end l m a = record { entries = a .entries; here = λ i h. a .here i (omega arith); unused = λ i h. a .rest i (omega arith) }

@@ -8,6 +8,7 @@ use native.Mathlib.Decide.{decLt}
 use native.Mathlib.Omega.{arith}
 use Prim.Native.Nat.{_+_, _<_, _^_, zero-le, ℕ, _≤_}
 use Rattle.plates.proofs.OnePlate.{one-plate}
+use Rattle.plates.proofs.ProfilePassed.{live-tallied}
 use Rattle.plates.proofs.ReducedIsPlate.{plate-of}
 use Rattle.plates.proofs.TableFilled.{sums-used}
 use Rattle.plates.specs.Code.{InCode}
@@ -20,7 +21,7 @@ use Rattle.plates.specs.Filling.{Filled}
 use Rattle.plates.specs.Heads.{RowsOf}
 use Rattle.plates.specs.Prepare.{Prepares, RowOver, Wide, badLength, prepareConditions}
 use Rattle.plates.specs.Profile.{liveAt}
-use Rattle.plates.specs.Profiling.{ProfileOf}
+use Rattle.plates.specs.Profiling.{Marks, Tallied}
 use Rattle.plates.specs.Reducing.{ReducedFrom}
 use Rattle.plates.specs.Refusals.{Refuses}
 use Rattle.plates.specs.Replying.{refusedWith}
@@ -114,8 +115,8 @@ rows-same s p = record {
 }
 
 -- what the steps have left for a matrix that refusals 1 to 3 do not meet
-module _ {n used k : ℕ} {kind : Kind} {rows t u p : List ℕ} (some : 0 < n) (few : length rows ≤ 64) (small : (j : ℕ) → j < length rows → getD rows j 0 < 2 ^ n)
-    (f : Filled n kind rows t used) (s : ReducedFrom t u n k) (q : ProfileOf (take k u) n p) where
+module _ {n used k heads ends : ℕ} {kind : Kind} {rows t u p : List ℕ} (some : 0 < n) (few : length rows ≤ 64) (small : (j : ℕ) → j < length rows → getD rows j 0 < 2 ^ n)
+    (f : Filled n kind rows t used) (s : ReducedFrom t u n k) (mh : Marks (firsts u) k heads) (me : Marks (lasts u) k ends) (q : Tallied heads ends n p) where
   code : (w : ℕ) → IsSum (take k u) w ↔ InCode kind n rows w
   code w = ((λ g. f .code w .0 (s .same .from w (used-rows .to w g))), λ c. used-rows .from w (s .same .to w (f .code w .1 c)))
     where
@@ -124,6 +125,9 @@ module _ {n used k : ℕ} {kind : Kind} {rows t u p : List ℕ} (some : 0 < n) (
 
   the-rows : RowsOf (InCode kind n rows) (take k u) (firsts (take k u)) (lasts (take k u))
   the-rows = rows-same code (plate-of (take k u) (firsts (take k u)) (lasts (take k u)) (s .rows .reduced))
+
+  the-profile : (d : ℕ) → d ≤ n → getD p d 0 ≡ liveAt (take k u) d
+  the-profile = live-tallied (s .rows) mh me q
 
   good-rows : (c : Refusal) → RowOver n rows c → ⊥
   good-rows c o = omega (arith, o .over, small (o .row) (o .there))
@@ -141,7 +145,7 @@ module _ {n used k : ℕ} {kind : Kind} {rows t u p : List ℕ} (some : 0 < n) (
               plate = the-rows;
               depth = d;
               within = h;
-              over = subst (λ (x : ℕ). 12 < x) (q .here d h) (w .here (omega arith));
+              over = subst (λ (x : ℕ). 12 < x) (the-profile d h) (w .here (omega arith));
               is = refl;
             }),
           ),
@@ -159,7 +163,7 @@ module _ {n used k : ℕ} {kind : Kind} {rows t u p : List ℕ} (some : 0 < n) (
         rows = the-rows;
         unused-rows = s .rows .table .unused;
         entries = q .entries;
-        profile = q .here;
+        profile = the-profile;
         unused-entries = q .unused;
       },
     );
@@ -169,4 +173,4 @@ module _ {n used k : ℕ} {kind : Kind} {rows t u p : List ℕ} (some : 0 < n) (
       narrow c o =
           let e : o .rows ≡ take k u = one-plate (InCode kind n rows) (o .rows) (take k u) (firsts (o .rows)) (lasts (o .rows)) (firsts (take k u)) (lasts (take k u)) (o .plate) the-rows in
           w .none (o .depth) zero-le (omega (arith, o .within))
-          (subst (λ (x : ℕ). 12 < x) (sym (q .here (o .depth) (o .within))) (subst (λ (x : List ℕ). 12 < liveAt x (o .depth)) e (o .over)))
+          (subst (λ (x : ℕ). 12 < x) (sym (the-profile (o .depth) (o .within))) (subst (λ (x : List ℕ). 12 < liveAt x (o .depth)) e (o .over)))

@@ -117,7 +117,7 @@ fn refused(refusal: Refusal) -> Prepared
     }
 }
 
-// The plate of a matrix that refusals 1 to 3 do not meet, worked out in its own rows; or refusal 4.
+// The plate of a matrix that refusals 1 to 3 do not meet, worked out in the reply itself; or refusal 4.
 fn worked_out(n: usize, kind: Kind, rows: &[u64]) -> Prepared
     requires { ⌜ 0 < n ⌝ }
     requires { ⌜ n ≤ 64 ⌝ }
@@ -125,24 +125,25 @@ fn worked_out(n: usize, kind: Kind, rows: &[u64]) -> Prepared
     requires { ⌜ ((j : ℕ) → j < length (now rows) → getD (now rows) j 0 < 2 ^ n) ⌝ }
     ensures { λ r. ⌜ Prepares n kind (now (rows .entry)) r ⌝ }
 {
-    let mut plate = Plate {
-        n,
-        k: 0,
-        rows: [0; 64],
-        profile: [0; 65],
+    let mut prepared = Prepared {
+        verdict: Verdict::Accepted,
+        plate: Plate {
+            n,
+            k: 0,
+            rows: [0; 64],
+            profile: [0; 65],
+        },
     };
-    let used = matrix::fill(&mut plate.rows, n, kind, rows);
-    let k = reduce::reduce(&mut plate.rows, n, used);
-    let profile = profile::profile_of(&plate.rows, n, k);
-    if profile::first_wide(&profile, n) <= n {
+    let used = matrix::fill(&mut prepared.plate.rows, n, kind, rows);
+    let k = reduce::reduce(&mut prepared.plate.rows, n, used);
+    prepared.plate.k = k;
+    let heads = profile::heads(&prepared.plate.rows, k);
+    let ends = profile::ends(&prepared.plate.rows, k);
+    profile::tally(&mut prepared.plate.profile, n, heads, ends);
+    if profile::first_wide(&prepared.plate.profile, n) <= n {
         return refused(Refusal::TooWide);
     }
-    plate.k = k;
-    plate.profile = profile;
-    Prepared {
-        verdict: Verdict::Accepted,
-        plate,
-    }
+    prepared
 }
 
 // The plate of a matrix's code, or the first refusal that its length, its rows or its profile meet.

@@ -1,15 +1,15 @@
 // The profile of plate rows: the number of live rows at each depth, in one pass.
 ghost use mathlib.Core.Path.{_≡_};
 ghost use Prim.Native.Nat.{_+_, _-_, _≤_};
-ghost use lib.ListN.{take};
+ghost use lib.ListN.{replicate};
 ghost use Rattle.words.specs.Ends.{firsts, lasts};
 ghost use Rattle.words.specs.Word.{bit};
-ghost use Rattle.plates.specs.Profiling.{Marks, ProfileOf};
+ghost use Rattle.plates.specs.Profiling.{Balanced, Marks, Tallied};
 ghost use Rattle.plates.specs.Reducing.{PlateRows};
 ghost use Rattle.plates.specs.Working.{FirstWhere, OverTwelve};
 
 // A word with a one at each head.
-fn heads(table: &[u64; 64], k: usize) -> u64
+pub fn heads(table: &[u64; 64], k: usize) -> u64
     requires { ⌜ PlateRows (now table) 64 k ⌝ }
     ensures { λ r. ⌜ Marks (firsts (now (table .entry))) k r ⌝ }
 {
@@ -24,7 +24,7 @@ fn heads(table: &[u64; 64], k: usize) -> u64
 }
 
 // A word with a one at the last one of each row.
-fn ends(table: &[u64; 64], k: usize) -> u64
+pub fn ends(table: &[u64; 64], k: usize) -> u64
     requires { ⌜ PlateRows (now table) 64 k ⌝ }
     ensures { λ r. ⌜ Marks (lasts (now (table .entry))) k r ⌝ }
 {
@@ -47,14 +47,12 @@ fn next_live(live: u64, heads: u64, ends: u64, t: usize) -> u64
     live + words::bit_at(heads, t) - words::bit_at(ends, t)
 }
 
-// The profile of the first k rows, depth by depth.
-pub fn profile_of(table: &[u64; 64], n: usize, k: usize) -> [u8; 65]
-    requires { ⌜ PlateRows (now table) n k ⌝ }
-    ensures { λ r. ⌜ ProfileOf (take k (now (table .entry))) n r ⌝ }
+// The profile from where the rows begin and end, depth by depth, in a list of zeros.
+pub fn tally(profile: &mut [u8; 65], n: usize, heads: u64, ends: u64)
+    requires { ⌜ Balanced heads ends n ⌝ }
+    requires { ⌜ now profile ≡ replicate 65 0 ⌝ }
+    ensures { λ r. ⌜ Tallied heads ends n (now (profile .exit)) ⌝ }
 {
-    let heads = heads(table, k);
-    let ends = ends(table, k);
-    let mut profile = [0u8; 65];
     let mut live: u64 = 0;
     let mut t: usize = 0;
     while t < n {
@@ -62,7 +60,6 @@ pub fn profile_of(table: &[u64; 64], n: usize, k: usize) -> [u8; 65]
         t += 1;
         profile[t] = live as u8;
     }
-    profile
 }
 
 // The first depth whose entry exceeds 12; n + 1 where there is none.
