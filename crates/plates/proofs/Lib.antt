@@ -15,3 +15,13 @@ pub mod HeadsClear
 pub mod ProfileTested
 pub mod ZerosTested
 pub mod SoundParts
+pub mod Searching
+pub mod Gaining
+pub mod TableFilled
+pub mod CheckTaken
+pub mod FirstOnesRise
+pub mod LastOnesDiffer
+pub mod HeadsCleared
+pub mod LiveCounted
+pub mod ProfilePassed
+pub mod Replies

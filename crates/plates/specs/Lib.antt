@@ -8,3 +8,8 @@ pub mod Prepare
 pub mod Sound
 pub mod Counts
 pub mod Tested
+pub mod Working
+pub mod Filling
+pub mod Reducing
+pub mod Profiling
+pub mod Replying

@@ -2,6 +2,12 @@
 ghost use mathlib.Core.Path.{_≡_};
 ghost use Rattle.plates.specs.Prepare.{Tests};
 ghost use Rattle.plates.specs.Refusals.{number, place};
+ghost use Rattle.plates.specs.Replying.{refusedWith};
+
+mod matrix;
+mod profile;
+mod reduce;
+mod rows;
 
 mod tested;
 

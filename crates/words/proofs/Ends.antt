@@ -84,3 +84,10 @@ first-one-determined (suc w) r s f g = first-unique (f .some (suc-le-suc zero-le
 pub last-one-determined : (w r s : ℕ) → LastOne w r → LastOne w s → r ≡ s
 last-one-determined zero r s f g = f .none refl ∙ sym (g .none refl)
 last-one-determined (suc w) r s f g = last-unique (f .some (suc-le-suc zero-le)) (g .some (suc-le-suc zero-le))
+
+-- a first one, or a last one, is the one
+pub first-at : {w p : ℕ} → w < 2 ^ 64 → First w p → first w ≡ p
+first-at {w} {p} h f = first-unique (first-is w (some-pos w p (f .one)) h) f
+
+pub last-at : {w p : ℕ} → w < 2 ^ 64 → Last w p → last w ≡ p
+last-at {w} {p} h f = last-unique (last-is w (some-pos w p (f .one)) h) f

@@ -1,0 +1,176 @@
+-- The replies of a preparing: each refusal where it is the first that holds, and the plate where none holds.
+use lib.ListN.{getD, length, take}
+use lib.Pow.{pow-pos}
+use mathlib.Core.List.{List}
+use mathlib.Core.Logic.{inl, inr, _↔_, _⊎_}
+use mathlib.Core.Path.{refl, subst, sym, _≡_}
+use native.Mathlib.Decide.{decLt}
+use native.Mathlib.Omega.{arith}
+use Prim.Native.Nat.{_+_, _<_, _^_, zero-le, ℕ, _≤_}
+use Rattle.plates.proofs.OnePlate.{one-plate}
+use Rattle.plates.proofs.ProfilePassed.{live-tallied}
+use Rattle.plates.proofs.ReducedIsPlate.{plate-of}
+use Rattle.plates.proofs.TableFilled.{sums-used}
+use Rattle.plates.specs.Code.{InCode}
+use Rattle.plates.specs.declared.Kind.{Kind}
+use Rattle.plates.specs.declared.Prepared.{Prepared}
+use Rattle.plates.specs.declared.Refusal.{Refusal}
+use Rattle.plates.specs.declared.Refusal.the-variants.{Length, RowBeyond, TooManyRows, TooWide}
+use Rattle.plates.specs.declared.Verdict.the-variants.{Accepted}
+use Rattle.plates.specs.Filling.{Filled}
+use Rattle.plates.specs.Heads.{RowsOf}
+use Rattle.plates.specs.Prepare.{Prepares, RowOver, Wide, badLength, prepareConditions}
+use Rattle.plates.specs.Profile.{liveAt}
+use Rattle.plates.specs.Profiling.{Marks, Tallied}
+use Rattle.plates.specs.Reducing.{ReducedFrom}
+use Rattle.plates.specs.Refusals.{Refuses}
+use Rattle.plates.specs.Replying.{refusedWith}
+use Rattle.plates.specs.Working.{Beyond, FirstWhere, OverTwelve, SameSums, Tells}
+use Rattle.words.proofs.Span.{zero-one}
+use Rattle.words.proofs.Word.{below-bits, bits-below}
+use Rattle.words.specs.Ends.{LastOne, firsts, lasts}
+use Rattle.words.specs.Sum.{IsSum}
+
+-- ---- what `last_one` tells of a row
+
+reaches-not : {w n : ℕ} → (Beyond n w → ⊥) → Tells (Beyond n w) 0
+reaches-not h = record { digit = inl refl; yes-is = λ z. absurd (omega arith); no-is = λ z. h }
+
+pub zero-short : {w n : ℕ} → w ≡ 0 → Tells (Beyond n w) 0
+zero-short {w} {n} e = reaches-not (λ b. omega (arith, pow-pos n, b .over))
+
+pub last-short : {w n r : ℕ} → (w ≡ 0 → ⊥) → LastOne w r → r < n → Tells (Beyond n w) 0
+last-short {w} {n} {r} d f h =
+    let p : 0 < w = omega arith in
+    let s : w < 2 ^ n = below-bits n w (λ i l. f .some p .zeros i (omega arith)) in
+    reaches-not (λ b. omega (arith, b .over))
+
+pub last-beyond : {w n r : ℕ} → (w ≡ 0 → ⊥) → LastOne w r → n ≤ r → Tells (Beyond n w) 1
+last-beyond {w} {n} {r} d f h = record { digit = inr refl; yes-is = λ z. go (decLt w (2 ^ n)); no-is = λ z. absurd (omega arith) }
+  where
+    go : Dec (w < 2 ^ n) → Beyond n w
+    go (no b) = record { over = omega arith }
+    go (yes b) = absurd (zero-one (bits-below n w b r h) (f .some (omega arith) .one))
+
+-- a row that does not reach beyond is of length n
+not-beyond : {w n : ℕ} → (Beyond n w → ⊥) → w < 2 ^ n
+not-beyond {w} {n} d = go (decLt w (2 ^ n))
+  where
+    go : Dec (w < 2 ^ n) → w < 2 ^ n
+    go (yes b) = b
+    go (no b) = absurd (d (record { over = omega arith }))
+
+pub none-beyond : {n r : ℕ} {rows : List ℕ} → FirstWhere rows (Beyond n) 0 (length rows) r → length rows ≤ r → (j : ℕ) → j < length rows → getD rows j 0 < 2 ^ n
+none-beyond f h j l = not-beyond (f .none j zero-le (omega arith))
+
+-- ---- refusals 1 to 3
+
+refuse : {n : ℕ} {kind : Kind} {rows : List ℕ} {r : Prepared} {q : Refusal} → Refuses (prepareConditions n kind rows) q → r ≡ refusedWith q → Prepares n kind rows r
+refuse {n} {kind} {rows} h e = subst (Prepares n kind rows) (sym e) (record { reply = (h, refl) })
+
+pub refuse-length : {n : ℕ} {kind : Kind} {rows : List ℕ} {r : Prepared} → (n ≡ 0) ⊎ (64 < n) → r ≡ refusedWith Length → Prepares n kind rows r
+refuse-length bad = refuse (inl (bad, refl))
+
+good-length : {n : ℕ} → 0 < n → n ≤ 64 → (p : Refusal) → badLength n p → ⊥
+good-length {n} some short p c = go (c .0)
+  where
+    go : (n ≡ 0) ⊎ (64 < n) → ⊥
+    go (inl e) = omega arith
+    go (inr h) = omega arith
+
+pub refuse-rows : {n : ℕ} {kind : Kind} {rows : List ℕ} {r : Prepared} → 0 < n → n ≤ 64 → 64 < length rows → r ≡ refusedWith TooManyRows → Prepares n kind rows r
+refuse-rows some short many = refuse (inr (good-length some short, inl (many, refl)))
+
+pub refuse-beyond : {n i : ℕ} {kind : Kind} {rows : List ℕ} {r : Prepared} → 0 < n → n ≤ 64 → length rows ≤ 64 → FirstWhere rows (Beyond n) 0 (length rows) i
+    → i < length rows → r ≡ refusedWith (RowBeyond i) → Prepares n kind rows r
+refuse-beyond {n} {i} some short few f h =
+    refuse (inr (
+      good-length some short,
+      inr (
+        (λ p c. omega (arith, c .0)),
+        inl (record {
+          row = i;
+          there = h;
+          over = f .here h .over;
+          first = λ j l. not-beyond (f .none j zero-le l);
+          is = refl;
+        }),
+      ),
+    ))
+
+-- ---- refusal 4, and the plate
+
+-- one code said in two ways has one plate
+rows-same : {C D : ℕ → Type 0} {rows : List ℕ} {f l : ℕ → ℕ} → ((w : ℕ) → C w ↔ D w) → RowsOf C rows f l → RowsOf D rows f l
+rows-same s p = record {
+  row = λ j k. (let r = p .row j k in record {
+    codeword = s _ .0 (r .codeword);
+    begins = r .begins;
+    ends = r .ends;
+    soonest = λ w q c. r .soonest w q (s w .1 c);
+    earliest = λ w c. r .earliest w (s w .1 c);
+  });
+  order = p .order;
+  heads = λ w q c. p .heads w q (s w .1 c);
+}
+
+-- what the steps have left for a matrix that refusals 1 to 3 do not meet
+module _ {n used k heads ends : ℕ} {kind : Kind} {rows t u p : List ℕ} (some : 0 < n) (few : length rows ≤ 64) (small : (j : ℕ) → j < length rows → getD rows j 0 < 2 ^ n)
+    (f : Filled n kind rows t used) (s : ReducedFrom t u n k) (mh : Marks (firsts u) k heads) (me : Marks (lasts u) k ends) (q : Tallied heads ends n p) where
+  code : (w : ℕ) → IsSum (take k u) w ↔ InCode kind n rows w
+  code w = ((λ g. f .code w .0 (s .same .from w (used-rows .to w g))), λ c. used-rows .from w (s .same .to w (f .code w .1 c)))
+    where
+      used-rows : SameSums (take k u) u
+      used-rows = sums-used u k (omega (arith, s .rows .table .size, s .rows .table .few)) (s .rows .table .unused)
+
+  the-rows : RowsOf (InCode kind n rows) (take k u) (firsts (take k u)) (lasts (take k u))
+  the-rows = rows-same code (plate-of (take k u) (firsts (take k u)) (lasts (take k u)) (s .rows .reduced))
+
+  the-profile : (d : ℕ) → d ≤ n → getD p d 0 ≡ liveAt (take k u) d
+  the-profile = live-tallied (s .rows) mh me q
+
+  good-rows : (c : Refusal) → RowOver n rows c → ⊥
+  good-rows c o = omega (arith, o .over, small (o .row) (o .there))
+
+  pub refuse-wide : {d : ℕ} {r : Prepared} → FirstWhere p OverTwelve 0 (n + 1) d → d ≤ n → r ≡ refusedWith TooWide → Prepares n kind rows r
+  refuse-wide {d} w h =
+      refuse (inr (
+        good-length some (s .rows .table .short),
+        inr (
+          (λ c o. omega (arith, o .0)),
+          inr (
+            good-rows,
+            inl (record {
+              rows = take k u;
+              plate = the-rows;
+              depth = d;
+              within = h;
+              over = subst (λ (x : ℕ). 12 < x) (the-profile d h) (w .here (omega arith));
+              is = refl;
+            }),
+          ),
+        ),
+      ))
+
+  pub accept : {d : ℕ} → FirstWhere p OverTwelve 0 (n + 1) d → n < d → Prepares n kind rows (record { verdict = Accepted; plate = record { n = n; k = k; rows = u; profile = p } })
+  accept {d} w h = record {
+    reply = (
+      (good-length some (s .rows .table .short), ((λ c o. omega (arith, o .0)), (good-rows, (narrow, tt)))),
+      record {
+        length-n = refl;
+        few = s .rows .table .few;
+        table = s .rows .table .size;
+        rows = the-rows;
+        unused-rows = s .rows .table .unused;
+        entries = q .entries;
+        profile = the-profile;
+        unused-entries = q .unused;
+      },
+    );
+  }
+    where
+      narrow : (c : Refusal) → Wide (InCode kind n rows) n c → ⊥
+      narrow c o =
+          let e : o .rows ≡ take k u = one-plate (InCode kind n rows) (o .rows) (take k u) (firsts (o .rows)) (lasts (o .rows)) (firsts (take k u)) (lasts (take k u)) (o .plate) the-rows in
+          w .none (o .depth) zero-le (omega (arith, o .within))
+          (subst (λ (x : ℕ). 12 < x) (sym (the-profile (o .depth) (o .within))) (subst (λ (x : List ℕ). 12 < liveAt x (o .depth)) e (o .over)))

@@ -1,0 +1,56 @@
+-- `plates::prepare` meets its contract: the refusals in order, and the plate.
+use borrow.Author.Needs.{needs}
+use mathlib.Core.Logic.{inl, inr}
+use native.Mathlib.Omega.{arith}
+use Rattle.plates.proofs.Replies.{none-beyond, refuse-beyond, refuse-length, refuse-rows}
+use Rattle.plates.proofs.prepare.Statement.{statement}
+use Rattle.plates.proofs.prepare.Tie as tie
+
+refused-requires : tie.Need-refused-requires
+refused-requires c κs = search needs
+
+returns : tie.Need-returns
+returns c = refuse-length (inl (c .before .if1 .taken)) (c .refused .ensures)
+
+refused-requires-2 : tie.Need-refused-requires-2
+refused-requires-2 c κs = search needs
+
+returns-2 : tie.Need-returns-2
+returns-2 c = refuse-length (inr (c .before .if2 .taken)) (c .refused2 .ensures)
+
+refused-requires-3 : tie.Need-refused-requires-3
+refused-requires-3 c κs = search needs
+
+returns-3 : tie.Need-returns-3
+returns-3 c = refuse-rows (omega arith) (omega arith) (c .before .if3 .taken) (c .refused3 .ensures)
+
+first-beyond-requires : tie.Need-first-beyond-requires
+first-beyond-requires c κs = search needs
+
+refused-requires-4 : tie.Need-refused-requires-4
+refused-requires-4 c κs = search needs
+
+returns-4 : tie.Need-returns-4
+returns-4 c = refuse-beyond (omega arith) (omega arith) (omega arith) (c .before .before .first-beyond .ensures) (c .before .if4 .taken) (c .refused4 .ensures)
+
+worked-out-requires : tie.Need-worked-out-requires
+worked-out-requires c κs = (omega arith, (omega arith, (omega arith, none-beyond (c .before .first-beyond .ensures) (c .if4 .left))))
+
+returns-5 : tie.Need-returns-5
+returns-5 c = search needs
+
+pub prepare-spec : {M : Type 1} → statement M
+prepare-spec =
+    tie.close
+    (tie.spec
+    refused-requires
+    returns
+    refused-requires-2
+    returns-2
+    refused-requires-3
+    returns-3
+    first-beyond-requires
+    refused-requires-4
+    returns-4
+    worked-out-requires
+    returns-5)
