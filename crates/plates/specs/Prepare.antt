@@ -12,6 +12,7 @@ use Rattle.plates.specs.declared.Plate.{Plate}
 use Rattle.plates.specs.declared.Prepared.{Prepared}
 use Rattle.plates.specs.declared.Refusal.{Refusal}
 use Rattle.plates.specs.declared.Refusal.the-variants.{Length, TooManyRows, RowBeyond, TooWide, NotPrepared}
+use Rattle.plates.specs.declared.Verdict.{Verdict}
 use Rattle.plates.specs.declared.Verdict.the-variants.{Accepted, Refused}
 use Rattle.plates.specs.Code.{InCode}
 use Rattle.plates.specs.Heads.{RowsOf}
@@ -68,10 +69,14 @@ pub record PlateOf (C : ℕ → Type 0) (n : ℕ) (plate : Plate) : Type 0 where
 abbrev pub zeroPlate : Plate
 zeroPlate = record { n = 0; k = 0; rows = replicate 64 0; profile = replicate 65 0 }
 
--- What preparing replies: the first refusal in order, with the zero plate beside it, or the plate of the matrix's code
+-- What preparing may reply: refused, with the first refusal in order and the zero plate beside it; or accepted, where no condition
+-- holds, with the plate of the code
+abbrev pub PreparesAs : List (Refusal → Type 0) → (ℕ → Type 0) → ℕ → Plate → Verdict → Type 0
+PreparesAs conditions C n plate (Refused q) = Refuses conditions q × (plate ≡ zeroPlate)
+PreparesAs conditions C n plate Accepted = Passes conditions × PlateOf C n plate
+
 pub record Prepares (n : ℕ) (kind : Kind) (rows : List ℕ) (r : Prepared) : Type 0 where
-  pub refused : (q : Refusal) → Refuses (prepareConditions n kind rows) q → r ≡ record { verdict = Refused q; plate = zeroPlate }
-  pub accepted : Passes (prepareConditions n kind rows) → (r .verdict ≡ Accepted) × PlateOf (InCode kind n rows) n (r .plate)
+  pub reply : PreparesAs (prepareConditions n kind rows) (InCode kind n rows) n (r .plate) (r .verdict)
 
 -- ---- refusal 5
 
