@@ -3,3 +3,7 @@ pub mod Parts
 pub mod Spelling
 pub mod Digits
 pub mod Characters
+pub mod Laying
+pub mod Sampling
+pub mod BlockLines
+pub mod BlockPlaces

@@ -2,7 +2,7 @@
 use Prim.Native.Nat.{ℕ, zero, suc, _+_, _-_, _≤_, _<_}
 use borrow.Author.Tests.{le-leb, lt-leb}
 use lib.Dec.{eqb, leb·suc-suc, leb·zero}
-use lib.ListN.{length, take, drop}
+use lib.ListN.{length, take, drop, length-take, length-drop}
 use mathlib.Core.Bool.{Bool, true, false, cond}
 use mathlib.Core.List.{List, [], _∷_}
 use mathlib.Core.Path.{_≡_, refl, sym, _∙_, ap}
@@ -48,9 +48,19 @@ module _ (b : ℕ) (s : List ℕ) (at r : ℕ) (h : at ≤ length s) (u : Until 
       let g : at + (t + 1) ≡ r + 1 = omega arith in
       rw (le-leb at (length s) h, parts-first b (drop at s), from-drop b at s (t + 1) h, g, e)
 
+  -- how long it is
+  pub part-length : length (take (r - at) (drop at s)) ≡ r - at
+  part-length = rw (length-take, length-drop) (omega arith)
+
   -- the last part
   pub from-last : r ≡ length s → partsFrom b s at ≡ take (r - at) (drop at s) ∷ []
   from-last e = from-more ∙ ap (λ (t : List (List ℕ)). take (r - at) (drop at s) ∷ t) (from-none b s (r + 1) (omega arith))
+
+-- the first part from the start, as the code has it
+pub parts-front : (b : ℕ) (s : List ℕ) (r : ℕ) → Until b s 0 r → parts b s ≡ take r s ∷ partsFrom b s (r + 1)
+parts-front b s r u =
+    let e : till b s ≡ r = sym (u .is ∙ zero-add (till b s)) in
+    rw e at (parts-first b s)
 
 -- there is a part at each place up to the end
 pub from-some : (b : ℕ) (s : List ℕ) (at : ℕ) → at ≤ length s

@@ -2,3 +2,5 @@ pub mod Text
 pub mod Numbers
 pub mod Words
 pub mod Rows
+pub mod Room
+pub mod Blocks

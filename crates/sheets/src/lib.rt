@@ -1,11 +1,34 @@
 // The sheet: its grammar as definitions, and its reader.
+ghost use Rattle.sheets.specs.Blocks.{ReadsBlock};
+use block::block_at;
+use block::read_block_line;
 mod scan;
 mod number;
 mod word;
 mod row;
+mod block;
 
 // Which character of a row is position 0: with first the leftmost, with last the rightmost.
 pub enum Order {
     First,
     Last,
+}
+
+// A block line's number of samples and where the next line begins, or that no block line begins at that place.
+pub enum BlockReply {
+    Read { samples: usize, next: usize },
+    NoBlock,
+}
+
+// Reads the block line that begins at a place: its samples go into the room, as far as that reaches, and are counted in any case.
+pub fn read_block(input: &[u8], at: usize, room: &mut [i16; 64]) -> BlockReply
+    ensures { λ r. ⌜ ReadsBlock (now (input .entry)) at (now (room .entry)) r (now (room .exit)) ⌝ }
+{
+    let reply = block_at(input, at);
+    let BlockReply::Read { samples, next } = reply else {
+        return BlockReply::NoBlock;
+    };
+    let end = next - 1;
+    read_block_line(&input[at..end], room);
+    BlockReply::Read { samples, next }
 }
