@@ -9,7 +9,7 @@ use native.Mathlib.Omega.{arith}
 use Rattle.sheets.specs.Text.{lineFeed, fields, linesFrom, Until}
 use Rattle.sheets.specs.Numbers.{sampleOf}
 use Rattle.sheets.specs.Words.{wordOf}
-use Rattle.sheets.specs.Blocks.{isSample, samplesOf, valuesOf, blockBy, blockLine, samplesFound, noBlock, blockFront, blockAt, nextLine, blockReply, roomAfter, SamplesRead, Ended, BlockRead}
+use Rattle.sheets.specs.Blocks.{isSample, samplesOf, valuesOf, blockBy, blockLine, BlockFound, block, noBlock, samplesFound, blockFront, blockAt, nextLine, blockReply, roomAfter, SamplesRead, Ended, BlockRead}
 use Rattle.sheets.specs.declared.word.Word.{Word}
 use Rattle.sheets.specs.declared.word.Word.the-variants.{Cover, Row, Block, End, Other}
 use Rattle.sheets.specs.declared.block.Samples.{Samples}
@@ -50,6 +50,11 @@ no-reply q = let z : _≡_ {A = ℕ} 0 1 = cc in absurd (omega arith)
 -- no block line is there
 none-read : (s : List ℕ) (at : ℕ) → blockAt s at ≡ noBlock → BlockRead s at NoBlock
 none-read s at e = record { reply = rw e; place = λ k next q. no-reply q }
+
+-- then the room stays as it was
+pub room-stays : (b : BlockFound) (next : ℕ) (room : List ℤ) → NoBlock ≡ blockReply next b → room ≡ roomAfter room b
+room-stays (block vs) next room q = no-reply q
+room-stays noBlock next room q = refl
 
 -- past the end there is no line
 pub past-end : (s : List ℕ) (at : ℕ) → length s < at → BlockRead s at NoBlock
