@@ -66,3 +66,17 @@ parts-front b s r u =
 pub from-some : (b : ℕ) (s : List ℕ) (at : ℕ) → at ≤ length s
     → partsFrom b s at ≡ take (till b (drop at s)) (drop at s) ∷ partsFrom b (drop at s) (till b (drop at s) + 1)
 from-some b s at h = rw (le-leb at (length s) h) (parts-first b (drop at s))
+
+module _ (b : ℕ) (s : List ℕ) (a : ℕ) (h : a ≤ length s) where
+  -- after a part that ends at a there is none where that is the end of the text
+  pub after-last : a ≡ length s → partsFrom b s (a + 1) ≡ []
+  after-last e = from-none b s (a + 1) (omega arith)
+
+  -- and one more where it is not
+  pub after-more : (a ≡ length s → ⊥) → (r : ℕ) → Until b s (a + 1) r
+      → partsFrom b s (a + 1) ≡ take (r - (a + 1)) (drop (a + 1) s) ∷ partsFrom b s (r + 1)
+  after-more n r u = from-more b s (a + 1) r (omega (arith, n)) u
+
+  pub after-some : (a ≡ length s → ⊥)
+      → partsFrom b s (a + 1) ≡ take (till b (drop (a + 1) s)) (drop (a + 1) s) ∷ partsFrom b (drop (a + 1) s) (till b (drop (a + 1) s) + 1)
+  after-some n = from-some b s (a + 1) (omega (arith, n))

@@ -4,3 +4,5 @@ pub mod Words
 pub mod Rows
 pub mod Room
 pub mod Blocks
+pub mod Covers
+pub mod Lines

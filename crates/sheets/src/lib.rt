@@ -7,6 +7,8 @@ mod number;
 mod word;
 mod row;
 mod block;
+mod line;
+mod cover;
 
 // Which character of a row is position 0: with first the leftmost, with last the rightmost.
 pub enum Order {
