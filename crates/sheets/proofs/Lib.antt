@@ -7,3 +7,8 @@ pub mod Laying
 pub mod Sampling
 pub mod BlockLines
 pub mod BlockPlaces
+pub mod Passing
+pub mod RowLines
+pub mod BlockRuns
+pub mod Endings
+pub mod Heads

@@ -6,3 +6,4 @@ pub mod Room
 pub mod Blocks
 pub mod Covers
 pub mod Lines
+pub mod Sheet

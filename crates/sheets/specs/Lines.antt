@@ -1,7 +1,8 @@
 -- A line after the cover, by its fields: the first decides among the four words.
 -- A fault names the field, from 1; of several in one line it is the first in the order Missing, Turn, Count, Value, Row.
 use Prim.Native.Nat.{ℕ}
-use mathlib.Core.Bool.{Bool, cond}
+use lib.ListN.{drop}
+use mathlib.Core.Bool.{Bool, false, cond}
 use mathlib.Core.List.{List, [], _∷_}
 use Rattle.sheets.specs.Text.{fields}
 use Rattle.sheets.specs.Words.{wordOf}
@@ -17,6 +18,8 @@ use Rattle.sheets.specs.declared.block.Samples.the-variants as S
 use Rattle.sheets.specs.declared.line.Fault.the-variants as F
 use Rattle.sheets.specs.declared.line.Line.{Line}
 use Rattle.sheets.specs.declared.line.Line.the-variants as L
+use Rattle.sheets.specs.declared.body.Ending.{Ending}
+use Rattle.sheets.specs.declared.body.Ending.the-variants.{Fine, NoEnd, After}
 
 abbrev pub rowIs : Row → Line
 rowIs (R.Is w) = L.Row w
@@ -59,3 +62,31 @@ abbrev pub front : ℕ → Order → Bool → List (List ℕ) → Line
 front n order late [] = L.Bad F.Missing
 front n order late (l ∷ []) = L.Bad F.Missing
 front n order late (l ∷ m ∷ ls) = lineOf n order late (fields l)
+
+abbrev pub rowThen : Line → List ℕ → List ℕ
+rowThen (L.Row w) ws = w ∷ ws
+rowThen L.Block ws = []
+rowThen L.End ws = []
+rowThen (L.Bad f) ws = []
+
+-- the words of the row lines at the front of some lines
+abbrev pub rowsOf : ℕ → Order → List (List ℕ) → List ℕ
+rowsOf n order [] = []
+rowsOf n order (l ∷ ls) = rowThen (front n order false (l ∷ ls)) (rowsOf n order ls)
+
+-- after end: nothing, so that what follows the last line feed is empty
+abbrev pub afterEnd : List (List ℕ) → Ending
+afterEnd [] = After F.Missing
+afterEnd ([] ∷ []) = Fine
+afterEnd ((x ∷ xs) ∷ []) = After F.Missing
+afterEnd (l ∷ m ∷ ls) = After F.Turn
+
+abbrev pub endBy : Line → List (List ℕ) → Ending
+endBy (L.Row w) ls = NoEnd F.Turn
+endBy L.Block ls = NoEnd F.Turn
+endBy L.End ls = afterEnd ls
+endBy (L.Bad f) ls = NoEnd f
+
+-- how lines end that are to be end and nothing after
+abbrev pub endingOf : ℕ → Order → Bool → List (List ℕ) → Ending
+endingOf n order late ls = endBy (front n order late ls) (drop 1 ls)

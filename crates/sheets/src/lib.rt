@@ -2,6 +2,8 @@
 ghost use Rattle.sheets.specs.Blocks.{ReadsBlock};
 use block::block_at;
 use block::read_block_line;
+use plates::Kind;
+use plates::Refusal;
 mod scan;
 mod number;
 mod word;
@@ -9,11 +11,30 @@ mod row;
 mod block;
 mod line;
 mod cover;
+mod head;
+mod body;
 
 // Which character of a row is position 0: with first the leftmost, with last the rightmost.
 pub enum Order {
     First,
     Last,
+}
+
+// What a sheet that is not refused says: its cover, the number of its rows, where the line after them begins (its first block line, or
+// end where it has none), and the number of its block lines.
+pub struct Sheet {
+    pub n: usize,
+    pub kind: Kind,
+    pub order: Order,
+    pub rows: usize,
+    pub start: usize,
+    pub blocks: usize,
+}
+
+// A sheet, or why the input is refused.
+pub enum SheetReply {
+    Read(Sheet),
+    Refused(Refusal),
 }
 
 // A block line's number of samples and where the next line begins, or that no block line begins at that place.
