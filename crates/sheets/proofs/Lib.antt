@@ -12,3 +12,5 @@ pub mod RowLines
 pub mod BlockRuns
 pub mod Endings
 pub mod Heads
+pub mod Bodies
+pub mod Wholes

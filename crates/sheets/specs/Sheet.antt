@@ -109,6 +109,9 @@ firstRefusal [] = J.Accepted
 firstRefusal (J.Accepted ∷ vs) = firstRefusal vs
 firstRefusal (J.Refused q ∷ vs) = J.Refused q
 
+unfoldable pub verdict : List ℕ → Verdict
+verdict s = firstRefusal (refusalsOf s (coverFront (lines s)) (contents s) (drop 1 (lines s)))
+
 -- ---- the reading of a sheet
 
 pub data Reading : Type 0 where
@@ -120,8 +123,8 @@ readingBy J.Accepted c = says c
 readingBy (J.Refused q) c = refused q
 
 -- what a sheet says, or the refusal of the input
-unfoldable pub reading : List ℕ → Reading
-reading s = readingBy (firstRefusal (refusalsOf s (coverFront (lines s)) (contents s) (drop 1 (lines s)))) (contents s)
+abbrev pub reading : List ℕ → Reading
+reading s = readingBy (verdict s) (contents s)
 
 -- ---- the reply
 
@@ -167,14 +170,27 @@ pub record RowsRead (rows : List ℕ) (s : List ℕ) (from : ℕ) (table : List 
   pub passed : Passed rows s from r
   pub stored : table′ ≡ laid rows table
 
--- the reply where the cover is read and in its range, the lines after it being ls, the first at `from`
-abbrev pub bodyReply : Verdict → Sheet → SheetReply
-bodyReply J.Accepted sheet = Read sheet
-bodyReply (J.Refused q) sheet = Refused q
+-- the reply by the verdict, a sheet being read
+abbrev pub replyBy : Verdict → Sheet → SheetReply
+replyBy J.Accepted sheet = Read sheet
+replyBy (J.Refused q) sheet = Refused q
 
+-- the reply by how the lines end after the rows and blocks
+abbrev pub closed : Sheet → Ending → SheetReply
+closed sheet ending = replyBy (firstRefusal (lineVerdict (sheet .rows + sheet .blocks + 2) ending ∷ rowsTooMany (sheet .rows) ∷ [])) sheet
+
+-- the reply by the lines after the cover, which begin at `from`
 abbrev pub bodyOf : ℕ → Contents → List (List ℕ) → SheetReply
-bodyOf from c ls =
-    bodyReply (firstRefusal (lineBad c ls ∷ rowsTooMany (length (c .rows)) ∷ [])) (sheetAt (from + begins ls (length (c .rows))) c)
+bodyOf from c ls = closed (sheetAt (from + begins ls (length (c .rows))) c) (endingAfter c ls)
+
+abbrev pub tableBy : SheetReply → List ℕ → List ℕ → List ℕ
+tableBy (Read sheet) rows table = laid rows table
+tableBy (Refused q) rows table = table
+
+-- r is that reply, and the rows are laid into the table where it is a sheet
+pub record BodyRead (from : ℕ) (c : Contents) (ls : List (List ℕ)) (table : List ℕ) (r : SheetReply) (table′ : List ℕ) : Type 0 where
+  pub reply : r ≡ bodyOf from c ls
+  pub kept : table′ ≡ tableBy r (c .rows) table
 
 -- the cover is read and in its range, and the next line begins at `next`
 pub record HeadIs (s : List ℕ) (cover : Cover) (next : ℕ) : Type 0 where

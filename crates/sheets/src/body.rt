@@ -1,11 +1,11 @@
 // The lines after the cover: rows, blocks, end.
-ghost use Prim.Native.Nat.{_≤_};
+ghost use Prim.Native.Nat.{_+_, _≤_};
 ghost use lib.ListN.{length, set};
 ghost use mathlib.Core.Path.{_≡_};
 ghost use Rattle.sheets.specs.Text.{linesFrom};
 ghost use Rattle.sheets.specs.Blocks.{blocksOf};
 ghost use Rattle.sheets.specs.Lines.{rowsOf, afterEnd, endingOf};
-ghost use Rattle.sheets.specs.Sheet.{contentsOf, bodyOf, Passed, RowsRead};
+ghost use Rattle.sheets.specs.Sheet.{contentsOf, closed, bodyOf, Passed, RowsRead, BodyRead};
 use crate::block::block_at;
 use crate::cover::Cover;
 use crate::line::line_between;
@@ -122,5 +122,71 @@ fn read_end(input: &[u8], at: usize, n: usize, order: Order, late: bool) -> Endi
         Line::Bad(fault) => Ending::NoEnd(fault),
         Line::Row(_) => Ending::NoEnd(Fault::Turn),
         Line::Block => Ending::NoEnd(Fault::Turn),
+    }
+}
+
+// A sheet by how its lines end: refused at the first bad line, or for too many rows.
+fn close(sheet: Sheet, ending: Ending) -> SheetReply
+    requires { ⌜ sheet .rows + sheet .blocks ≤ 32768 ⌝ }
+    ensures { λ r. ⌜ r ≡ closed sheet ending ⌝ }
+{
+    let rows = sheet.rows;
+    let line = rows + sheet.blocks + 2;
+    match ending {
+        Ending::NoEnd(_) => SheetReply::Refused(Refusal::SheetLine(line)),
+        Ending::After(_) => SheetReply::Refused(Refusal::SheetLine(line + 1)),
+        Ending::Fine => {
+            if 64 < rows {
+                return SheetReply::Refused(Refusal::TooManyRows);
+            }
+            SheetReply::Read(sheet)
+        }
+    }
+}
+
+// The lines after the cover, which begin at `from`, without the words of the rows.
+fn check_body(input: &[u8], from: usize, cover: Cover) -> SheetReply
+    requires { ⌜ from ≤ length (now input) ⌝ }
+    requires { ⌜ length (now input) ≤ 32768 ⌝ }
+    requires { ⌜ cover .n ≤ 64 ⌝ }
+    ensures { λ r. ⌜ r ≡ bodyOf from (contentsOf cover (linesFrom (now (input .entry)) from)) (linesFrom (now (input .entry)) from) ⌝ }
+{
+    let n = cover.n;
+    let kind = cover.kind;
+    let order = cover.order;
+    let mut scratch = [0u64; 1];
+    let rows = read_rows(input, from, n, order, &mut scratch);
+    let start = rows.next;
+    let blocks = read_blocks(input, start);
+    let end = blocks.next;
+    let late = 0 < blocks.count;
+    let ending = read_end(input, end, n, order, late);
+    let sheet = Sheet {
+        n,
+        kind,
+        order,
+        rows: rows.count,
+        start,
+        blocks: blocks.count,
+    };
+    close(sheet, ending)
+}
+
+// The lines after the cover. The words of the rows go into the table only where nothing is refused.
+pub fn read_body(input: &[u8], from: usize, cover: Cover, table: &mut [u64]) -> SheetReply
+    requires { ⌜ from ≤ length (now input) ⌝ }
+    requires { ⌜ length (now input) ≤ 32768 ⌝ }
+    requires { ⌜ cover .n ≤ 64 ⌝ }
+    ensures { λ r. ⌜ BodyRead from (contentsOf cover (linesFrom (now (input .entry)) from)) (linesFrom (now (input .entry)) from) (now (table .entry)) r (now (table .exit)) ⌝ }
+{
+    let n = cover.n;
+    let order = cover.order;
+    let reply = check_body(input, from, cover);
+    match reply {
+        SheetReply::Read(sheet) => {
+            read_rows(input, from, n, order, table);
+            SheetReply::Read(sheet)
+        }
+        SheetReply::Refused(refusal) => SheetReply::Refused(refusal),
     }
 }

@@ -1,7 +1,11 @@
 // The sheet: its grammar as definitions, and its reader.
 ghost use Rattle.sheets.specs.Blocks.{ReadsBlock};
+ghost use Rattle.sheets.specs.Sheet.{ReadsSheet};
 use block::block_at;
 use block::read_block_line;
+use body::read_body;
+use head::read_head;
+use head::Head;
 use plates::Kind;
 use plates::Refusal;
 mod scan;
@@ -41,6 +45,20 @@ pub enum SheetReply {
 pub enum BlockReply {
     Read { samples: usize, next: usize },
     NoBlock,
+}
+
+// Reads a whole sheet. The words of its rows go into the table; where the input is refused the table stays as it was.
+pub fn read_sheet(input: &[u8], table: &mut [u64; 64]) -> SheetReply
+    ensures { λ r. ⌜ ReadsSheet (now (input .entry)) (now (table .entry)) r (now (table .exit)) ⌝ }
+{
+    if 32768 < input.len() {
+        return SheetReply::Refused(Refusal::InputTooLong);
+    }
+    let head = read_head(input);
+    match head {
+        Head::Is(cover, from) => read_body(input, from, cover, table),
+        Head::Refused(refusal) => SheetReply::Refused(refusal),
+    }
 }
 
 // Reads the block line that begins at a place: its samples go into the room, as far as that reaches, and are counted in any case.
