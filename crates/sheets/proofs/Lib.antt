@@ -14,3 +14,5 @@ pub mod Endings
 pub mod Heads
 pub mod Bodies
 pub mod Wholes
+pub mod Determined
+pub mod Ranges

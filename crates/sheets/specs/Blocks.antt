@@ -1,5 +1,5 @@
 -- A block line: the word block and any number of samples, which are in order of position.
-use Prim.Native.Nat.{ℕ, _+_, _-_, _≤_, _<_}
+use Prim.Native.Nat.{ℕ, zero, suc, _+_, _-_, _≤_, _<_}
 use lib.IntN.{ℤ, pos}
 use lib.ListN.{length, drop}
 use mathlib.Core.Bool.{Bool, true, false, cond}
@@ -81,6 +81,11 @@ blockAt s at = blockFront (linesFrom s at)
 -- where the line after that begins
 abbrev pub nextLine : List ℕ → ℕ → ℕ
 nextLine s at = at + begins (linesFrom s at) 1
+
+-- where reading k block lines from a place leads
+abbrev pub blockPlace : List ℕ → ℕ → ℕ → ℕ
+blockPlace s at zero = at
+blockPlace s at (suc k) = blockPlace s (nextLine s at) k
 
 abbrev pub blockReply : ℕ → BlockFound → BlockReply
 blockReply next (block vs) = Read (length vs) next
