@@ -1,0 +1,92 @@
+-- A whole sheet by what was read of it.
+use Prim.Native.Nat.{ℕ, suc, _+_, _-_, _≤_, _<_}
+use borrow.Author.Tests.{lt-ltb, le-ltb}
+use lib.ListN.{length, take, drop}
+use mathlib.Core.List.{List, [], _∷_}
+use mathlib.Core.Path.{_≡_, refl, sym, _∙_, ap}
+use native.Mathlib.Omega.{arith}
+use Rattle.plates.specs.declared.Refusal.{Refusal}
+use Rattle.plates.specs.declared.Refusal.the-variants.{InputTooLong}
+use Rattle.plates.specs.declared.Verdict.{Verdict}
+use Rattle.plates.specs.declared.Verdict.the-variants as J
+use Rattle.sheets.specs.Text.{lineFeed, lines, linesFrom, begins}
+use Rattle.sheets.specs.Room.{laid}
+use Rattle.sheets.specs.Sheet.{Contents, coverFront, coverIn, contentsOf, contents, coverBad, lengthBad, lineBad, rowsTooMany, firstRefusal, verdict, readingBy, reading, sheetAt, startOf, sheetReply, tableAfter, ReadsSheet, replyBy, bodyOf, tableBy, BodyRead, HeadIs}
+use Rattle.sheets.specs.declared.Sheet.{Sheet}
+use Rattle.sheets.specs.declared.SheetReply.{SheetReply}
+use Rattle.sheets.specs.declared.SheetReply.the-variants.{Read, Refused}
+use Rattle.sheets.specs.declared.cover.Cover.{Cover}
+use Rattle.sheets.proofs.Parts.{from-start}
+use Rattle.sheets.proofs.Passing.{line-split, line-length}
+
+-- ---- the reply and the table by the verdict
+
+reply-by : (s : List ℕ) (v : Verdict) (c : Contents) → sheetReply s (readingBy v c) ≡ replyBy v (sheetAt (startOf s c) c)
+reply-by s J.Accepted c = refl
+reply-by s (J.Refused q) c = refl
+
+table-by : (table : List ℕ) (v : Verdict) (c : Contents) (sheet : Sheet) → tableAfter table (readingBy v c) ≡ tableBy (replyBy v sheet) (c .rows) table
+table-by table J.Accepted c sheet = refl
+table-by table (J.Refused q) c sheet = refl
+
+-- a refusal leaves the table as it was
+refused-reads : (s table : List ℕ) (q : Refusal) → verdict s ≡ J.Refused q → ReadsSheet s table (Refused q) table
+refused-reads s table q e = record { reply = rw e; rows = rw e }
+
+-- further conditions do not matter after a refusal
+first-of-two : (v w : Verdict) (vs : List Verdict) (q : Refusal) → firstRefusal (v ∷ w ∷ []) ≡ J.Refused q → firstRefusal (v ∷ w ∷ vs) ≡ J.Refused q
+first-of-two J.Accepted J.Accepted vs q e = cc
+first-of-two J.Accepted (J.Refused p) vs q e = e
+first-of-two (J.Refused p) w vs q e = e
+
+-- ---- the cases of a sheet
+
+-- it is too long
+pub sheet-long : (s table : List ℕ) → 32768 < length s → ReadsSheet s table (Refused InputTooLong) table
+unfolding verdict
+sheet-long s table h = refused-reads s table InputTooLong (rw (lt-ltb 32768 (length s) h))
+
+module _ (s table : List ℕ) (h : length s ≤ 32768) where
+  -- its head is refused
+  pub sheet-head : (q : Refusal)
+      → firstRefusal (coverBad (coverFront (lines s)) ∷ lengthBad (coverIn (coverFront (lines s)) .n) ∷ []) ≡ J.Refused q
+      → ReadsSheet s table (Refused q) table
+  unfolding verdict contents
+  sheet-head q e =
+      let c = contents s in
+      let more = lineBad c (drop 1 (lines s)) ∷ rowsTooMany (length (c .rows)) ∷ [] in
+      refused-reads s table q (rw (le-ltb 32768 (length s) h) (first-of-two (coverBad (coverFront (lines s))) (lengthBad (c .n)) more q e))
+
+  module _ (cover : Cover) (from : ℕ) (i : HeadIs s cover from) where
+    -- the lines are the cover and those after it
+    split : lines s ≡ take (from - 1 - 0) (drop 0 s) ∷ linesFrom s from
+    split = sym (from-start lineFeed s) ∙ line-split (i .ended)
+
+    abbrev said : Contents
+    said = contentsOf cover (linesFrom s from)
+
+    contents-are : contents s ≡ said
+    unfolding contents
+    contents-are = rw (i .form, split)
+
+    abbrev left : Verdict
+    left = firstRefusal (lineBad said (linesFrom s from) ∷ rowsTooMany (length (said .rows)) ∷ [])
+
+    verdict-is : verdict s ≡ left
+    unfolding verdict
+    verdict-is = rw (le-ltb 32768 (length s) h, contents-are, i .form, split, i .range)
+
+    abbrev start : ℕ
+    start = from + begins (linesFrom s from) (length (said .rows))
+
+    start-is : startOf s said ≡ start
+    start-is = let n = line-length (i .ended) in rw split (omega arith)
+
+    -- its head is read, and what follows decides
+    pub sheet-body : (r : SheetReply) (table′ : List ℕ) → BodyRead from said (linesFrom s from) table r table′ → ReadsSheet s table r table′
+    sheet-body r table′ b = record {
+      reply = rw (contents-are, verdict-is) (b .reply ∙ sym (reply-by s left said ∙ ap (λ (p : ℕ). replyBy left (sheetAt p said)) start-is));
+      rows =
+        rw (contents-are, verdict-is)
+        (b .kept ∙ ap (λ (q : SheetReply). tableBy q (said .rows) table) (b .reply) ∙ sym (table-by table left said (sheetAt start said)));
+    }

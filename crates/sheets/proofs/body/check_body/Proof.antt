@@ -1,0 +1,40 @@
+-- `body::check_body` meets its contract.
+use borrow.Author.Needs.{needs}
+use mathlib.Core.Path.{_∙_}
+use Rattle.sheets.proofs.Bodies.{body-is}
+use Rattle.sheets.proofs.body.check_body.Statement.{statement}
+use Rattle.sheets.proofs.body.check_body.Tie as tie
+
+slice-aggregate-read-rows : tie.Need-slice-aggregate-read-rows
+slice-aggregate-read-rows c = search needs
+
+read-rows-requires : tie.Need-read-rows-requires
+read-rows-requires c κs = search needs
+
+read-blocks-requires : tie.Need-read-blocks-requires
+read-blocks-requires c κs = search needs
+
+read-end-requires : tie.Need-read-end-requires
+read-end-requires c κs = search needs
+
+close-requires : tie.Need-close-requires
+close-requires c κs = search needs
+
+returns : tie.Need-returns
+returns c =
+    let a = c .before .before .before .before .before .before .before .before .args in
+    let rows = c .before .before .before .before .before .read-rows in
+    let blocks = c .before .before .before .read-blocks in
+    c .close .ensures
+    ∙ body-is (a .input .now) (a .from) (a .cover) (rows .result) (blocks .result) (c .before .read-end .result) (rows .ensures .passed) (blocks .ensures) (c .before .read-end .ensures)
+
+pub check-body-spec : {M : Type 1} → statement M
+check-body-spec =
+    tie.close
+    (tie.spec
+    slice-aggregate-read-rows
+    read-rows-requires
+    read-blocks-requires
+    read-end-requires
+    close-requires
+    returns)

@@ -1,0 +1,53 @@
+-- `cover::cover_by` meets its contract.
+use borrow.Author.Needs.{needs}
+use Rattle.sheets.proofs.cover.cover_by.Statement.{statement}
+use Rattle.sheets.proofs.cover.cover_by.Tie as tie
+
+enum-told : tie.Need-enum-told
+enum-told c = search needs
+
+cover-rest-requires : tie.Need-cover-rest-requires
+cover-rest-requires c κs = search needs
+
+enum-told-2 : tie.Need-enum-told-2
+enum-told-2 c = search needs
+
+enum-told-3 : tie.Need-enum-told-3
+enum-told-3 c = search needs
+
+enum-told-4 : tie.Need-enum-told-4
+enum-told-4 c = search needs
+
+enum-told-5 : tie.Need-enum-told-5
+enum-told-5 c = search needs
+
+returns : tie.Need-returns
+returns c = rw (c .before .enum-told .given .1) (c .cover-rest .ensures)
+
+returns-2 : tie.Need-returns-2
+returns-2 c = rw (c .enum-told2 .given .1)
+
+returns-3 : tie.Need-returns-3
+returns-3 c = rw (c .enum-told3 .given .1)
+
+returns-4 : tie.Need-returns-4
+returns-4 c = rw (c .enum-told4 .given .1)
+
+returns-5 : tie.Need-returns-5
+returns-5 c = rw (c .enum-told5 .given .1)
+
+pub cover-by-spec : {M : Type 1} → statement M
+cover-by-spec =
+    tie.close
+    (tie.spec
+    enum-told
+    cover-rest-requires
+    enum-told-2
+    enum-told-3
+    enum-told-4
+    enum-told-5
+    returns
+    returns-2
+    returns-3
+    returns-4
+    returns-5)

@@ -1,0 +1,192 @@
+// The lines after the cover: rows, blocks, end.
+ghost use Prim.Native.Nat.{_+_, _≤_};
+ghost use lib.ListN.{length, set};
+ghost use mathlib.Core.Path.{_≡_};
+ghost use Rattle.sheets.specs.Text.{linesFrom};
+ghost use Rattle.sheets.specs.Blocks.{blocksOf};
+ghost use Rattle.sheets.specs.Lines.{rowsOf, afterEnd, endingOf};
+ghost use Rattle.sheets.specs.Sheet.{contentsOf, closed, bodyOf, Passed, RowsRead, BodyRead};
+use crate::block::block_at;
+use crate::cover::Cover;
+use crate::line::line_between;
+use crate::line::Fault;
+use crate::line::Line;
+use crate::scan::until;
+use crate::BlockReply;
+use crate::Order;
+use crate::Sheet;
+use crate::SheetReply;
+use plates::Refusal;
+
+// So many lines, and where the line after them begins.
+pub struct Run {
+    pub count: usize,
+    pub next: usize,
+}
+
+// How the lines end after the rows and blocks.
+pub enum Ending {
+    // With end, and nothing after.
+    Fine,
+    // The line is not end: what is wrong with it.
+    NoEnd(Fault),
+    // Something stands after end.
+    After(Fault),
+}
+
+// A row's word into its place; beyond the table it is dropped.
+fn put_row(table: &mut [u64], k: usize, word: u64)
+    ensures { λ _. ⌜ now (table .exit) ≡ set (now (table .entry)) k word ⌝ }
+{
+    if k < table.len() {
+        table[k] = word;
+    }
+}
+
+// The row lines from a place on: counted, and their words put into the table.
+pub fn read_rows(input: &[u8], from: usize, n: usize, order: Order, table: &mut [u64]) -> Run
+    requires { ⌜ from ≤ length (now input) ⌝ }
+    requires { ⌜ n ≤ 64 ⌝ }
+    ensures { λ r. ⌜ RowsRead (rowsOf n order (linesFrom (now (input .entry)) from)) (now (input .entry)) from (now (table .entry)) r (now (table .exit)) ⌝ }
+{
+    let mut at = from;
+    let mut rows: usize = 0;
+    while at < input.len() {
+        let end = until(input, at, b'\n');
+        let line = line_between(input, at, end, n, order, false);
+        let Line::Row(word) = line else {
+            return Run {
+                count: rows,
+                next: at,
+            };
+        };
+        put_row(table, rows, word);
+        rows += 1;
+        at = end + 1;
+    }
+    Run {
+        count: rows,
+        next: at,
+    }
+}
+
+// The block lines from a place on, counted.
+pub fn read_blocks(input: &[u8], from: usize) -> Run
+    requires { ⌜ from ≤ length (now input) ⌝ }
+    ensures { λ r. ⌜ Passed (blocksOf (linesFrom (now (input .entry)) from)) (now (input .entry)) from r ⌝ }
+{
+    let mut at = from;
+    let mut blocks: usize = 0;
+    while at < input.len() {
+        let reply = block_at(input, at);
+        let BlockReply::Read { samples: _, next } = reply else {
+            return Run {
+                count: blocks,
+                next: at,
+            };
+        };
+        blocks += 1;
+        at = next;
+    }
+    Run {
+        count: blocks,
+        next: at,
+    }
+}
+
+// What stands after end: nothing.
+fn after_end(input: &[u8], at: usize) -> Ending
+    requires { ⌜ at ≤ length (now input) ⌝ }
+    ensures { λ r. ⌜ r ≡ afterEnd (linesFrom (now (input .entry)) at) ⌝ }
+{
+    if at == input.len() {
+        return Ending::Fine;
+    }
+    let end = until(input, at, b'\n');
+    if end == input.len() {
+        return Ending::After(Fault::Missing);
+    }
+    Ending::After(Fault::Turn)
+}
+
+// The line at a place, which is to be end, and what stands after it.
+fn read_end(input: &[u8], at: usize, n: usize, order: Order, late: bool) -> Ending
+    requires { ⌜ at ≤ length (now input) ⌝ }
+    requires { ⌜ n ≤ 64 ⌝ }
+    ensures { λ r. ⌜ r ≡ endingOf n order late (linesFrom (now (input .entry)) at) ⌝ }
+{
+    let end = until(input, at, b'\n');
+    let line = line_between(input, at, end, n, order, late);
+    match line {
+        Line::End => after_end(input, end + 1),
+        Line::Bad(fault) => Ending::NoEnd(fault),
+        Line::Row(_) => Ending::NoEnd(Fault::Turn),
+        Line::Block => Ending::NoEnd(Fault::Turn),
+    }
+}
+
+// A sheet by how its lines end: refused at the first bad line, or for too many rows.
+fn close(sheet: Sheet, ending: Ending) -> SheetReply
+    requires { ⌜ sheet .rows + sheet .blocks ≤ 32768 ⌝ }
+    ensures { λ r. ⌜ r ≡ closed sheet ending ⌝ }
+{
+    let rows = sheet.rows;
+    let line = rows + sheet.blocks + 2;
+    match ending {
+        Ending::NoEnd(_) => SheetReply::Refused(Refusal::SheetLine(line)),
+        Ending::After(_) => SheetReply::Refused(Refusal::SheetLine(line + 1)),
+        Ending::Fine => {
+            if 64 < rows {
+                return SheetReply::Refused(Refusal::TooManyRows);
+            }
+            SheetReply::Read(sheet)
+        }
+    }
+}
+
+// The lines after the cover, which begin at `from`, without the words of the rows.
+fn check_body(input: &[u8], from: usize, cover: Cover) -> SheetReply
+    requires { ⌜ from ≤ length (now input) ⌝ }
+    requires { ⌜ length (now input) ≤ 32768 ⌝ }
+    requires { ⌜ cover .n ≤ 64 ⌝ }
+    ensures { λ r. ⌜ r ≡ bodyOf from (contentsOf cover (linesFrom (now (input .entry)) from)) (linesFrom (now (input .entry)) from) ⌝ }
+{
+    let n = cover.n;
+    let kind = cover.kind;
+    let order = cover.order;
+    let mut scratch = [0u64; 1];
+    let rows = read_rows(input, from, n, order, &mut scratch);
+    let start = rows.next;
+    let blocks = read_blocks(input, start);
+    let end = blocks.next;
+    let late = 0 < blocks.count;
+    let ending = read_end(input, end, n, order, late);
+    let sheet = Sheet {
+        n,
+        kind,
+        order,
+        rows: rows.count,
+        start,
+        blocks: blocks.count,
+    };
+    close(sheet, ending)
+}
+
+// The lines after the cover. The words of the rows go into the table only where nothing is refused.
+pub fn read_body(input: &[u8], from: usize, cover: Cover, table: &mut [u64]) -> SheetReply
+    requires { ⌜ from ≤ length (now input) ⌝ }
+    requires { ⌜ length (now input) ≤ 32768 ⌝ }
+    requires { ⌜ cover .n ≤ 64 ⌝ }
+    ensures { λ r. ⌜ BodyRead from (contentsOf cover (linesFrom (now (input .entry)) from)) (linesFrom (now (input .entry)) from) (now (table .entry)) r (now (table .exit)) ⌝ }
+{
+    let n = cover.n;
+    let order = cover.order;
+    let reply = check_body(input, from, cover);
+    match reply {
+        SheetReply::Read(sheet) => {
+            read_rows(input, from, n, order, table);
+            SheetReply::Read(sheet)
+        }
+        SheetReply::Refused(refusal) => SheetReply::Refused(refusal),
+    }
+}

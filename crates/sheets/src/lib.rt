@@ -1,0 +1,75 @@
+// The sheet: its grammar as definitions, and its reader.
+ghost use Rattle.sheets.specs.Blocks.{ReadsBlock};
+ghost use Rattle.sheets.specs.Sheet.{ReadsSheet};
+use block::block_at;
+use block::read_block_line;
+use body::read_body;
+use head::read_head;
+use head::Head;
+use plates::Kind;
+use plates::Refusal;
+mod scan;
+mod number;
+mod word;
+mod row;
+mod block;
+mod line;
+mod cover;
+mod head;
+mod body;
+
+// Which character of a row is position 0: with first the leftmost, with last the rightmost.
+pub enum Order {
+    First,
+    Last,
+}
+
+// What a sheet that is not refused says: its cover, the number of its rows, where the line after them begins (its first block line, or
+// end where it has none), and the number of its block lines.
+pub struct Sheet {
+    pub n: usize,
+    pub kind: Kind,
+    pub order: Order,
+    pub rows: usize,
+    pub start: usize,
+    pub blocks: usize,
+}
+
+// A sheet, or why the input is refused.
+pub enum SheetReply {
+    Read(Sheet),
+    Refused(Refusal),
+}
+
+// A block line's number of samples and where the next line begins, or that no block line begins at that place.
+pub enum BlockReply {
+    Read { samples: usize, next: usize },
+    NoBlock,
+}
+
+// Reads a whole sheet. The words of its rows go into the table; where the input is refused the table stays as it was.
+pub fn read_sheet(input: &[u8], table: &mut [u64; 64]) -> SheetReply
+    ensures { λ r. ⌜ ReadsSheet (now (input .entry)) (now (table .entry)) r (now (table .exit)) ⌝ }
+{
+    if 32768 < input.len() {
+        return SheetReply::Refused(Refusal::InputTooLong);
+    }
+    let head = read_head(input);
+    match head {
+        Head::Is(cover, from) => read_body(input, from, cover, table),
+        Head::Refused(refusal) => SheetReply::Refused(refusal),
+    }
+}
+
+// Reads the block line that begins at a place: its samples go into the room, as far as that reaches, and are counted in any case.
+pub fn read_block(input: &[u8], at: usize, room: &mut [i16; 64]) -> BlockReply
+    ensures { λ r. ⌜ ReadsBlock (now (input .entry)) at (now (room .entry)) r (now (room .exit)) ⌝ }
+{
+    let reply = block_at(input, at);
+    let BlockReply::Read { samples, next } = reply else {
+        return BlockReply::NoBlock;
+    };
+    let end = next - 1;
+    read_block_line(&input[at..end], room);
+    BlockReply::Read { samples, next }
+}

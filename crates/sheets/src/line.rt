@@ -1,0 +1,137 @@
+// A line after the cover.
+ghost use Prim.Native.Nat.{_+_, _≤_};
+ghost use lib.ListN.{length};
+ghost use mathlib.Core.Path.{_≡_};
+ghost use Rattle.sheets.specs.Text.{lineFeed, fields, fieldsFrom, linesFrom, Until};
+ghost use Rattle.sheets.specs.Lines.{rowIs, rowRest, blockIs, blockRest, endRest, lineBy, lineOf, front};
+use crate::block::read_samples;
+use crate::block::Samples;
+use crate::row::read_row;
+use crate::row::Row;
+use crate::scan::until;
+use crate::word::read_word;
+use crate::word::Word;
+use crate::Order;
+
+// What is wrong with a line. Fields are counted from 1.
+pub enum Fault {
+    // The line is missing, or not ended.
+    Missing,
+    // Its first field is unknown or out of its turn.
+    Turn,
+    // Too few or too many fields: the first missing or extra.
+    Count(usize),
+    // A bad number, letter or order.
+    Value(usize),
+    // A row of wrong length or character.
+    Row(usize),
+}
+
+// What a line is: a row with its word, a block, the end, or none of these.
+pub enum Line {
+    Row(u64),
+    Block,
+    End,
+    Bad(Fault),
+}
+
+// A row's word makes the line.
+fn row_is(row: Row) -> Line
+    ensures { λ r. ⌜ r ≡ rowIs row ⌝ }
+{
+    match row {
+        Row::Is(word) => Line::Row(word),
+        Row::Bad => Line::Bad(Fault::Row(2)),
+    }
+}
+
+// The fields after row, which ends at a.
+fn row_rest(line: &[u8], a: usize, n: usize, order: Order) -> Line
+    requires { ⌜ a ≤ length (now line) ⌝ }
+    requires { ⌜ n ≤ 64 ⌝ }
+    ensures { λ r. ⌜ r ≡ rowRest n order (fieldsFrom (now (line .entry)) (a + 1)) ⌝ }
+{
+    if a == line.len() {
+        return Line::Bad(Fault::Count(2));
+    }
+    let p = a + 1;
+    let b = until(line, p, b'\t');
+    if b != line.len() {
+        return Line::Bad(Fault::Count(3));
+    }
+    row_is(read_row(&line[p..b], n, order))
+}
+
+// Samples make the line.
+fn block_is(samples: Samples) -> Line
+    ensures { λ r. ⌜ r ≡ blockIs samples ⌝ }
+{
+    match samples {
+        Samples::Count(_) => Line::Block,
+        Samples::Bad(field) => Line::Bad(Fault::Value(field)),
+    }
+}
+
+// The fields after block, which ends at a.
+fn block_rest(line: &[u8], a: usize) -> Line
+    requires { ⌜ a ≤ length (now line) ⌝ }
+    ensures { λ r. ⌜ r ≡ blockRest (fieldsFrom (now (line .entry)) (a + 1)) ⌝ }
+{
+    let mut scratch = [0i16; 1];
+    let samples = read_samples(line, a + 1, &mut scratch);
+    block_is(samples)
+}
+
+// The fields after end, which ends at a.
+fn end_rest(line: &[u8], a: usize) -> Line
+    requires { ⌜ a ≤ length (now line) ⌝ }
+    ensures { λ r. ⌜ r ≡ endRest (fieldsFrom (now (line .entry)) (a + 1)) ⌝ }
+{
+    if a == line.len() {
+        return Line::End;
+    }
+    Line::Bad(Fault::Count(2))
+}
+
+// The word chooses the reader of the fields after it. `late` says that a block line has come, so that no row may.
+fn line_by(word: Word, line: &[u8], a: usize, n: usize, order: Order, late: bool) -> Line
+    requires { ⌜ a ≤ length (now line) ⌝ }
+    requires { ⌜ n ≤ 64 ⌝ }
+    ensures { λ r. ⌜ r ≡ lineBy n order late word (fieldsFrom (now (line .entry)) (a + 1)) ⌝ }
+{
+    match word {
+        Word::Cover => Line::Bad(Fault::Turn),
+        Word::Row => {
+            if late {
+                return Line::Bad(Fault::Turn);
+            }
+            row_rest(line, a, n, order)
+        }
+        Word::Block => block_rest(line, a),
+        Word::End => end_rest(line, a),
+        Word::Other => Line::Bad(Fault::Turn),
+    }
+}
+
+// A whole line after the cover.
+fn read_line(line: &[u8], n: usize, order: Order, late: bool) -> Line
+    requires { ⌜ n ≤ 64 ⌝ }
+    ensures { λ r. ⌜ r ≡ lineOf n order late (fields (now (line .entry))) ⌝ }
+{
+    let a = until(line, 0, b'\t');
+    let word = read_word(&line[..a]);
+    line_by(word, line, a, n, order, late)
+}
+
+// The line from `at` to `end`, which is missing or not ended where `end` is the end of the input.
+pub fn line_between(input: &[u8], at: usize, end: usize, n: usize, order: Order, late: bool) -> Line
+    requires { ⌜ at ≤ length (now input) ⌝ }
+    requires { ⌜ Until lineFeed (now input) at end ⌝ }
+    requires { ⌜ n ≤ 64 ⌝ }
+    ensures { λ r. ⌜ r ≡ front n order late (linesFrom (now (input .entry)) at) ⌝ }
+{
+    if end == input.len() {
+        return Line::Bad(Fault::Missing);
+    }
+    read_line(&input[at..end], n, order, late)
+}
