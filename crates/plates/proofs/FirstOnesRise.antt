@@ -13,7 +13,7 @@ use Rattle.plates.proofs.Gaining.{narrow-same, not-odd, same-of, same-r
 use Rattle.plates.specs.Reducing.{BasisFrom, Echelon, EchelonFrom}
 use Rattle.plates.specs.Working.{FirstWhere, Gained, Odd, SameSums, Table}
 use Rattle.words.proofs.Ends.{first-at}
-use Rattle.words.proofs.Parity.{parity-unit}
+use Rattle.words.proofs.Parity.{parity-power}
 use Rattle.words.proofs.Rows.{same-swap, swap-i, swap-other, swap-rows}
 use Rattle.words.proofs.Word.{bit-xor, bit-zero, bits-below, bits-zero}
 use Rattle.words.specs.Ends.{first, firsts}
@@ -24,10 +24,10 @@ use Rattle.words.specs.Word.{bit}
 
 -- the parity with a unit word is the bit there
 one-there : {m w : ℕ} (c : ℕ) → m ≡ 2 ^ c → Odd m w → bit w c ≡ 1
-one-there {m} {w} c e o = sym (parity-unit c w) ∙ ap (λ (x : ℕ). parity x w) (sym e) ∙ o .odd
+one-there {m} {w} c e o = sym (parity-power c w) ∙ ap (λ (x : ℕ). parity x w) (sym e) ∙ o .odd
 
 none-there : {m w : ℕ} (c : ℕ) → m ≡ 2 ^ c → (Odd m w → ⊥) → bit w c ≡ 0
-none-there {m} {w} c e n = sym (parity-unit c w) ∙ ap (λ (x : ℕ). parity x w) (sym e) ∙ not-odd n
+none-there {m} {w} c e n = sym (parity-power c w) ∙ ap (λ (x : ℕ). parity x w) (sym e) ∙ not-odd n
 
 -- zero before c and at c is zero before c + 1
 one-more : (w c : ℕ) → ((q : ℕ) → q < c → bit w q ≡ 0) → bit w c ≡ 0 → (q : ℕ) → q < c + 1 → bit w q ≡ 0

@@ -9,7 +9,7 @@ use native.Mathlib.Decide.{ℕ-discrete}
 use native.Mathlib.Omega.{arith}
 use Prim.Native.Nat.{_+_, _<_, _^_, zero-le, ℕ, _≤_}
 use Rattle.plates.proofs.Gaining.{gained-cases, narrow-same, same-refl, same-trans}
-use Rattle.plates.proofs.LastOnesDiffer.{basis-kept, firsts-kept, last-of}
+use Rattle.plates.proofs.LastOnesParted.{basis-kept, firsts-kept, last-of}
 use Rattle.plates.specs.Reduced.{Reduced}
 use Rattle.plates.specs.Reducing.{Basis, BasisFrom, Cleared, ClearedFrom, Covers, Parted, PartedFrom, ReducedFrom}
 use Rattle.plates.specs.Working.{Gained, SameSums, Table, Tells}

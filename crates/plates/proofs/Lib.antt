@@ -20,8 +20,8 @@ pub mod Gaining
 pub mod TableFilled
 pub mod CheckTaken
 pub mod FirstOnesRise
-pub mod LastOnesDiffer
 pub mod HeadsCleared
 pub mod LiveCounted
 pub mod ProfilePassed
 pub mod Replies
+pub mod LastOnesParted

@@ -10,7 +10,7 @@ use native.Mathlib.Numerals.{add-one}
 use native.Mathlib.Omega.{arith}
 use Prim.Native.Nat.{_+_, _-_, _<_, _^_, suc, zero, ℕ, _≤_}
 use Rattle.plates.proofs.FirstOnesRise.{widen}
-use Rattle.plates.proofs.LastOnesDiffer.{one-below}
+use Rattle.plates.proofs.LastOnesParted.{one-below}
 use Rattle.plates.proofs.LiveCounted.{count-le, count-same, live-none, live-step}
 use Rattle.plates.proofs.TableFilled.{zeros-at}
 use Rattle.plates.specs.Profile.{live, liveAt}

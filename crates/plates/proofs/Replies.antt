@@ -13,13 +13,14 @@ use Rattle.plates.proofs.ReducedIsPlate.{plate-of}
 use Rattle.plates.proofs.TableFilled.{sums-used}
 use Rattle.plates.specs.Code.{InCode}
 use Rattle.plates.specs.declared.Kind.{Kind}
+use Rattle.plates.specs.declared.Plate.{Plate}
 use Rattle.plates.specs.declared.Prepared.{Prepared}
 use Rattle.plates.specs.declared.Refusal.{Refusal}
 use Rattle.plates.specs.declared.Refusal.the-variants.{Length, RowBeyond, TooManyRows, TooWide}
 use Rattle.plates.specs.declared.Verdict.the-variants.{Accepted}
 use Rattle.plates.specs.Filling.{Filled}
 use Rattle.plates.specs.Heads.{RowsOf}
-use Rattle.plates.specs.Prepare.{Prepares, RowOver, Wide, badLength, prepareConditions}
+use Rattle.plates.specs.Prepare.{PlateOf, Prepares, RowOver, Wide, badLength, prepareConditions, rowsOf}
 use Rattle.plates.specs.Profile.{liveAt}
 use Rattle.plates.specs.Profiling.{Marks, Tallied}
 use Rattle.plates.specs.Reducing.{ReducedFrom}
@@ -98,7 +99,7 @@ refuse-beyond {n} {i} some short few f h =
       ),
     ))
 
--- ---- refusal 4, and the plate
+-- ---- the plate
 
 -- one code said in two ways has one plate
 rows-same : {C D : ℕ → Type 0} {rows : List ℕ} {f l : ℕ → ℕ} → ((w : ℕ) → C w ↔ D w) → RowsOf C rows f l → RowsOf D rows f l
@@ -114,63 +115,59 @@ rows-same s p = record {
   heads = λ w q c. p .heads w q (s w .1 c);
 }
 
--- what the steps have left for a matrix that refusals 1 to 3 do not meet
-module _ {n used k heads ends : ℕ} {kind : Kind} {rows t u p : List ℕ} (some : 0 < n) (few : length rows ≤ 64) (small : (j : ℕ) → j < length rows → getD rows j 0 < 2 ^ n)
-    (f : Filled n kind rows t used) (s : ReducedFrom t u n k) (mh : Marks (firsts u) k heads) (me : Marks (lasts u) k ends) (q : Tallied heads ends n p) where
-  code : (w : ℕ) → IsSum (take k u) w ↔ InCode kind n rows w
-  code w = ((λ g. f .code w .0 (s .same .from w (used-rows .to w g))), λ c. used-rows .from w (s .same .to w (f .code w .1 c)))
-    where
-      used-rows : SameSums (take k u) u
-      used-rows = sums-used u k (omega (arith, s .rows .table .size, s .rows .table .few)) (s .rows .table .unused)
+-- what filling, reducing and the pass over the depths leave
+pub plate-done : {n used k heads ends : ℕ} {kind : Kind} {rows t u p : List ℕ} → Filled n kind rows t used → ReducedFrom t u n k
+    → Marks (firsts u) k heads → Marks (lasts u) k ends → Tallied heads ends n p → PlateOf (InCode kind n rows) n (record { n = n; k = k; rows = u; profile = p })
+plate-done {n} {used} {k} {heads} {ends} {kind} {rows} {t} {u} {p} f s mh me q = record {
+  length-n = refl;
+  few = s .rows .table .few;
+  table = s .rows .table .size;
+  rows = rows-same code (plate-of (take k u) (firsts (take k u)) (lasts (take k u)) (s .rows .reduced));
+  unused-rows = s .rows .table .unused;
+  entries = q .entries;
+  profile = live-tallied (s .rows) mh me q;
+  unused-entries = q .unused;
+}
+  where
+    used-rows : SameSums (take k u) u
+    used-rows = sums-used u k (omega (arith, s .rows .table .size, s .rows .table .few)) (s .rows .table .unused)
 
-  the-rows : RowsOf (InCode kind n rows) (take k u) (firsts (take k u)) (lasts (take k u))
-  the-rows = rows-same code (plate-of (take k u) (firsts (take k u)) (lasts (take k u)) (s .rows .reduced))
+    code : (w : ℕ) → IsSum (take k u) w ↔ InCode kind n rows w
+    code w = ((λ g. f .code w .0 (s .same .from w (used-rows .to w g))), λ c. used-rows .from w (s .same .to w (f .code w .1 c)))
 
-  the-profile : (d : ℕ) → d ≤ n → getD p d 0 ≡ liveAt (take k u) d
-  the-profile = live-tallied (s .rows) mh me q
+-- ---- refusal 4, and the answer
 
-  good-rows : (c : Refusal) → RowOver n rows c → ⊥
-  good-rows c o = omega (arith, o .over, small (o .row) (o .there))
+good-rows : {n : ℕ} {rows : List ℕ} → ((j : ℕ) → j < length rows → getD rows j 0 < 2 ^ n) → (c : Refusal) → RowOver n rows c → ⊥
+good-rows small c o = omega (arith, o .over, small (o .row) (o .there))
 
-  pub refuse-wide : {d : ℕ} {r : Prepared} → FirstWhere p OverTwelve 0 (n + 1) d → d ≤ n → r ≡ refusedWith TooWide → Prepares n kind rows r
-  refuse-wide {d} w h =
+module _ {n d : ℕ} {kind : Kind} {rows : List ℕ} {plate : Plate} (some : 0 < n) (short : n ≤ 64) (few : length rows ≤ 64)
+    (small : (j : ℕ) → j < length rows → getD rows j 0 < 2 ^ n) (p : PlateOf (InCode kind n rows) n plate) (w : FirstWhere (plate .profile) OverTwelve 0 (n + 1) d) where
+  pub refuse-wide : {r : Prepared} → d ≤ n → r ≡ refusedWith TooWide → Prepares n kind rows r
+  refuse-wide h =
       refuse (inr (
-        good-length some (s .rows .table .short),
+        good-length some short,
         inr (
           (λ c o. omega (arith, o .0)),
           inr (
-            good-rows,
+            good-rows small,
             inl (record {
-              rows = take k u;
-              plate = the-rows;
+              rows = rowsOf plate;
+              plate = p .rows;
               depth = d;
               within = h;
-              over = subst (λ (x : ℕ). 12 < x) (the-profile d h) (w .here (omega arith));
+              over = subst (λ (x : ℕ). 12 < x) (p .profile d h) (w .here (omega arith));
               is = refl;
             }),
           ),
         ),
       ))
 
-  pub accept : {d : ℕ} → FirstWhere p OverTwelve 0 (n + 1) d → n < d → Prepares n kind rows (record { verdict = Accepted; plate = record { n = n; k = k; rows = u; profile = p } })
-  accept {d} w h = record {
-    reply = (
-      (good-length some (s .rows .table .short), ((λ c o. omega (arith, o .0)), (good-rows, (narrow, tt)))),
-      record {
-        length-n = refl;
-        few = s .rows .table .few;
-        table = s .rows .table .size;
-        rows = the-rows;
-        unused-rows = s .rows .table .unused;
-        entries = q .entries;
-        profile = the-profile;
-        unused-entries = q .unused;
-      },
-    );
-  }
+  pub accept : n < d → Prepares n kind rows (record { verdict = Accepted; plate = plate })
+  accept h = record { reply = ((good-length some short, ((λ c o. omega (arith, o .0)), (good-rows small, (narrow, tt)))), p) }
     where
       narrow : (c : Refusal) → Wide (InCode kind n rows) n c → ⊥
       narrow c o =
-          let e : o .rows ≡ take k u = one-plate (InCode kind n rows) (o .rows) (take k u) (firsts (o .rows)) (lasts (o .rows)) (firsts (take k u)) (lasts (take k u)) (o .plate) the-rows in
+          let e : o .rows ≡ rowsOf plate =
+          one-plate (InCode kind n rows) (o .rows) (rowsOf plate) (firsts (o .rows)) (lasts (o .rows)) (firsts (rowsOf plate)) (lasts (rowsOf plate)) (o .plate) (p .rows) in
           w .none (o .depth) zero-le (omega (arith, o .within))
-          (subst (λ (x : ℕ). 12 < x) (sym (the-profile (o .depth) (o .within))) (subst (λ (x : List ℕ). 12 < liveAt x (o .depth)) e (o .over)))
+          (subst (λ (x : ℕ). 12 < x) (sym (p .profile (o .depth) (o .within))) (subst (λ (x : List ℕ). 12 < liveAt x (o .depth)) e (o .over)))

@@ -1,6 +1,9 @@
 // Code plates: what a plate is, how a matrix becomes one, and how a prepared plate is known.
 ghost use mathlib.Core.Path.{_≡_};
-ghost use Rattle.plates.specs.Prepare.{Tests};
+ghost use Prim.Native.Nat.{ℕ, _^_, _<_, _≤_};
+ghost use lib.ListN.{getD, length};
+ghost use Rattle.plates.specs.Code.{InCode};
+ghost use Rattle.plates.specs.Prepare.{PlateOf, Prepares, Tests};
 ghost use Rattle.plates.specs.Refusals.{number, place};
 ghost use Rattle.plates.specs.Replying.{refusedWith};
 
@@ -8,7 +11,6 @@ mod matrix;
 mod profile;
 mod reduce;
 mod rows;
-
 mod tested;
 
 // How a matrix gives its code: as generator, or as parity check.
@@ -99,6 +101,70 @@ pub fn refusal_place(refusal: Refusal) -> usize
         Refusal::Information => 0,
         Refusal::NoCodeword => 0,
         Refusal::InputTooLong => 0,
+    }
+}
+
+// A refusal, with the zero plate beside it.
+fn refused(refusal: Refusal) -> Prepared
+    ensures { λ r. ⌜ r ≡ refusedWith refusal ⌝ }
+{
+    Prepared {
+        verdict: Verdict::Refused(refusal),
+        plate: Plate {
+            n: 0,
+            k: 0,
+            rows: [0; 64],
+            profile: [0; 65],
+        },
+    }
+}
+
+// The plate of a matrix that refusals 1 to 3 do not meet, worked out in its own rows and profile.
+fn plate_of_matrix(n: usize, kind: Kind, rows: &[u64]) -> Plate
+    requires { ⌜ n ≤ 64 ⌝ }
+    requires { ⌜ length (now rows) ≤ 64 ⌝ }
+    requires { ⌜ ((j : ℕ) → j < length (now rows) → getD (now rows) j 0 < 2 ^ n) ⌝ }
+    ensures { λ r. ⌜ PlateOf (InCode kind n (now (rows .entry))) n r ⌝ }
+{
+    let mut plate = Plate {
+        n,
+        k: 0,
+        rows: [0; 64],
+        profile: [0; 65],
+    };
+    let used = matrix::fill(&mut plate.rows, n, kind, rows);
+    let k = reduce::reduce(&mut plate.rows, n, used);
+    plate.k = k;
+    let heads = profile::heads(&plate.rows, k);
+    let ends = profile::ends(&plate.rows, k);
+    profile::tally(&mut plate.profile, n, heads, ends);
+    plate
+}
+
+// The plate of a matrix's code, or the first refusal that its length, its rows or its profile meet.
+pub fn prepare(n: usize, kind: Kind, rows: &[u64]) -> Prepared
+    ensures { λ r. ⌜ Prepares n kind (now (rows .entry)) r ⌝ }
+{
+    if n == 0 {
+        return refused(Refusal::Length);
+    }
+    if 64 < n {
+        return refused(Refusal::Length);
+    }
+    if 64 < rows.len() {
+        return refused(Refusal::TooManyRows);
+    }
+    let beyond = matrix::first_beyond(rows, n);
+    if beyond < rows.len() {
+        return refused(Refusal::RowBeyond(beyond));
+    }
+    let plate = plate_of_matrix(n, kind, rows);
+    if profile::first_wide(&plate.profile, n) <= n {
+        return refused(Refusal::TooWide);
+    }
+    Prepared {
+        verdict: Verdict::Accepted,
+        plate,
     }
 }
 

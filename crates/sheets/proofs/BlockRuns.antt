@@ -38,12 +38,12 @@ module _ {s : List ℕ} {from at k : ℕ} (i : Passing blocksOf s from at k) whe
   -- one block line more
   pub block-on : (r : BlockReply) → BlockRead s at r → (j next : ℕ) → r ≡ Read j next → Passing blocksOf s from next (k + 1)
   block-on r d j next e = by (blockAt s at) refl
-   where
-    by : (b : BlockFound) → blockAt s at ≡ b → Passing blocksOf s from next (k + 1)
-    by (block vs) g =
-        let p = d .place j next e in
-        pass-on i next p vs (blocks-more (linesFrom s at) vs (line-split p) g)
-    by noBlock g =
-        let q : NoBlock ≡ Read j next = sym (rw g at (d .reply)) ∙ e in
-        let z : _≡_ {A = ℕ} 0 1 = cc in
-        absurd (omega arith)
+    where
+      by : (b : BlockFound) → blockAt s at ≡ b → Passing blocksOf s from next (k + 1)
+      by (block vs) g =
+          let p = d .place j next e in
+          pass-on i next p vs (blocks-more (linesFrom s at) vs (line-split p) g)
+      by noBlock g =
+          let q : NoBlock ≡ Read j next = sym (rw g at (d .reply)) ∙ e in
+          let z : _≡_ {A = ℕ} 0 1 = cc in
+          absurd (omega arith)

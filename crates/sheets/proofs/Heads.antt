@@ -29,11 +29,12 @@ module _ (s : List ℕ) where
   -- a refusal
   head-refused : (q : Refusal) → verdict (coverFront (lines s)) ≡ J.Refused q → HeadRead s (Refused q)
   head-refused q e = record { is = λ cover next g. never g; not = λ p g. e ∙ ap J.Refused (same g) }
-   where
-    never : {A : Type 0} {cover : Cover} {next : ℕ} → Refused q ≡ Is cover next → A
-    never g = let z : _≡_ {A = ℕ} 0 1 = cc in absurd (omega arith)
-    same : {p : Refusal} → Refused q ≡ Refused p → q ≡ p
-    same g = cc
+    where
+      never : {A : Type 0} {cover : Cover} {next : ℕ} → Refused q ≡ Is cover next → A
+      never g = let z : _≡_ {A = ℕ} 0 1 = cc in absurd (omega arith)
+
+      same : {p : Refusal} → Refused q ≡ Refused p → q ≡ p
+      same g = cc
 
   module _ (r : ℕ) (u : Until lineFeed s 0 r) where
     -- no line
@@ -59,18 +60,20 @@ module _ (s : List ℕ) where
         -- a cover in its range
         pub head-is : (cover .n ≡ 0 → ⊥) → cover .n ≤ 64 → HeadRead s (Is cover (r + 1))
         head-is z k = record { is = λ c m g. found g; not = λ p g. never g }
-         where
-          fine : HeadIs s cover (r + 1)
-          fine = record {
-            form = is-line ∙ q;
-            range = rw (ne-eqb (cover .n) 0 z, le-ltb 64 (cover .n) k);
-            most = k;
-            ended = line-closed s 0 r u n;
-          }
-          found : {c : Cover} {m : ℕ} → Is cover (r + 1) ≡ Is c m → HeadIs s c m
-          found {c} {m} g =
-              let a : cover ≡ c = cc in
-              let b : r + 1 ≡ m = cc in
-              rw (← a, ← b) fine
-          never : {A : Type 0} {p : Refusal} → Is cover (r + 1) ≡ Refused p → A
-          never g = let z : _≡_ {A = ℕ} 0 1 = cc in absurd (omega arith)
+          where
+            fine : HeadIs s cover (r + 1)
+            fine = record {
+              form = is-line ∙ q;
+              range = rw (ne-eqb (cover .n) 0 z, le-ltb 64 (cover .n) k);
+              most = k;
+              ended = line-closed s 0 r u n;
+            }
+
+            found : {c : Cover} {m : ℕ} → Is cover (r + 1) ≡ Is c m → HeadIs s c m
+            found {c} {m} g =
+                let a : cover ≡ c = cc in
+                let b : r + 1 ≡ m = cc in
+                rw (← a, ← b) fine
+
+            never : {A : Type 0} {p : Refusal} → Is cover (r + 1) ≡ Refused p → A
+            never g = let z : _≡_ {A = ℕ} 0 1 = cc in absurd (omega arith)

@@ -75,6 +75,6 @@ module _ {n : ℕ} {order : Order} {s : List ℕ} {from : ℕ} where
           size = simp length-set (i .size);
           kept = rw (add-one k, laid-on k w) (rw g at (i .kept));
         }
-     where
-      never : Bad Missing ≡ Row w → ⊥
-      never q = let z : _≡_ {A = ℕ} 0 1 = cc in omega arith
+      where
+        never : Bad Missing ≡ Row w → ⊥
+        never q = let z : _≡_ {A = ℕ} 0 1 = cc in omega arith

@@ -19,9 +19,9 @@ use Rattle.sheets.proofs.Laying.{laidFrom, laid-none, laid-on}
 -- where the answer is a field that is no sample, nothing is asked of the room
 pub read-bad : (d : Samples) (vs room room′ : List ℤ) (f : ℕ) → d ≡ Bad f → SamplesRead d vs room (Bad f) room′
 read-bad d vs room room′ f e = record { is = sym e; stored = λ k q. absurd (never q) }
- where
-  never : {k : ℕ} → Bad f ≡ Count k → ⊥
-  never q = let z : _≡_ {A = ℕ} 0 1 = cc in omega arith
+  where
+    never : {k : ℕ} → Bad f ≡ Count k → ⊥
+    never q = let z : _≡_ {A = ℕ} 0 1 = cc in omega arith
 
 -- k samples are taken, and the next field begins at `at`: the fields left, after those, are all of them
 pub record Sampling (line : List ℕ) (from : ℕ) (room₀ room : List ℤ) (at k : ℕ) : Type 0 where

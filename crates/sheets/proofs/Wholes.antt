@@ -87,6 +87,6 @@ module _ (s table : List ℕ) (h : length s ≤ 32768) where
     sheet-body r table′ b = record {
       reply = rw (contents-are, verdict-is) (b .reply ∙ sym (reply-by s left said ∙ ap (λ (p : ℕ). replyBy left (sheetAt p said)) start-is));
       rows =
-        rw (contents-are, verdict-is)
-        (b .kept ∙ ap (λ (q : SheetReply). tableBy q (said .rows) table) (b .reply) ∙ sym (table-by table left said (sheetAt start said)));
+          rw (contents-are, verdict-is)
+          (b .kept ∙ ap (λ (q : SheetReply). tableBy q (said .rows) table) (b .reply) ∙ sym (table-by table left said (sheetAt start said)));
     }

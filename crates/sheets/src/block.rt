@@ -4,12 +4,12 @@ ghost use lib.ListN.{length, drop, set};
 ghost use mathlib.Core.Path.{_≡_};
 ghost use Rattle.sheets.specs.Text.{fields, fieldsFrom};
 ghost use Rattle.sheets.specs.Blocks.{samplesOf, valuesOf, blockLine, SamplesRead, BlockRead};
-use crate::number::read_sample;
-use crate::number::Sample;
-use crate::scan::until;
-use crate::word::read_word;
-use crate::word::Word;
 use crate::BlockReply;
+use crate::number::Sample;
+use crate::number::read_sample;
+use crate::scan::until;
+use crate::word::Word;
+use crate::word::read_word;
 
 // What the fields of a block line are.
 pub enum Samples {

@@ -6,16 +6,16 @@ ghost use Rattle.sheets.specs.Text.{linesFrom};
 ghost use Rattle.sheets.specs.Blocks.{blocksOf};
 ghost use Rattle.sheets.specs.Lines.{rowsOf, afterEnd, endingOf};
 ghost use Rattle.sheets.specs.Sheet.{contentsOf, closed, bodyOf, Passed, RowsRead, BodyRead};
-use crate::block::block_at;
-use crate::cover::Cover;
-use crate::line::line_between;
-use crate::line::Fault;
-use crate::line::Line;
-use crate::scan::until;
 use crate::BlockReply;
 use crate::Order;
 use crate::Sheet;
 use crate::SheetReply;
+use crate::block::block_at;
+use crate::cover::Cover;
+use crate::line::Fault;
+use crate::line::Line;
+use crate::line::line_between;
+use crate::scan::until;
 use plates::Refusal;
 
 // So many lines, and where the line after them begins.

@@ -2,7 +2,7 @@
 use borrow.Author.Needs.{needs}
 use mathlib.Core.Logic.{inl, inr}
 use native.Mathlib.Omega.{arith}
-use Rattle.plates.proofs.Replies.{none-beyond, refuse-beyond, refuse-length, refuse-rows}
+use Rattle.plates.proofs.Replies.{accept, none-beyond, refuse-beyond, refuse-length, refuse-rows, refuse-wide}
 use Rattle.plates.proofs.prepare.Statement.{statement}
 use Rattle.plates.proofs.prepare.Tie as tie
 
@@ -33,11 +33,28 @@ refused-requires-4 c κs = search needs
 returns-4 : tie.Need-returns-4
 returns-4 c = refuse-beyond (omega arith) (omega arith) (omega arith) (c .before .before .first-beyond .ensures) (c .before .if4 .taken) (c .refused4 .ensures)
 
-worked-out-requires : tie.Need-worked-out-requires
-worked-out-requires c κs = (omega arith, (omega arith, (omega arith, none-beyond (c .before .first-beyond .ensures) (c .if4 .left))))
+plate-of-matrix-requires : tie.Need-plate-of-matrix-requires
+plate-of-matrix-requires c κs = (omega arith, (omega arith, none-beyond (c .before .first-beyond .ensures) (c .if4 .left)))
+
+first-wide-requires : tie.Need-first-wide-requires
+first-wide-requires c κs = search needs
+
+refused-requires-5 : tie.Need-refused-requires-5
+refused-requires-5 c κs = search needs
 
 returns-5 : tie.Need-returns-5
-returns-5 c = search needs
+returns-5 c =
+    let wide = c .before .before in
+    let made = wide .before .before .before in
+    refuse-wide (omega arith) (omega arith) (omega arith) (none-beyond (made .before .before .first-beyond .ensures) (made .before .if4 .left))
+    (made .plate-of-matrix .ensures) (wide .first-wide .ensures) (c .before .if5 .taken) (c .refused5 .ensures)
+
+returns-6 : tie.Need-returns-6
+returns-6 c =
+    let wide = c .before in
+    let made = wide .before .before .before in
+    accept (omega arith) (omega arith) (omega arith) (none-beyond (made .before .before .first-beyond .ensures) (made .before .if4 .left))
+    (made .plate-of-matrix .ensures) (wide .first-wide .ensures) (c .if5 .left)
 
 pub prepare-spec : {M : Type 1} → statement M
 prepare-spec =
@@ -52,5 +69,8 @@ prepare-spec =
     first-beyond-requires
     refused-requires-4
     returns-4
-    worked-out-requires
-    returns-5)
+    plate-of-matrix-requires
+    first-wide-requires
+    refused-requires-5
+    returns-5
+    returns-6)

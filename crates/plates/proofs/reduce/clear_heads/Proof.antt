@@ -3,7 +3,7 @@ use borrow.Author.Needs.{needs}
 use native.Mathlib.Omega.{arith}
 use Prim.Native.Nat.{_-_, _≤_}
 use Rattle.plates.proofs.HeadsCleared.{clear-end, clear-on, clear-start}
-use Rattle.plates.proofs.LastOnesDiffer.{row-ready}
+use Rattle.plates.proofs.LastOnesParted.{row-ready}
 use Rattle.plates.specs.Reducing.{ClearedFrom}
 use Rattle.plates.proofs.reduce.clear_heads.Statement.{statement}
 use Rattle.plates.proofs.reduce.clear_heads.Tie as tie

@@ -1,6 +1,6 @@
 -- `plates::reduce::ends_at` meets its contract.
 use borrow.Author.Needs.{needs}
-use Rattle.plates.proofs.LastOnesDiffer.{ends-no, ends-yes}
+use Rattle.plates.proofs.LastOnesParted.{ends-no, ends-yes}
 use Rattle.plates.proofs.reduce.ends_at.Statement.{statement}
 use Rattle.plates.proofs.reduce.ends_at.Tie as tie
 

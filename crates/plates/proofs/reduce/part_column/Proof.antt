@@ -1,6 +1,6 @@
 -- `plates::reduce::part_column` meets its contract: with a row that ends there, or with none.
 use native.Mathlib.Omega.{arith}
-use Rattle.plates.proofs.LastOnesDiffer.{part-found, part-none}
+use Rattle.plates.proofs.LastOnesParted.{part-found, part-none}
 use Rattle.plates.proofs.reduce.part_column.Statement.{statement}
 use Rattle.plates.proofs.reduce.part_column.Tie as tie
 

@@ -2,7 +2,7 @@
 use borrow.Author.Needs.{needs}
 use native.Mathlib.Omega.{arith}
 use Prim.Native.Nat.{_≤_}
-use Rattle.plates.proofs.LastOnesDiffer.{parted-before, parts-end, parts-on, parts-start}
+use Rattle.plates.proofs.LastOnesParted.{parted-before, parts-end, parts-on, parts-start}
 use Rattle.plates.specs.Reducing.{PartedFrom}
 use Rattle.plates.proofs.reduce.part_columns.Statement.{statement}
 use Rattle.plates.proofs.reduce.part_columns.Tie as tie
