@@ -8,3 +8,4 @@ pub mod AcceptedIsPrepared
 pub mod ActiveNumber
 pub mod PlateTrellis
 pub mod WolfMassey
+pub mod BranchRuns

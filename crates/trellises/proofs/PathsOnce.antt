@@ -87,9 +87,9 @@ module _ (rows : List ℕ) (f l : ℕ → ℕ) (s : Spans rows f l) where
   size : (t : ℕ) → length (trellis rows f l .branches t) ≡ 2 ^ count (length rows) (active f l t)
   size t = table-length (2 ^ count (length rows) (active f l t)) (λ v. branchOf rows f l t (spread (length rows) (active f l t) v))
 
-  own : (t v : ℕ) → v < length (trellis rows f l .branches t)
+  pub nth-branch : (t v : ℕ) → v < length (trellis rows f l .branches t)
       → branchAt (trellis rows f l) t v ≡ branchOf rows f l t (spread (length rows) (active f l t) v)
-  own t v h =
+  nth-branch t v h =
       table-at (2 ^ count (length rows) (active f l t)) (λ v. branchOf rows f l t (spread (length rows) (active f l t) v)) v
       (subst (λ (z : ℕ). v < z) (size t) h)
 
@@ -99,8 +99,8 @@ module _ (rows : List ℕ) (f l : ℕ → ℕ) (s : Spans rows f l) where
       → branchAt (trellis rows f l) t i .out ≡ branchAt (trellis rows f l) t j .out → i ≡ j
   one-branch t i j hi hj from out =
       spread-injective (length rows) (active f l t) i j (subst (λ (z : ℕ). i < z) (size t) hi) (subst (λ (z : ℕ). j < z) (size t) hj)
-      (λ m k a. decided t _ _ (sym (ap (λ (b : Branch). b .from) (own t i hi)) ∙ from ∙ ap (λ (b : Branch). b .from) (own t j hj))
-      (sym (ap (λ (b : Branch). b .out) (own t i hi)) ∙ out ∙ ap (λ (b : Branch). b .out) (own t j hj)) m k
+      (λ m k a. decided t _ _ (sym (ap (λ (b : Branch). b .from) (nth-branch t i hi)) ∙ from ∙ ap (λ (b : Branch). b .from) (nth-branch t j hj))
+      (sym (ap (λ (b : Branch). b .out) (nth-branch t i hi)) ∙ out ∙ ap (λ (b : Branch). b .out) (nth-branch t j hj)) m k
       (active-is f l t m a .0) (active-is f l t m a .1))
 
   -- the branches of a section are all different
@@ -143,7 +143,7 @@ module _ (rows : List ℕ) (f l : ℕ → ℕ) (s : Spans rows f l) where
       x = spread (length rows) (active f l t) (b .place)
 
       mine : branchAt (trellis rows f l) t (b .place) ≡ branchOf rows f l t x
-      mine = own t (b .place) (b .there)
+      mine = nth-branch t (b .place) (b .there)
 
       alike : (j : ℕ) → j < length rows → T (live f l (suc t) j) → bit x j ≡ bit u j
       alike j k a =

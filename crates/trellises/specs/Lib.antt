@@ -4,3 +4,4 @@ pub mod Numbers
 pub mod Branching
 pub mod Smallest
 pub mod Beginnings
+pub mod Running
