@@ -9,3 +9,4 @@ pub mod ActiveNumber
 pub mod PlateTrellis
 pub mod WolfMassey
 pub mod BranchRuns
+pub mod ProperTrellis
