@@ -10,3 +10,4 @@ pub mod PlateTrellis
 pub mod WolfMassey
 pub mod BranchRuns
 pub mod ProperTrellis
+pub mod SyndromeSteps
