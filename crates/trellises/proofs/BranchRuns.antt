@@ -2,16 +2,22 @@
 -- some question on the way is answered by "no branch".
 use lib.ListN.{length}
 use lib.Pow.{pow-pos}
-use mathlib.Core.Logic.{inl, inr, _↔_, _⊎_}
+use mathlib.Core.List.{List}
+use mathlib.Core.Logic.{Iff·trans, inl, inr, _↔_, _⊎_}
 use mathlib.Core.Path.{ap, refl, subst, sym, _∙_, _≡_}
 use native.Mathlib.Decide.{decLt, ℕ-discrete}
 use native.Mathlib.Nat.{le-refl}
 use native.Mathlib.Omega.{arith}
 use Prim.Native.Nat.{_<_, _^_, suc, zero, ℕ, _≤_}
+use Rattle.plates.specs.Code.{InCode}
+use Rattle.plates.specs.declared.Kind.{Kind}
 use Rattle.plates.specs.declared.Plate.{Plate}
-use Rattle.plates.specs.Prepare.{IsPrepared, rowsOf}
+use Rattle.plates.specs.declared.Prepared.{Prepared}
+use Rattle.plates.specs.declared.Verdict.the-variants.{Accepted}
+use Rattle.plates.specs.Prepare.{IsPrepared, Prepares, rowsOf}
 use Rattle.plates.specs.Profile.{liveAt}
 use Rattle.plates.specs.Refusals.{Passes}
+use Rattle.trellises.proofs.AcceptedIsPrepared.{accepted-code, accepted-length, accepted-prepared}
 use Rattle.trellises.proofs.PathsOnce.{nth-branch, paths-once}
 use Rattle.trellises.proofs.PlateTrellis.{plate-path-ends, plate-spans, plate-spells}
 use Rattle.trellises.specs.Branching.{Branches, branchConditions, trellisOf}
@@ -191,3 +197,11 @@ module _ (plate : Plate) (given : IsPrepared plate) (w : ℕ) where
       same =
           paths-once (rowsOf plate) _ _ (plate-spans plate given) (k .depth) w part (run-path (k .depth) (k .state) (k .run)) .states (k .depth)
           (le-refl (k .depth)) ∙ k .run .ends
+
+-- the same of the plate that preparing a matrix accepts: exactly the words of the matrix's code run to depth n
+pub matrix-runs : (n : ℕ) (kind : Kind) (rows : List ℕ) (r : Prepared) → Prepares n kind rows r → r .verdict ≡ Accepted
+    → (w : ℕ) → w < 2 ^ n → InCode kind n rows w ↔ Runs (r .plate) w n 0
+matrix-runs n kind rows r p e w h =
+    Iff·trans (accepted-code n kind rows r p e w)
+    (subst (λ (m : ℕ). w < 2 ^ m → IsSum (rowsOf (r .plate)) w ↔ Runs (r .plate) w m 0) (accepted-length n kind rows r p e)
+    (branch-runs (r .plate) (accepted-prepared n kind rows r p e) w) h)
