@@ -29,8 +29,8 @@ use Rattle.words.proofs.Word.{bit-lt}
 use Rattle.words.specs.Sum.{IsSum}
 use Rattle.words.specs.Word.{bit}
 
--- a section has a branch from a with bit b, or it has none
 module _ (g : Graph) (t a b : ℕ) where
+  -- the first m branches of a section have one from a with bit b, or they have none
   among : (m : ℕ) → m ≤ length (g .branches t) → ((c : ℕ) × Has g t a b c) ⊎ ((c : ℕ) (h : Has g t a b c) → h .place < m → ⊥)
   among zero l = inr (λ c h k. omega arith)
   among (suc m) l = go (among m (omega arith)) (ℕ-discrete (branchAt g t m .from) a) (ℕ-discrete (branchAt g t m .out) b)
@@ -51,6 +51,7 @@ module _ (g : Graph) (t a b : ℕ) where
       go (inr n) (no d) e = inr (neither n (λ c h q. d (ap (λ (i : ℕ). branchAt g t i .from) (sym q) ∙ h .leaves)))
       go (inr n) (yes d) (no e) = inr (neither n (λ c h q. e (ap (λ (i : ℕ). branchAt g t i .out) (sym q) ∙ h .spells)))
 
+  -- and so all of them
   find : ((c : ℕ) × Has g t a b c) ⊎ ((c : ℕ) → Has g t a b c → ⊥)
   find = go (among (length (g .branches t)) (le-refl _))
     where
@@ -108,6 +109,7 @@ module _ (plate : Plate) (given : IsPrepared plate) (w : ℕ) where
 
   -- ---- the states in turn, as far as there is a branch
 
+  -- the state after t questions
   walk : ℕ → ℕ
   walk zero = 0
   walk (suc t) = found (find (trellisOf plate) t (walk t) (bit w t))
@@ -116,6 +118,7 @@ module _ (plate : Plate) (given : IsPrepared plate) (w : ℕ) where
   abbrev None : ℕ → Type 0
   None t = (c : ℕ) → Has (trellisOf plate) t (walk t) (bit w t) c → ⊥
 
+  -- the next question is answered by a state or by "no branch"
   onward : (t : ℕ) → Has (trellisOf plate) t (walk t) (bit w t) (walk (suc t)) ⊎ None t
   unfolding walk
   onward t = go (find (trellisOf plate) t (walk t) (bit w t))
@@ -128,6 +131,7 @@ module _ (plate : Plate) (given : IsPrepared plate) (w : ℕ) where
   abbrev Answered : ℕ → Type 0
   Answered t = (i : ℕ) → i < t → Branches plate i (walk i) (bit w i) (State (walk (suc i)))
 
+  -- that is a run
   walked : (t : ℕ) → Answered t → Runs plate w t (walk t)
   unfolding walk
   walked t a = record { state = walk; begins = refl; answers = a; ends = refl }

@@ -83,10 +83,11 @@ module _ (rows : List ℕ) (f l : ℕ → ℕ) (s : Spans rows f l) where
           one-left rows t j x y (subst (λ (p : ℕ). bit (getD rows j 0) p ≡ 1) (sym e) (s .first j k .one))
           (λ i m d. others e i m d (lt-tri (f i) t) (decLt (l i) t)) out
 
-  -- the number of branches of section t, and each of them
+  -- the number of branches of section t
   size : (t : ℕ) → length (trellis rows f l .branches t) ≡ 2 ^ count (length rows) (active f l t)
   size t = table-length (2 ^ count (length rows) (active f l t)) (λ v. branchOf rows f l t (spread (length rows) (active f l t) v))
 
+  -- branch v of section t takes the active rows that the digits of v say
   pub nth-branch : (t v : ℕ) → v < length (trellis rows f l .branches t)
       → branchAt (trellis rows f l) t v ≡ branchOf rows f l t (spread (length rows) (active f l t) v)
   nth-branch t v h =
@@ -107,10 +108,11 @@ module _ (rows : List ℕ) (f l : ℕ → ℕ) (s : Spans rows f l) where
   pub branches-differ : (t : ℕ) → Different (trellis rows f l) t
   branches-differ t i j hi hj e = one-branch t i j hi hj (ap (λ (b : Branch). b .from) e) (ap (λ (b : Branch). b .out) e)
 
-  -- there is one state at depth 0
+  -- there is one state at depth 0, since no row is live
   nothing-live : 2 ^ count (length rows) (live f l 0) ≡ 1
   nothing-live = ap (λ (x : ℕ). 2 ^ x) (count-none (length rows) (live f l 0) (λ j k a. omega (arith, live-is f l 0 j a)))
 
+  -- so every path begins in state 0
   start-zero : (n w : ℕ) (p : Path (trellis rows f l) n w) → p .state 0 ≡ 0
   start-zero n w p = omega (arith, nothing-live, p .inside 0 zero-le)
 
@@ -121,6 +123,7 @@ module _ (rows : List ℕ) (f l : ℕ → ℕ) (s : Spans rows f l) where
         one-branch t (p .branch t h .place) (q .branch t h .place) (p .branch t h .there) (q .branch t h .there)
         (p .branch t h .leaves ∙ e ∙ sym (q .branch t h .leaves)) (p .branch t h .spells ∙ sym (q .branch t h .spells))
 
+    -- and so they stand in the same state at the next depth
     same-state : (t : ℕ) → t ≤ n → p .state t ≡ q .state t
     same-state zero h = start-zero n w p ∙ sym (start-zero n w q)
     same-state (suc t) h =

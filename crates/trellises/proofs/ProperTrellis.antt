@@ -31,6 +31,7 @@ module _ (n : ℕ) (rows : List ℕ) (f l : ℕ → ℕ) (s : Spans rows f l) (f
   path-of : (u : ℕ) → Path (trellis rows f l) n (sumOf rows u)
   path-of u = trellis-spells n rows f l s fit .exact (sumOf rows u) .0 (record { by = u; sum = refl }) .1
 
+  -- a state is reached by the live rows that its digits say, a branch taken by the active rows that its digits say
   pub trellis-proper : Proper (trellis rows f l) n
   trellis-proper = record {
     root = trellis-spells n rows f l s fit .start;
@@ -49,5 +50,6 @@ module _ (n : ℕ) (rows : List ℕ) (f l : ℕ → ℕ) (s : Spans rows f l) (f
     parted = one-branch rows f l s;
   }
 
+-- the same of a prepared plate
 pub plate-proper : (plate : Plate) → IsPrepared plate → Proper (trellisOf plate) (plate .n)
 plate-proper plate given = trellis-proper (plate .n) (rowsOf plate) _ _ (plate-spans plate given) (plate-fits plate given)

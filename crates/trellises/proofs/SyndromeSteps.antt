@@ -45,9 +45,11 @@ ones-digit n (suc zero) h = ap ones (and-mask n 1) ∙ one (n % 2) (omega arith)
 ones-digit n (suc (suc d)) h = absurd (omega arith)
 
 module _ (checks : List ℕ) (w j : ℕ) where
+  -- 0 at depth 0
   pub syndrome-start : syndrome checks 0 w j ≡ 0
   syndrome-start = let e : w % 1 ≡ 0 = omega arith in ap (parity (getD checks j 0)) e ∙ parity-zero (getD checks j 0)
 
+  -- each section adds its column where the word has a one
   pub syndrome-step : (t : ℕ) → syndrome checks (suc t) w j ≡ (syndrome checks t w j + bit (getD checks j 0) t * bit w t) % 2
   syndrome-step t =
       let c : ℕ = getD checks j 0 in
@@ -62,5 +64,6 @@ module _ (checks : List ℕ) (w j : ℕ) where
       last : (x y : ℕ) → (x + y) % 2 ≡ (y % 2 + x) % 2
       last x y = omega arith
 
+  -- and 0 at depth n for a codeword
   pub syndrome-end : (n : ℕ) → Checked n checks w → j < length checks → syndrome checks n w j ≡ 0
   syndrome-end n c k = ap (parity (getD checks j 0)) (mod-eq-of-lt (c .below)) ∙ c .even j k

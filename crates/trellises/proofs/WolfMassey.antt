@@ -45,6 +45,7 @@ SameContinuations C t a b = (c : ℕ) → C (splice t a c) ↔ C (splice t b c)
 
 -- ---- sums of spliced words
 
+-- beginnings add up, and so do continuations
 splice-xor : (t a b c d : ℕ) → bitXor (splice t a c) (splice t b d) ≡ splice t (bitXor a b) (bitXor c d)
 splice-xor t a b c d = bit-ext _ _ (λ i. bit-xor i (splice t a c) (splice t b d) ∙ go i (decLt i t))
   where
@@ -54,6 +55,7 @@ splice-xor t a b c d = bit-ext _ _ (λ i. bit-xor i (splice t a c) (splice t b d
         let m : t ≤ i = omega arith in
         ap₂ differ (splice-high t a c i m) (splice-high t b d i m) ∙ sym (splice-high t (bitXor a b) (bitXor c d) i m ∙ bit-xor i c d)
 
+-- a word with its own continuation
 splice-self : (t a : ℕ) → splice t a a ≡ a
 splice-self t a = bit-ext _ _ (λ i. go i (decLt i t))
   where
@@ -197,6 +199,7 @@ module _ (plate : Plate) (given : IsPrepared plate) (a b : ℕ) (x : IsSum (rows
 
 module _ (n : ℕ) (kind : Kind) (rows : List ℕ) (r : Prepared) (p : Prepares n kind rows r) (e : r .verdict ≡ Accepted) (a b : ℕ)
     (x : InCode kind n rows a) (y : InCode kind n rows b) where
+  -- the matrix's code is the plate's
   code : (w : ℕ) → InCode kind n rows w ↔ IsSum (rowsOf (r .plate)) w
   code = accepted-code n kind rows r p e
 
