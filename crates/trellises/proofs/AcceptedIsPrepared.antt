@@ -54,16 +54,20 @@ rows-same C D e rows f l p = record {
 
 -- a matrix, and what preparing it replies where it accepts
 module _ (n : ℕ) (kind : Kind) (rows : List ℕ) (r : Prepared) (p : Prepares n kind rows r) (e : r .verdict ≡ Accepted) where
+  -- the reply by its case
   accepted : Passes (prepareConditions n kind rows) × PlateOf (InCode kind n rows) n (r .plate)
   accepted = subst (PreparesAs (prepareConditions n kind rows) (InCode kind n rows) n (r .plate)) e (p .reply)
 
+  -- the plate has the matrix's length
   pub accepted-length : r .plate .n ≡ n
   accepted-length = accepted .1 .length-n
 
+  -- its rows generate the matrix's code
   pub accepted-code : (w : ℕ) → InCode kind n rows w ↔ IsSum (rowsOf (r .plate)) w
   accepted-code =
       plate-generates (InCode kind n rows) (code-zero kind n rows) (code-closed kind n rows) (rowsOf (r .plate)) _ _ (accepted .1 .rows)
 
+  -- it is what preparing its own rows as G gives
   pub accepted-prepared : IsPrepared (r .plate)
   accepted-prepared = record {
     few = accepted .1 .few;

@@ -16,6 +16,7 @@ use Rattle.words.proofs.Span.{rising-apart, zero-one}
 use Rattle.words.specs.Choice.{count, more}
 use Rattle.words.specs.Span.{Spans}
 
+-- two tests that pass together are the same
 same-test : (a b : Bool) → (T a → T b) → (T b → T a) → a ≡ b
 same-test true true f g = refl
 same-test true false f g = absurd (f tt)
@@ -54,6 +55,7 @@ module _ (rows : List ℕ) (f l : ℕ → ℕ) (s : Spans rows f l) (t : ℕ) wh
       go (yes a) b = a
       go (no a) b = absurd (d (omega arith))
 
+  -- where no row begins
   pub active-same : ((j : ℕ) → j < length rows → f j ≡ t → ⊥) → count (length rows) (active f l t) ≡ count (length rows) (live f l t)
   active-same none = count-same (length rows) (active f l t) (live f l t) (λ i k. other i (none i k))
 

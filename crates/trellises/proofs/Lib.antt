@@ -20,3 +20,6 @@ pub mod WolfMassey
 pub mod BranchDetermined
 pub mod OneBegins
 pub mod AmongRows
+pub mod BranchRuns
+pub mod ProperTrellis
+pub mod SyndromeSteps

@@ -83,13 +83,14 @@ module _ (rows : List ℕ) (f l : ℕ → ℕ) (s : Spans rows f l) where
           one-left rows t j x y (subst (λ (p : ℕ). bit (getD rows j 0) p ≡ 1) (sym e) (s .first j k .one))
           (λ i m d. others e i m d (lt-tri (f i) t) (decLt (l i) t)) out
 
-  -- the number of branches of section t, and each of them
+  -- the number of branches of section t
   size : (t : ℕ) → length (trellis rows f l .branches t) ≡ 2 ^ count (length rows) (active f l t)
   size t = table-length (2 ^ count (length rows) (active f l t)) (λ v. branchOf rows f l t (spread (length rows) (active f l t) v))
 
-  own : (t v : ℕ) → v < length (trellis rows f l .branches t)
+  -- branch v of section t takes the active rows that the digits of v say
+  pub nth-branch : (t v : ℕ) → v < length (trellis rows f l .branches t)
       → branchAt (trellis rows f l) t v ≡ branchOf rows f l t (spread (length rows) (active f l t) v)
-  own t v h =
+  nth-branch t v h =
       table-at (2 ^ count (length rows) (active f l t)) (λ v. branchOf rows f l t (spread (length rows) (active f l t) v)) v
       (subst (λ (z : ℕ). v < z) (size t) h)
 
@@ -99,18 +100,19 @@ module _ (rows : List ℕ) (f l : ℕ → ℕ) (s : Spans rows f l) where
       → branchAt (trellis rows f l) t i .out ≡ branchAt (trellis rows f l) t j .out → i ≡ j
   one-branch t i j hi hj from out =
       spread-injective (length rows) (active f l t) i j (subst (λ (z : ℕ). i < z) (size t) hi) (subst (λ (z : ℕ). j < z) (size t) hj)
-      (λ m k a. decided t _ _ (sym (ap (λ (b : Branch). b .from) (own t i hi)) ∙ from ∙ ap (λ (b : Branch). b .from) (own t j hj))
-      (sym (ap (λ (b : Branch). b .out) (own t i hi)) ∙ out ∙ ap (λ (b : Branch). b .out) (own t j hj)) m k
+      (λ m k a. decided t _ _ (sym (ap (λ (b : Branch). b .from) (nth-branch t i hi)) ∙ from ∙ ap (λ (b : Branch). b .from) (nth-branch t j hj))
+      (sym (ap (λ (b : Branch). b .out) (nth-branch t i hi)) ∙ out ∙ ap (λ (b : Branch). b .out) (nth-branch t j hj)) m k
       (active-is f l t m a .0) (active-is f l t m a .1))
 
   -- the branches of a section are all different
   pub branches-differ : (t : ℕ) → Different (trellis rows f l) t
   branches-differ t i j hi hj e = one-branch t i j hi hj (ap (λ (b : Branch). b .from) e) (ap (λ (b : Branch). b .out) e)
 
-  -- there is one state at depth 0
+  -- there is one state at depth 0, since no row is live
   nothing-live : 2 ^ count (length rows) (live f l 0) ≡ 1
   nothing-live = ap (λ (x : ℕ). 2 ^ x) (count-none (length rows) (live f l 0) (λ j k a. omega (arith, live-is f l 0 j a)))
 
+  -- so every path begins in state 0
   start-zero : (n w : ℕ) (p : Path (trellis rows f l) n w) → p .state 0 ≡ 0
   start-zero n w p = omega (arith, nothing-live, p .inside 0 zero-le)
 
@@ -121,6 +123,7 @@ module _ (rows : List ℕ) (f l : ℕ → ℕ) (s : Spans rows f l) where
         one-branch t (p .branch t h .place) (q .branch t h .place) (p .branch t h .there) (q .branch t h .there)
         (p .branch t h .leaves ∙ e ∙ sym (q .branch t h .leaves)) (p .branch t h .spells ∙ sym (q .branch t h .spells))
 
+    -- and so they stand in the same state at the next depth
     same-state : (t : ℕ) → t ≤ n → p .state t ≡ q .state t
     same-state zero h = start-zero n w p ∙ sym (start-zero n w q)
     same-state (suc t) h =
@@ -143,7 +146,7 @@ module _ (rows : List ℕ) (f l : ℕ → ℕ) (s : Spans rows f l) where
       x = spread (length rows) (active f l t) (b .place)
 
       mine : branchAt (trellis rows f l) t (b .place) ≡ branchOf rows f l t x
-      mine = own t (b .place) (b .there)
+      mine = nth-branch t (b .place) (b .there)
 
       alike : (j : ℕ) → j < length rows → T (live f l (suc t) j) → bit x j ≡ bit u j
       alike j k a =

@@ -24,6 +24,7 @@ use Rattle.words.specs.Span.{First, Last}
 use Rattle.words.specs.Sum.{IsSum, sumOf, taken}
 use Rattle.words.specs.Word.{bit}
 
+-- a bound for any word
 below-pow : (w : ℕ) → w < 2 ^ w
 below-pow zero = omega arith
 below-pow (suc w) = omega (arith, below-pow w, pow-suc 2 w)
@@ -106,10 +107,12 @@ module _ (C : ℕ → Type 0) (zero-in : C 0) (closed : (a b : ℕ) → C a → 
 
 -- ---- the code of a matrix is closed under sums, and has the zero word
 
+-- the zero word
 pub code-zero : (kind : Kind) (n : ℕ) (rows : List ℕ) → InCode kind n rows 0
 code-zero G n rows = in-zero rows
 code-zero H n rows = record { below = pow-pos n; even = λ j k. parity-zero (getD rows j 0) }
 
+-- the sum of two codewords
 pub code-closed : (kind : Kind) (n : ℕ) (rows : List ℕ) (a b : ℕ) → InCode kind n rows a → InCode kind n rows b → InCode kind n rows (bitXor a b)
 code-closed G n rows a b x y = in-xor x y
 code-closed H n rows a b x y = record {

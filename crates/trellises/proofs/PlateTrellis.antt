@@ -34,10 +34,11 @@ use Rattle.words.specs.Sum.{IsSum}
 pub full-path-ends : (g : Graph) (n : ℕ) (C : ℕ → Type 0) → Spells g n C → (w : ℕ) (p : Path g n w) → (p .state 0 ≡ 0) × (p .state n ≡ 0)
 full-path-ends g n C s w p = (omega (arith, s .start, p .inside 0 zero-le), omega (arith, s .end, p .inside n (le-refl n)))
 
--- two codes with the same words: a graph spells both, and what is smallest for one is for the other
+-- two codes with the same words: a graph that spells one spells the other
 spells-same : (g : Graph) (n : ℕ) (C D : ℕ → Type 0) → ((w : ℕ) → C w ↔ D w) → Spells g n C → Spells g n D
 spells-same g n C D e s = record { start = s .start; end = s .end; exact = λ w. Iff·trans (Iff·symm (e w)) (s .exact w) }
 
+-- and one that is smallest for one is smallest for the other
 smallest-same : (g : Graph) (n : ℕ) (C D : ℕ → Type 0) → ((w : ℕ) → C w ↔ D w) → Smallest g n C → Smallest g n D
 smallest-same g n C D e s = record {
   spells = spells-same g n C D e (s .spells);
@@ -77,20 +78,23 @@ module _ (plate : Plate) (given : IsPrepared plate) where
   pub plate-path-ends : (w : ℕ) (p : Path (trellisOf plate) (plate .n) w) → (p .state 0 ≡ 0) × (p .state (plate .n) ≡ 0)
   plate-path-ends = full-path-ends (trellisOf plate) (plate .n) (IsSum (rowsOf plate)) plate-spells
 
-  -- depth t has 2 ^ s(t) states, and no graph for the code has fewer
+  -- depth t has 2 ^ s(t) states
   pub states-number : (t : ℕ) → trellisOf plate .states t ≡ 2 ^ liveAt (rowsOf plate) t
   states-number t = refl
 
+  -- and no graph for the code has fewer there
   pub states-minimal : (g : Graph) → Spells g (plate .n) (IsSum (rowsOf plate)) → (t : ℕ) → t ≤ plate .n → 2 ^ liveAt (rowsOf plate) t ≤ g .states t
   states-minimal g = states-bound g (plate .n) (rowsOf plate) _ _ plate-spans
 
-  -- section t has a branch for each choice among the active rows, all different, and no graph for the code has fewer
+  -- section t has a branch for each choice among the active rows
   pub branches-number : (t : ℕ) → length (trellisOf plate .branches t) ≡ 2 ^ activeAt (rowsOf plate) t
   branches-number = own-branches (plate .n) (rowsOf plate) _ _ plate-spans plate-fits
 
+  -- all different
   pub branches-different : (t : ℕ) → Different (trellisOf plate) t
   branches-different = branches-differ (rowsOf plate) _ _ plate-spans
 
+  -- and no graph for the code has fewer there, counting each once
   pub branches-minimal : (g : Graph) → Spells g (plate .n) (IsSum (rowsOf plate)) → (t : ℕ) → t < plate .n → (once : List Branch) → HasAll g t once
       → 2 ^ activeAt (rowsOf plate) t ≤ length once
   branches-minimal g = branches-bound g (plate .n) (rowsOf plate) _ _ plate-spans
@@ -100,6 +104,7 @@ module _ (plate : Plate) (given : IsPrepared plate) where
   branches-doubled t b =
       ap (λ (x : ℕ). 2 ^ x) (active-more (rowsOf plate) _ _ plate-spans t (b .row) (b .there) (b .here)) ∙ pow-succ' 2 (liveAt (rowsOf plate) t)
 
+  -- and just 2 ^ s(t) where none begins
   pub branches-single : (t : ℕ) → (Begins (rowsOf plate) t → ⊥) → 2 ^ activeAt (rowsOf plate) t ≡ 2 ^ liveAt (rowsOf plate) t
   branches-single t none =
       ap (λ (x : ℕ). 2 ^ x) (active-same (rowsOf plate) _ _ plate-spans t (λ j k e. none (record { row = j; there = k; here = e })))
@@ -123,6 +128,7 @@ matrix-smallest n kind rows r p e =
     (subst (λ (x : ℕ). Smallest (trellisOf (r .plate)) x (IsSum (rowsOf (r .plate)))) (accepted-length n kind rows r p e)
     (plate-smallest (r .plate) (accepted-prepared n kind rows r p e)))
 
+-- its full paths spell exactly the words of the matrix's code
 pub matrix-spells : (n : ℕ) (kind : Kind) (rows : List ℕ) (r : Prepared) → Prepares n kind rows r → r .verdict ≡ Accepted
     → Spells (trellisOf (r .plate)) n (InCode kind n rows)
 matrix-spells n kind rows r p e = matrix-smallest n kind rows r p e .spells

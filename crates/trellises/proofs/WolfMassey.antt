@@ -5,17 +5,21 @@ use lib.Dec.{ltb, ltb→lt, lt→ltb}
 use lib.ListN.{getD, length}
 use lib.Pow.{mod-pow-add, pow-pos}
 use mathlib.Core.List.{List}
-use mathlib.Core.Logic.{inl, inr, _↔_, _⊎_}
+use mathlib.Core.Logic.{Iff·symm, Iff·trans, inl, inr, _↔_, _⊎_}
 use mathlib.Core.Path.{ap, ap₂, refl, subst, sym, _∙_, _≡_}
 use native.Mathlib.Decide.{decLt}
 use native.Mathlib.Numerals.{add-one}
 use native.Mathlib.Omega.{arith}
 use Prim.Native.Nat.{_%_, _*_, _+_, _/_, _<_, _^_, suc, zero, ℕ, _≤_}
 use Rattle.plates.proofs.Live.{is-live, live-is}
-use Rattle.plates.specs.Code.{Checked}
+use Rattle.plates.specs.Code.{Checked, InCode}
+use Rattle.plates.specs.declared.Kind.{Kind}
 use Rattle.plates.specs.declared.Plate.{Plate}
-use Rattle.plates.specs.Prepare.{IsPrepared, rowsOf}
+use Rattle.plates.specs.declared.Prepared.{Prepared}
+use Rattle.plates.specs.declared.Verdict.the-variants.{Accepted}
+use Rattle.plates.specs.Prepare.{IsPrepared, Prepares, rowsOf}
 use Rattle.plates.specs.Profile.{live}
+use Rattle.trellises.proofs.AcceptedIsPrepared.{accepted-code, accepted-length, accepted-prepared}
 use Rattle.trellises.proofs.Gluing.{splice, splice-below, splice-high, splice-low}
 use Rattle.trellises.proofs.PathsOnce.{path-state}
 use Rattle.trellises.proofs.PlateTrellis.{plate-spans}
@@ -41,6 +45,7 @@ SameContinuations C t a b = (c : ℕ) → C (splice t a c) ↔ C (splice t b c)
 
 -- ---- sums of spliced words
 
+-- beginnings add up, and so do continuations
 splice-xor : (t a b c d : ℕ) → bitXor (splice t a c) (splice t b d) ≡ splice t (bitXor a b) (bitXor c d)
 splice-xor t a b c d = bit-ext _ _ (λ i. bit-xor i (splice t a c) (splice t b d) ∙ go i (decLt i t))
   where
@@ -50,6 +55,7 @@ splice-xor t a b c d = bit-ext _ _ (λ i. bit-xor i (splice t a c) (splice t b d
         let m : t ≤ i = omega arith in
         ap₂ differ (splice-high t a c i m) (splice-high t b d i m) ∙ sym (splice-high t (bitXor a b) (bitXor c d) i m ∙ bit-xor i c d)
 
+-- a word with its own continuation
 splice-self : (t a : ℕ) → splice t a a ≡ a
 splice-self t a = bit-ext _ _ (λ i. go i (decLt i t))
   where
@@ -188,3 +194,31 @@ module _ (plate : Plate) (given : IsPrepared plate) (a b : ℕ) (x : IsSum (rows
   pub plate-wolf : (checks : List ℕ) → ((w : ℕ) → IsSum (rowsOf plate) w ↔ Checked (plate .n) checks w) → (p .state t ≡ q .state t) ↔ SameSyndrome checks t a b
   plate-wolf checks same =
       meet (SameSyndrome checks t) (wolf (rowsOf plate) _ _ (plate-spans plate given) t (plate .n) checks same h (x .by) (y .by))
+
+-- ---- the same of the plate that preparing a matrix accepts
+
+module _ (n : ℕ) (kind : Kind) (rows : List ℕ) (r : Prepared) (p : Prepares n kind rows r) (e : r .verdict ≡ Accepted) (a b : ℕ)
+    (x : InCode kind n rows a) (y : InCode kind n rows b) where
+  -- the matrix's code is the plate's
+  code : (w : ℕ) → InCode kind n rows w ↔ IsSum (rowsOf (r .plate)) w
+  code = accepted-code n kind rows r p e
+
+  -- Massey
+  pub matrix-massey : (s : Path (trellisOf (r .plate)) n a) (q : Path (trellisOf (r .plate)) n b) (t : ℕ) → t ≤ n
+      → (s .state t ≡ q .state t) ↔ SameContinuations (InCode kind n rows) t a b
+  matrix-massey =
+      subst (λ (m : ℕ). (s : Path (trellisOf (r .plate)) m a) (q : Path (trellisOf (r .plate)) m b) (t : ℕ) → t ≤ m
+      → (s .state t ≡ q .state t) ↔ SameContinuations (InCode kind n rows) t a b) (accepted-length n kind rows r p e)
+      (λ s q t h. Iff·trans (plate-massey (r .plate) (accepted-prepared n kind rows r p e) a b (code a .0 x) (code b .0 y) s q t h) (
+        (λ c w. Iff·trans (code (splice t a w)) (Iff·trans (c w) (Iff·symm (code (splice t b w))))),
+        λ c w. Iff·trans (Iff·symm (code (splice t a w))) (Iff·trans (c w) (code (splice t b w))),
+      ))
+
+  -- Wolf: with any parity-check matrix of the code, as the matrix itself is where it was prepared as H
+  pub matrix-wolf : (checks : List ℕ) → ((w : ℕ) → InCode kind n rows w ↔ Checked n checks w)
+      → (s : Path (trellisOf (r .plate)) n a) (q : Path (trellisOf (r .plate)) n b) (t : ℕ) → t ≤ n → (s .state t ≡ q .state t) ↔ SameSyndrome checks t a b
+  matrix-wolf checks same =
+      subst (λ (m : ℕ). ((w : ℕ) → IsSum (rowsOf (r .plate)) w ↔ Checked m checks w) → (s : Path (trellisOf (r .plate)) m a)
+      (q : Path (trellisOf (r .plate)) m b) (t : ℕ) → t ≤ m → (s .state t ≡ q .state t) ↔ SameSyndrome checks t a b) (accepted-length n kind rows r p e)
+      (λ checked s q t h. plate-wolf (r .plate) (accepted-prepared n kind rows r p e) a b (code a .0 x) (code b .0 y) s q t h checks checked)
+      (λ w. Iff·trans (Iff·symm (code w)) (same w))

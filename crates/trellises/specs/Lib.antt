@@ -7,3 +7,4 @@ pub mod Following
 pub mod Smallest
 pub mod Beginnings
 pub mod RowsAmong
+pub mod Running

@@ -40,3 +40,12 @@ pub record Begins (rows : List ℕ) (t : ℕ) : Type 0 where
   pub row : ℕ
   pub there : row < length rows
   pub here : firsts rows row ≡ t
+
+-- A proper trellis: one state at depth 0, every state and every branch on some full path, and no two branches with the same initial state
+-- and bit
+pub record Proper (g : Graph) (n : ℕ) : Type 0 where
+  pub root : g .states 0 ≡ 1
+  pub state-used : (t s : ℕ) → t ≤ n → s < g .states t → (w : ℕ) × (p : Path g n w) × (p .state t ≡ s)
+  pub branch-used : (t i : ℕ) (h : t < n) → i < length (g .branches t) → (w : ℕ) × (p : Path g n w) × (p .branch t h .place ≡ i)
+  pub parted : (t i j : ℕ) → i < length (g .branches t) → j < length (g .branches t)
+      → branchAt g t i .from ≡ branchAt g t j .from → branchAt g t i .out ≡ branchAt g t j .out → i ≡ j
