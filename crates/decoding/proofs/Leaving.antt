@@ -1,79 +1,31 @@
--- The branches that leave a state: one, or two with different bits where a row begins; and which of them a state's choice is.
+-- Which of the branches that leave a state its choice is: one that beats every other.
 use borrow.Author.Tests.{eq-eqb, ne-eqb}
-use lib.Bits.{bitXor, differ, xor-shifted}
 use lib.Dec.{eqb}
 use lib.IntN.{ℤ}
 use mathlib.Core.Bool.{_&&_, Bool, cond, false, not, true, true≢false}
 use mathlib.Core.Logic.{inl, inr, _⊎_}
 use mathlib.Core.Path.{ap, ap₂, refl, subst, sym, _∙_, _≡_}
-use native.Mathlib.Decide.{decLt}
-use native.Mathlib.Nat.{add-mod-right, mod-eq-of-lt, mod-eq-sub-mod}
 use native.Mathlib.Omega.{arith}
-use Prim.Native.Nat.{_*_, _+_, _-_, _<_, _^_, suc, zero, ℕ}
+use Prim.Native.Nat.{_+_, _<_, _^_, ℕ}
 use Rattle.decoding.proofs.StateChoice.{Beats, kept-beats, preferred-beats}
 use Rattle.decoding.specs.Backward.{branchBy}
 use Rattle.decoding.specs.Stepping.{SectionFits}
 use Rattle.decoding.specs.Taking.{added, atState, preferred, taking, takingAlso}
+use Rattle.trellises.proofs.SectionBranches.{below-high, below-low, leaves-high, leaves-low, leaving-is, other-bit}
 use Rattle.trellises.specs.declared.Section.{Section}
 use Rattle.trellises.specs.Numbers.{bitOf, branchCount, leaves}
-use Rattle.words.proofs.Parity.{parity-power, parity-xor}
-use Rattle.words.specs.Parity.{parity}
 
 module _ (c : Section) (fits : SectionFits c) (i : ℕ) (h : i < 2 ^ c .live) where
   -- the branch that takes the beginning row
   abbrev also : ℕ
   also = i + 2 ^ c .live
 
-  differ-one : (d : ℕ) → d < 2 → differ 1 d ≡ d → ⊥
-  differ-one zero k e = omega arith
-  differ-one (suc zero) k e = omega arith
-  differ-one (suc (suc d)) k e = absurd (omega arith)
-
   -- a row that begins has a one here, so the two branches have different bits
   pub two-bits : c .begins ≡ true → bitOf c also ≡ bitOf c i → ⊥
-  two-bits b e =
-      let s : i + 2 ^ c .live ≡ bitXor (1 * 2 ^ c .live) i = sym (xor-shifted 1 (c .live) i h ∙ sum) in
-      let o : 1 * 2 ^ c .live ≡ 2 ^ c .live = omega arith in
-      let p : parity also (c .column) ≡ differ 1 (parity i (c .column)) =
-      ap (λ (x : ℕ). parity x (c .column)) s ∙ parity-xor (1 * 2 ^ c .live) i (c .column)
-      ∙ ap (λ (x : ℕ). differ x (parity i (c .column)))
-      (ap (λ (x : ℕ). parity x (c .column)) o ∙ parity-power (c .live) (c .column) ∙ fits .begun b) in
-      differ-one (parity i (c .column)) (omega arith) (sym p ∙ e)
-    where
-      sum : 1 * 2 ^ c .live + i ≡ i + 2 ^ c .live
-      sum = omega arith
+  two-bits b e = omega (arith, other-bit c i h (fits .begun b), e)
 
   pub bit-two : (x : ℕ) → bitOf c x < 2
   bit-two x = omega arith
-
-  -- ---- which branches there are
-
-  some : (b : Bool) → i < cond b (2 ^ c .live + 2 ^ c .live) (2 ^ c .live)
-  some true = omega arith
-  some false = h
-
-  pub leaves-self : leaves c i ≡ i
-  leaves-self = mod-eq-of-lt h
-
-  pub leaves-also : leaves c also ≡ i
-  leaves-also = add-mod-right i (2 ^ c .live) ∙ mod-eq-of-lt h
-
-  -- a branch that leaves i is i, or where a row begins i + 2 ^ s
-  pub leaving : (x : ℕ) → x < branchCount c → leaves c x ≡ i → (x ≡ i) ⊎ ((c .begins ≡ true) × (x ≡ also))
-  leaving x k e = go (c .begins) refl k
-    where
-      low : x < 2 ^ c .live → x ≡ i
-      low l = sym (mod-eq-of-lt l) ∙ e
-
-      high : Dec (x < 2 ^ c .live) → x < 2 ^ c .live + 2 ^ c .live → c .begins ≡ true → (x ≡ i) ⊎ ((c .begins ≡ true) × (x ≡ also))
-      high (yes l) m b = inl (low l)
-      high (no l) m b =
-          let d : x - 2 ^ c .live ≡ i = sym (mod-eq-of-lt (omega arith)) ∙ sym (mod-eq-sub-mod (omega arith)) ∙ e in
-          inr (b, omega (arith, d))
-
-      go : (b : Bool) → c .begins ≡ b → x < cond b (2 ^ c .live + 2 ^ c .live) (2 ^ c .live) → (x ≡ i) ⊎ ((c .begins ≡ true) × (x ≡ also))
-      go true b m = high (decLt x (2 ^ c .live)) m b
-      go false b m = inl (low m)
 
   -- ---- what the state chooses
 
@@ -103,12 +55,12 @@ module _ (c : Section) (fits : SectionFits c) (i : ℕ) (h : i < 2 ^ c .live) wh
 
     one-branch : c .begins ≡ false → BestBranch i
     one-branch b = record {
-      below = some (c .begins);
-      leaves-i = leaves-self;
+      below = below-low c i h;
+      leaves-i = leaves-low c i h;
       metric = ap (λ (t : Bool). (cond t (takingAlso c y old (taking c y old i) also) (taking c y old i)) .metric) b;
       bit-is = ap (λ (t : Bool). (cond t (takingAlso c y old (taking c y old i) also) (taking c y old i)) .bit) b;
       by = by-self;
-      beats = λ x k e. only x (leaving x k e);
+      beats = λ x k e. only x (leaving-is c i h x k e);
     }
       where
         only : (x : ℕ) → (x ≡ i) ⊎ ((c .begins ≡ true) × (x ≡ also)) → (x ≡ i) ⊎ Beats (added c y old i) (bitOf c i) (added c y old x) (bitOf c x)
@@ -119,12 +71,12 @@ module _ (c : Section) (fits : SectionFits c) (i : ℕ) (h : i < 2 ^ c .live) wh
     two-branches b true e = (
       also,
       record {
-        below = subst (λ (t : Bool). also < cond t (2 ^ c .live + 2 ^ c .live) (2 ^ c .live)) (sym b) (omega arith);
-        leaves-i = leaves-also;
+        below = below-high c i h b;
+        leaves-i = leaves-high c i h;
         metric = ap (λ (t : Bool). (cond t (takingAlso c y old (taking c y old i) also) (taking c y old i)) .metric) b ∙ ap (λ (t : Bool). cond t (added c y old also) (added c y old i)) e;
         bit-is = ap (λ (t : Bool). (cond t (takingAlso c y old (taking c y old i) also) (taking c y old i)) .bit) b ∙ ap (λ (t : Bool). cond t (bitOf c also) (bitOf c i)) e;
         by = by-also b;
-        beats = λ x k l. other x (leaving x k l);
+        beats = λ x k l. other x (leaving-is c i h x k l);
       },
     )
       where
@@ -137,12 +89,12 @@ module _ (c : Section) (fits : SectionFits c) (i : ℕ) (h : i < 2 ^ c .live) wh
     two-branches b false e = (
       i,
       record {
-        below = some (c .begins);
-        leaves-i = leaves-self;
+        below = below-low c i h;
+        leaves-i = leaves-low c i h;
         metric = ap (λ (t : Bool). (cond t (takingAlso c y old (taking c y old i) also) (taking c y old i)) .metric) b ∙ ap (λ (t : Bool). cond t (added c y old also) (added c y old i)) e;
         bit-is = ap (λ (t : Bool). (cond t (takingAlso c y old (taking c y old i) also) (taking c y old i)) .bit) b ∙ ap (λ (t : Bool). cond t (bitOf c also) (bitOf c i)) e;
         by = by-self;
-        beats = λ x k l. other x (leaving x k l);
+        beats = λ x k l. other x (leaving-is c i h x k l);
       },
     )
       where
