@@ -14,7 +14,7 @@ use Rattle.plates.proofs.TableFilled.{units-words}
 use Rattle.plates.specs.declared.Kind.{Kind}
 use Rattle.plates.specs.declared.Kind.the-variants.{H}
 use Rattle.plates.specs.Filling.{Filled, Holds, Passing, PassingOne, unit}
-use Rattle.plates.specs.Working.{FirstWhere, Gained, Odd, Table}
+use Rattle.plates.specs.Working.{FirstWhere, Gained, GainedRow, Odd, Table}
 use Rattle.words.proofs.Parity.{parity-comm, parity-xor, parity-zero}
 use Rattle.words.proofs.Span.{lt-tri}
 use Rattle.words.proofs.Sums.{in-row, in-xor}
@@ -46,7 +46,7 @@ module _ {t u v : List ℕ} {n check p : ℕ} (s : Table t n n) (f : FirstWhere 
   row : (m : ℕ) → Row m
   row m = go (lt-tri m p) (decLt m n)
     where
-      later : p < m → (Odd check (getD t m 0) × (getD u m 0 ≡ bitXor (getD t m 0) (getD t p 0))) ⊎ ((Odd check (getD t m 0) → ⊥) × (getD u m 0 ≡ getD t m 0)) → Row m
+      later : p < m → GainedRow (Odd check) (getD t m 0) (getD t p 0) (getD u m 0) → Row m
       later b (inl q) = inr (q .0 .odd, other m (λ z. omega arith) ∙ q .1)
       later b (inr q) = inl (not-odd (q .0), other m (λ z. omega arith) ∙ q .1)
 

@@ -1,9 +1,9 @@
 -- Column by column from the left: the first ones of the rows rise, and what is left over is zero.
-use lib.Bits.{bitXor, differ}
+use lib.Bits.{differ}
 use lib.ListN.{getD, length, length-set, set}
 use lib.Pow.{pow-mono}
 use mathlib.Core.List.{List}
-use mathlib.Core.Logic.{inl, inr, _≢_, _⊎_}
+use mathlib.Core.Logic.{inl, inr, _≢_}
 use mathlib.Core.Path.{ap, ap₂, subst, sym, _∙_, _≡_}
 use native.Mathlib.Decide.{decLt, ℕ-discrete}
 use native.Mathlib.Nat.{lt-of-lt-of-le}
@@ -11,7 +11,7 @@ use native.Mathlib.Omega.{arith}
 use Prim.Native.Nat.{_+_, _<_, _^_, zero-le, ℕ, _≤_}
 use Rattle.plates.proofs.Gaining.{narrow-same, not-odd, same-of, same-refl, same-trans}
 use Rattle.plates.specs.Reducing.{BasisFrom, Echelon, EchelonFrom}
-use Rattle.plates.specs.Working.{FirstWhere, Gained, Odd, SameSums, Table}
+use Rattle.plates.specs.Working.{FirstWhere, Gained, GainedRow, Odd, SameSums, Table}
 use Rattle.words.proofs.Ends.{first-at}
 use Rattle.words.proofs.Parity.{parity-power}
 use Rattle.words.proofs.Rows.{same-swap, swap-i, swap-other, swap-rows}
@@ -103,7 +103,7 @@ module _ {t v : List ℕ} {used k c m p : ℕ} (e : m ≡ 2 ^ c) (s : Echelon t 
         low : (q : ℕ) → q < c → bit (getD v i 0) q ≡ 0
         low = swapped-rest i (omega arith)
 
-        go : (Odd m (getD v i 0) × (getD u i 0 ≡ bitXor (getD v i 0) (getD v k 0))) ⊎ ((Odd m (getD v i 0) → ⊥) × (getD u i 0 ≡ getD v i 0)) → (q : ℕ) → q < c + 1 → bit (getD u i 0) q ≡ 0
+        go : GainedRow (Odd m) (getD v i 0) (getD v k 0) (getD u i 0) → (q : ℕ) → q < c + 1 → bit (getD u i 0) q ≡ 0
         go (inl w) =
             one-more (getD u i 0) c
             (λ q b. ap (λ (x : ℕ). bit x q) (w .1) ∙ bit-xor q (getD v i 0) (getD v k 0) ∙ ap₂ differ (low q b) (swapped-rest k (omega arith) q b))

@@ -8,7 +8,7 @@ use mathlib.Core.Path.{ap, refl, subst, sym, _∙_, _≡_}
 use native.Mathlib.Decide.{decLt, ℕ-discrete}
 use native.Mathlib.Omega.{arith}
 use Prim.Native.Nat.{_+_, _<_, _^_, suc, zero, ℕ, _≤_}
-use Rattle.plates.specs.Working.{Gained, Odd, SameSums, Tells, gainRow}
+use Rattle.plates.specs.Working.{Gained, GainedRow, Odd, SameSums, Tells, gainRow}
 use Rattle.words.proofs.Rows.{same-code}
 use Rattle.words.proofs.Sums.{all-zero, in-row}
 use Rattle.words.proofs.Word.{below-bits, bits-below, digit}
@@ -59,7 +59,7 @@ gained-row {P} t i p d hi ne tells = go (tells .digit)
           size = refl;
           same = same-refl;
           others = λ m h. refl;
-          rows = only (λ m. (P (getD t m 0) × (getD t m 0 ≡ bitXor (getD t m 0) (getD t p 0))) ⊎ ((P (getD t m 0) → ⊥) × (getD t m 0 ≡ getD t m 0))) i (inr (tells .no-is e, refl));
+          rows = only (λ m. GainedRow P (getD t m 0) (getD t p 0) (getD t m 0)) i (inr (tells .no-is e, refl));
         })
     go (inr e) =
         subst (λ (x : List ℕ). Gained t x P i (i + 1) p) (sym (gains t i p d e))
@@ -67,7 +67,7 @@ gained-row {P} t i p d hi ne tells = go (tells .digit)
           size = length-set t i (bitXor (getD t i 0) (getD t p 0));
           same = same-of (same-code t i p ne);
           others = λ m h. getD-set-other t i m (bitXor (getD t i 0) (getD t p 0)) 0 (apart i m h);
-          rows = only (λ m. (P (getD t m 0) × (getD (addRow t i p) m 0 ≡ bitXor (getD t m 0) (getD t p 0))) ⊎ ((P (getD t m 0) → ⊥) × (getD (addRow t i p) m 0 ≡ getD t m 0)))
+          rows = only (λ m. GainedRow P (getD t m 0) (getD t p 0) (getD (addRow t i p) m 0))
               i (inl (tells .yes-is e, getD-set-same t i (bitXor (getD t i 0) (getD t p 0)) 0 hi));
         })
 
@@ -96,15 +96,12 @@ gained-on {t} {u} {v} {P} {a} {j} {p} outside h g s = record {
     pivot (inl k) = g .others p (inl k)
     pivot (inr k) = g .others p (inr (omega arith))
 
-    Row : ℕ → ℕ → ℕ → Type 0
-    Row x y z = (P x × (z ≡ bitXor x y)) ⊎ ((P x → ⊥) × (z ≡ x))
-
-    at : (m : ℕ) → a ≤ m → m < j + 1 → Dec (m ≡ j) → Row (getD t m 0) (getD t p 0) (getD v m 0)
-    at m k l (no d) = subst (Row (getD t m 0) (getD t p 0)) (sym (s .others m (inl (omega arith)))) (g .rows m k (omega arith))
+    at : (m : ℕ) → a ≤ m → m < j + 1 → Dec (m ≡ j) → GainedRow P (getD t m 0) (getD t p 0) (getD v m 0)
+    at m k l (no d) = subst (GainedRow P (getD t m 0) (getD t p 0)) (sym (s .others m (inl (omega arith)))) (g .rows m k (omega arith))
     at m k l (yes e) =
-        subst (λ (x : ℕ). Row (getD t x 0) (getD t p 0) (getD v x 0)) (sym e)
-        (subst (λ (x : ℕ). Row x (getD t p 0) (getD v j 0)) (g .others j (inr (omega arith)))
-        (subst (λ (y : ℕ). Row (getD u j 0) y (getD v j 0)) (pivot outside) (s .rows j (omega arith) (omega arith))))
+        subst (λ (x : ℕ). GainedRow P (getD t x 0) (getD t p 0) (getD v x 0)) (sym e)
+        (subst (λ (x : ℕ). GainedRow P x (getD t p 0) (getD v j 0)) (g .others j (inr (omega arith)))
+        (subst (λ (y : ℕ). GainedRow P (getD u j 0) y (getD v j 0)) (pivot outside) (s .rows j (omega arith) (omega arith))))
 
 pub gained-end : {t u : List ℕ} {P : ℕ → Type 0} {a b i p : ℕ} → i ≤ b → b ≤ i → Gained t u P a i p → Gained t u P a b p
 gained-end {t} {u} {P} {a} {b} {i} {p} h k g = let e : i ≡ b = omega arith in subst (λ (x : ℕ). Gained t u P a x p) e g
@@ -130,17 +127,18 @@ not-odd {check} {w} n = go (digit (parity check w) (omega arith))
     go (inl e) = e
     go (inr e) = absurd (n (record { odd = e }))
 
--- a row is as it was, or had P and gained row p
-pub gained-cases : {t u : List ℕ} {P : ℕ → Type 0} {a b p : ℕ} → Gained t u P a b p → (m : ℕ)
-    → (getD u m 0 ≡ getD t m 0) ⊎ (P (getD t m 0) × (m < b) × (getD u m 0 ≡ bitXor (getD t m 0) (getD t p 0)))
+-- row m, which was x and is z, is as it was; or it had P, stands before b, and gained y
+abbrev pub KeptOrGained : (ℕ → Type 0) → ℕ → ℕ → ℕ → ℕ → ℕ → Type 0
+KeptOrGained P b m x y z = (z ≡ x) ⊎ (P x × (m < b) × (z ≡ bitXor x y))
+
+pub gained-cases : {t u : List ℕ} {P : ℕ → Type 0} {a b p : ℕ} → Gained t u P a b p → (m : ℕ) → KeptOrGained P b m (getD t m 0) (getD t p 0) (getD u m 0)
 gained-cases {t} {u} {P} {a} {b} {p} g m = go (decLt m a) (decLt m b)
   where
-    inside : m < b → (P (getD t m 0) × (getD u m 0 ≡ bitXor (getD t m 0) (getD t p 0))) ⊎ ((P (getD t m 0) → ⊥) × (getD u m 0 ≡ getD t m 0))
-        → (getD u m 0 ≡ getD t m 0) ⊎ (P (getD t m 0) × (m < b) × (getD u m 0 ≡ bitXor (getD t m 0) (getD t p 0)))
+    inside : m < b → GainedRow P (getD t m 0) (getD t p 0) (getD u m 0) → KeptOrGained P b m (getD t m 0) (getD t p 0) (getD u m 0)
     inside h (inl q) = inr (q .0, h, q .1)
     inside h (inr q) = inl (q .1)
 
-    go : Dec (m < a) → Dec (m < b) → (getD u m 0 ≡ getD t m 0) ⊎ (P (getD t m 0) × (m < b) × (getD u m 0 ≡ bitXor (getD t m 0) (getD t p 0)))
+    go : Dec (m < a) → Dec (m < b) → KeptOrGained P b m (getD t m 0) (getD t p 0) (getD u m 0)
     go (yes h) d = inl (g .others m (inl h))
     go (no h) (yes k) = inside k (g .rows m (omega arith) k)
     go (no h) (no k) = inl (g .others m (inr (omega arith)))

@@ -1,5 +1,4 @@
 -- Row by row: where a row inside begins the rows around it get 0, and their first and last ones stay.
-use lib.Bits.{bitXor}
 use lib.ListN.{getD, length, take}
 use lib.Seq.{getD-take, length-take-le}
 use mathlib.Core.List.{List}
@@ -8,11 +7,11 @@ use mathlib.Core.Path.{ap, ap₂, refl, subst, sym, _∙_, _≡_}
 use native.Mathlib.Decide.{ℕ-discrete}
 use native.Mathlib.Omega.{arith}
 use Prim.Native.Nat.{_+_, _<_, _^_, zero-le, ℕ, _≤_}
-use Rattle.plates.proofs.Gaining.{gained-cases, narrow-same, same-refl, same-trans}
+use Rattle.plates.proofs.Gaining.{KeptOrGained, gained-cases, narrow-same, same-refl, same-trans}
 use Rattle.plates.proofs.LastOnesParted.{basis-kept, firsts-kept, last-of}
 use Rattle.plates.specs.Reduced.{Reduced}
 use Rattle.plates.specs.Reducing.{Basis, BasisFrom, Cleared, ClearedFrom, Covers, Parted, PartedFrom, ReducedFrom}
-use Rattle.plates.specs.Working.{Gained, SameSums, Table, Tells}
+use Rattle.plates.specs.Working.{Gained, GainedRow, SameSums, Table, Tells}
 use Rattle.words.proofs.Ends.{last-at, last-one-is, some-pos}
 use Rattle.words.proofs.Span.{lt-tri, zero-one}
 use Rattle.words.proofs.Steps.{clears, keeps-below, keeps-last}
@@ -47,7 +46,7 @@ module _ {t u : List ℕ} {k j : ℕ} (s : Basis t k) (h : j < k) (g : Gained t 
   same-last : (i : ℕ) → i < k → lasts u i ≡ lasts t i
   same-last i l = go (gained-cases g i)
     where
-      go : (getD u i 0 ≡ getD t i 0) ⊎ (Covers (firsts t j) (lasts t j) (getD t i 0) × (i < j) × (getD u i 0 ≡ bitXor (getD t i 0) (getD t j 0))) → lasts u i ≡ lasts t i
+      go : KeptOrGained (Covers (firsts t j) (lasts t j)) j i (getD t i 0) (getD t j 0) (getD u i 0) → lasts u i ≡ lasts t i
       go (inl e) = ap last e
       go (inr q) = last-at (after .table .narrow i) (subst (λ (x : ℕ). Last x (lasts t i)) (sym (q .2)) (keeps-last (last-of s i l) (last-of s j h) (q .0 .ends)))
 
@@ -55,7 +54,7 @@ module _ {t u : List ℕ} {k j : ℕ} (s : Basis t k) (h : j < k) (g : Gained t 
   bit-before : (i q : ℕ) → q < firsts t j → bit (getD u i 0) q ≡ bit (getD t i 0) q
   bit-before i q l = go (gained-cases g i)
     where
-      go : (getD u i 0 ≡ getD t i 0) ⊎ (Covers (firsts t j) (lasts t j) (getD t i 0) × (i < j) × (getD u i 0 ≡ bitXor (getD t i 0) (getD t j 0))) → bit (getD u i 0) q ≡ bit (getD t i 0) q
+      go : KeptOrGained (Covers (firsts t j) (lasts t j)) j i (getD t i 0) (getD t j 0) (getD u i 0) → bit (getD u i 0) q ≡ bit (getD t i 0) q
       go (inl e) = ap (λ (x : ℕ). bit x q) e
       go (inr w) = ap (λ (x : ℕ). bit x q) (w .2) ∙ keeps-below (getD t i 0) (getD t j 0) (firsts t j) q (s .begins j h) l
 
@@ -63,7 +62,7 @@ module _ {t u : List ℕ} {k j : ℕ} (s : Basis t k) (h : j < k) (g : Gained t 
   bit-there : (i : ℕ) → i < j → lasts t j < lasts t i → bit (getD u i 0) (firsts t j) ≡ 0
   bit-there i l b = go (g .rows i zero-le l) (bit-cases (getD t i 0) (firsts t j))
     where
-      go : (Covers (firsts t j) (lasts t j) (getD t i 0) × (getD u i 0 ≡ bitXor (getD t i 0) (getD t j 0))) ⊎ ((Covers (firsts t j) (lasts t j) (getD t i 0) → ⊥) × (getD u i 0 ≡ getD t i 0))
+      go : GainedRow (Covers (firsts t j) (lasts t j)) (getD t i 0) (getD t j 0) (getD u i 0)
           → (bit (getD t i 0) (firsts t j) ≡ 0) ⊎ (bit (getD t i 0) (firsts t j) ≡ 1) → bit (getD u i 0) (firsts t j) ≡ 0
       go (inl w) z = ap (λ (x : ℕ). bit x (firsts t j)) (w .1) ∙ clears (getD t i 0) (getD t j 0) (firsts t j) (s .begins j h) (w .0 .one)
       go (inr w) (inl z) = ap (λ (x : ℕ). bit x (firsts t j)) (w .1) ∙ z

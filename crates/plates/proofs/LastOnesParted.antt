@@ -1,5 +1,4 @@
 -- Rows that gain a later row keep their first ones; and column by column from the right the last ones are made to differ.
-use lib.Bits.{bitXor}
 use lib.ListN.{getD, length}
 use mathlib.Core.List.{List}
 use mathlib.Core.Logic.{inl, inr, _⊎_}
@@ -8,9 +7,9 @@ use native.Mathlib.Decide.{decLt, ℕ-discrete}
 use native.Mathlib.Nat.{eq-zero-or-pos}
 use native.Mathlib.Omega.{arith}
 use Prim.Native.Nat.{_+_, _-_, _<_, _^_, zero-le, ℕ, _≤_}
-use Rattle.plates.proofs.Gaining.{gained-cases, narrow-same, same-refl, same-trans}
+use Rattle.plates.proofs.Gaining.{KeptOrGained, gained-cases, narrow-same, same-refl, same-trans}
 use Rattle.plates.specs.Reducing.{Basis, Parted, PartedFrom}
-use Rattle.plates.specs.Working.{EndsAt, Gained, LastWhere, Tells}
+use Rattle.plates.specs.Working.{EndsAt, Gained, GainedRow, LastWhere, Tells}
 use Rattle.words.proofs.Ends.{first-at, last-is, some-pos}
 use Rattle.words.proofs.Span.{last-unique, lt-tri, zero-one}
 use Rattle.words.proofs.Steps.{keeps-first, last-falls}
@@ -35,7 +34,7 @@ module _ {t u : List ℕ} {P : ℕ → Type 0} {a b p k : ℕ} (s : Basis t k) (
   kept-first : (i : ℕ) → i < k → First (getD u i 0) (firsts t i)
   kept-first i h = go (gained-cases g i)
     where
-      go : (getD u i 0 ≡ getD t i 0) ⊎ (P (getD t i 0) × (i < b) × (getD u i 0 ≡ bitXor (getD t i 0) (getD t p 0))) → First (getD u i 0) (firsts t i)
+      go : KeptOrGained P b i (getD t i 0) (getD t p 0) (getD u i 0) → First (getD u i 0) (firsts t i)
       go (inl e) = subst (λ (x : ℕ). First x (firsts t i)) (sym e) (s .begins i h)
       go (inr q) = subst (λ (x : ℕ). First x (firsts t i)) (sym (q .2)) (keeps-first (s .begins i h) (s .begins p hp) (s .rising i p (omega (arith, q .1)) hp))
 
@@ -79,7 +78,7 @@ module _ {t u : List ℕ} {k c p : ℕ} (s : Basis t k) (q : Parted t k (c + 1))
   row : (i : ℕ) → i < k → Row i
   row i l = go (lt-tri i p)
     where
-      before : i < p → (EndsAt c (getD t i 0) × (getD u i 0 ≡ bitXor (getD t i 0) (getD t p 0))) ⊎ ((EndsAt c (getD t i 0) → ⊥) × (getD u i 0 ≡ getD t i 0)) → Row i
+      before : i < p → GainedRow (EndsAt c) (getD t i 0) (getD t p 0) (getD u i 0) → Row i
       before b (inl w) = inl (last-falls (getD t i 0) (getD t p 0) c (lasts u i) (w .0) (f .here h) (subst (λ (x : ℕ). Last x (lasts u i)) (w .1) (last-of after i l)))
       before b (inr w) = inr (ap last (w .1), λ e. absurd (w .0 (ends-there s i l e)))
 

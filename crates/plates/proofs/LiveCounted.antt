@@ -47,12 +47,15 @@ count-le (suc k) P = go (P 0) (count-le k (λ j. P (suc j)))
     go true h = suc-le-suc h
     go false h = omega arith
 
+both : (a b : Bool) (m n : ℕ) → more a m + more b n ≡ more a 0 + more b 0 + (m + n)
+both a b m n = omega (arith, more-add a m, more-add b n)
+
 -- two tests pass as often as two others, at each place and so in all
 four : (k : ℕ) (P Q R S : ℕ → Bool) → ((j : ℕ) → j < k → more (P j) 0 + more (Q j) 0 ≡ more (R j) 0 + more (S j) 0) → count k P + count k Q ≡ count k R + count k S
 four zero P Q R S h = refl
 four (suc k) P Q R S h =
     let ih = four k (λ j. P (suc j)) (λ j. Q (suc j)) (λ j. R (suc j)) (λ j. S (suc j)) (λ j l. h (suc j) (suc-le-suc l)) in
-    omega (arith, h 0 (suc-le-suc zero-le), more-add (P 0) (count k (λ j. P (suc j))), more-add (Q 0) (count k (λ j. Q (suc j))), more-add (R 0) (count k (λ j. R (suc j))), more-add (S 0) (count k (λ j. S (suc j))))
+    omega (arith, h 0 (suc-le-suc zero-le), both (P 0) (Q 0) (count k (λ j. P (suc j))) (count k (λ j. Q (suc j))), both (R 0) (S 0) (count k (λ j. R (suc j))) (count k (λ j. S (suc j))))
 
 -- ---- from depth to depth
 
@@ -89,7 +92,11 @@ pub marks-none : {f : ℕ → ℕ} → Marks f 0 0
 marks-none = record { at = bit-zero }
 
 pub marks-on : {f : ℕ → ℕ} {j m r w : ℕ} → ((i : ℕ) → i < j → f i ≡ f j → ⊥) → r ≡ f j → w ≡ 2 ^ r → Marks f j m → Marks f (j + 1) (bitXor m w)
-marks-on {f} {j} {m} {r} {w} fresh e q s = record { at = λ p. bit-xor p m w ∙ ap (differ (bit m p)) (ap (λ (x : ℕ). bit x p) (q ∙ ap (λ (x : ℕ). 2 ^ x) e)) ∙ here p (ℕ-discrete (f j) p) ∙ sym (ap (λ (x : ℕ). count x (λ i. eqb (f i) p)) (add-one j) ∙ count-last j (λ i. eqb (f i) p)) }
+marks-on {f} {j} {m} {r} {w} fresh e q s = record {
+  at = λ p.
+      bit-xor p m w ∙ ap (λ (x : ℕ). differ (bit m p) (bit x p)) (q ∙ ap (λ (x : ℕ). 2 ^ x) e) ∙ here p (ℕ-discrete (f j) p)
+      ∙ sym (ap (λ (x : ℕ). count x (λ i. eqb (f i) p)) (add-one j) ∙ count-last j (λ i. eqb (f i) p));
+}
   where
     clean : count j (λ i. eqb (f i) (f j)) ≡ 0
     clean = count-none j (λ i. eqb (f i) (f j)) (λ i l x. fresh i l (eqb→eq (f i) (f j) x))
@@ -97,7 +104,9 @@ marks-on {f} {j} {m} {r} {w} fresh e q s = record { at = λ p. bit-xor p m w ∙
     here : (p : ℕ) → Dec (f j ≡ p) → differ (bit m p) (bit (2 ^ f j) p) ≡ more (eqb (f j) p) (count j (λ i. eqb (f i) p))
     here p (yes z) = subst (λ (x : ℕ). differ (bit m x) (bit (2 ^ f j) x) ≡ more (eqb (f j) x) (count j (λ i. eqb (f i) x))) z
         (ap₂ differ (s .at (f j) ∙ clean) (pow-here (f j)) ∙ sym (ap₂ more (eq-eqb (f j) (f j) refl) clean))
-    here p (no z) = ap (differ (bit m p)) (pow-other (f j) p z) ∙ differ-zero (bit m p) ∙ s .at p ∙ sym (ap (λ (b : Bool). more b (count j (λ i. eqb (f i) p))) (ne-eqb (f j) p z))
+    here p (no z) =
+        ap (differ (bit m p)) (pow-other (f j) p z) ∙ differ-zero (bit m p) ∙ s .at p
+        ∙ sym (ap (λ (b : Bool). more b (count j (λ i. eqb (f i) p))) (ne-eqb (f j) p z))
 
 pub marks-end : {f : ℕ → ℕ} {i k m : ℕ} → i ≤ k → k ≤ i → Marks f i m → Marks f k m
 marks-end {f} {i} {k} {m} h b s = let e : i ≡ k = omega arith in subst (λ (x : ℕ). Marks f x m) e s

@@ -81,7 +81,7 @@ module _ {t : List ℕ} {n k : ℕ} (s : PlateRows t n k) where
   -- one depth further
   pub live-next : (d : ℕ) {h e : ℕ} → Marks (firsts t) k h → Marks (lasts t) k e
       → count k (live (firsts t) (lasts t) (suc d)) + bit e d ≡ count k (live (firsts t) (lasts t) d) + bit h d
-  live-next d {h} {e} mh me = ap (λ (x : ℕ). count k (live (firsts t) (lasts t) (suc d)) + x) (me .at d) ∙ live-step k (firsts t) (lasts t) begin-end d ∙ ap (λ (x : ℕ). count k (live (firsts t) (lasts t) d) + x) (sym (mh .at d))
+  live-next d {h} {e} mh me = omega (arith, me .at d, live-step k (firsts t) (lasts t) begin-end d, mh .at d)
 
   -- so the marks count the live rows
   runs-live : {h e : ℕ} → Marks (firsts t) k h → Marks (lasts t) k e → (d : ℕ) → runs h e d ≡ count k (live (firsts t) (lasts t) d)

@@ -20,6 +20,7 @@ pub record Echelon (t : List ℕ) (used k c : ℕ) : Type 0 where
   pub rising : (i j : ℕ) → i < j → j < k → firsts t i < firsts t j
   pub rest : (i p : ℕ) → k ≤ i → p < c → bit (getD t i 0) p ≡ 0
 
+-- u is such a table, with the sums of t
 pub record EchelonFrom (t u : List ℕ) (used k c : ℕ) : Type 0 where
   pub same : SameSums t u
   pub shape : Echelon u used k c
@@ -30,6 +31,7 @@ pub record Basis (t : List ℕ) (k : ℕ) : Type 0 where
   pub begins : (i : ℕ) → i < k → First (getD t i 0) (firsts t i)
   pub rising : (i j : ℕ) → i < j → j < k → firsts t i < firsts t j
 
+-- u is such a table, with the sums of t
 pub record BasisFrom (t u : List ℕ) (k : ℕ) : Type 0 where
   pub same : SameSums t u
   pub basis : Basis u k
@@ -40,6 +42,7 @@ pub record BasisFrom (t u : List ℕ) (k : ℕ) : Type 0 where
 abbrev pub Parted : List ℕ → ℕ → ℕ → Type 0
 Parted t k c = (i j : ℕ) → i < j → j < k → lasts t i ≡ lasts t j → lasts t i < c
 
+-- u is a basis whose last ones at c or after differ, with the sums of t
 pub record PartedFrom (t u : List ℕ) (k c : ℕ) : Type 0 where
   pub same : SameSums t u
   pub basis : Basis u k
@@ -56,6 +59,7 @@ pub record Covers (f l w : ℕ) : Type 0 where
 abbrev pub Cleared : List ℕ → ℕ → Type 0
 Cleared t j = (i m : ℕ) → i < m → m < j → lasts t m < lasts t i → bit (getD t i 0) (firsts t m) ≡ 0
 
+-- u is a basis with different last ones, clear of the rows before row j, with the sums of t
 pub record ClearedFrom (t u : List ℕ) (k j : ℕ) : Type 0 where
   pub same : SameSums t u
   pub basis : Basis u k
@@ -69,6 +73,7 @@ pub record PlateRows (t : List ℕ) (n k : ℕ) : Type 0 where
   pub table : Table t n k
   pub reduced : Reduced (take k t) (firsts (take k t)) (lasts (take k t))
 
+-- u is such a table, with the sums of t
 pub record ReducedFrom (t u : List ℕ) (n k : ℕ) : Type 0 where
   pub same : SameSums t u
   pub rows : PlateRows u n k

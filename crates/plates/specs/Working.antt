@@ -66,10 +66,13 @@ pub record Tells (P : Type 0) (d : ℕ) : Type 0 where
 abbrev pub gainRow : List ℕ → ℕ → ℕ → ℕ → List ℕ
 gainRow rows i j d = set rows i (bitXor (getD rows i 0) (taken d (getD rows j 0)))
 
+-- a row that was x is z: if x has P it has gained y, and else it is as it was
+abbrev pub GainedRow : (ℕ → Type 0) → ℕ → ℕ → ℕ → Type 0
+GainedRow P x y z = (P x × (z ≡ bitXor x y)) ⊎ ((P x → ⊥) × (z ≡ x))
+
 -- each of the rows a to b - 1 of t that has P gains row p: that is u
 pub record Gained (t u : List ℕ) (P : ℕ → Type 0) (a b p : ℕ) : Type 0 where
   pub size : length u ≡ length t
   pub same : SameSums t u
   pub others : (m : ℕ) → (m < a) ⊎ (b ≤ m) → getD u m 0 ≡ getD t m 0
-  pub rows : (m : ℕ) → a ≤ m → m < b
-      → (P (getD t m 0) × (getD u m 0 ≡ bitXor (getD t m 0) (getD t p 0))) ⊎ ((P (getD t m 0) → ⊥) × (getD u m 0 ≡ getD t m 0))
+  pub rows : (m : ℕ) → a ≤ m → m < b → GainedRow P (getD t m 0) (getD t p 0) (getD u m 0)
