@@ -6,10 +6,11 @@ use mathlib.Core.Bool.{Bool, true, false, cond}
 use mathlib.Core.List.{List, [], _∷_}
 use mathlib.Core.Path.{_≡_, refl, sym, _∙_, ap}
 use native.Mathlib.Omega.{arith}
-use Rattle.sheets.specs.Text.{lineFeed, fields, linesFrom, Until}
+use Rattle.sheets.specs.Text.{lineFeed, fields}
 use Rattle.sheets.specs.Numbers.{sampleOf}
 use Rattle.sheets.specs.Words.{wordOf}
-use Rattle.sheets.specs.Blocks.{isSample, samplesOf, valuesOf, blockBy, blockLine, BlockFound, block, noBlock, samplesFound, blockFront, blockAt, nextLine, blockReply, roomAfter, SamplesRead, Ended, BlockRead}
+use Rattle.sheets.specs.Blocks.{isSample, samplesOf, valuesOf, blockBy, blockLine, BlockFound, block, noBlock, samplesFound, blockAt, nextLine, blockReply, roomAfter}
+use Rattle.sheets.specs.Readers.{BlockRead, Ended, LineRead, Until}
 use Rattle.sheets.specs.declared.word.Word.{Word}
 use Rattle.sheets.specs.declared.word.Word.the-variants.{Cover, Row, Block, End, Other}
 use Rattle.sheets.specs.declared.block.Samples.{Samples}
@@ -28,7 +29,7 @@ count-case false j k v d h e = impossible e
 
 counts : (j k : ℕ) (fs : List (List ℕ)) → samplesOf j fs ≡ Count k → j + length (valuesOf fs) ≡ k
 counts j k [] e = let q : j ≡ k = cc in omega arith
-counts j k (f ∷ fs) e = 
+counts j k (f ∷ fs) e =
     let q = count-case (isSample (sampleOf f)) j k (length (valuesOf fs)) (samplesOf (j + 1) fs) (counts (j + 1) k fs) e in omega arith
 
 word-counts : (w : Word) (fs : List (List ℕ)) (k : ℕ) → blockBy w fs ≡ Count k → length (valuesOf fs) ≡ k
@@ -93,15 +94,15 @@ module _ (s : List ℕ) (at r : ℕ) (h : at ≤ length s) (u : Until lineFeed s
       reply = rw (next-is, found, e) (ap (λ (m : ℕ). Read m (r + 1)) (sym (line-counts (fields text) k e)));
       place = λ j next q. ended next (place-of q);
     }
-     where
-      place-of : {j next : ℕ} → Read k (r + 1) ≡ Read j next → r + 1 ≡ next
-      place-of q = cc
+      where
+        place-of : {j next : ℕ} → Read k (r + 1) ≡ Read j next → r + 1 ≡ next
+        place-of q = cc
 
     -- its samples, read once more into the room
     pub stored-there : (k next : ℕ) → Read k next ≡ blockReply (nextLine s at) (blockAt s at) → (room : List ℤ) (q : Samples) (room′ : List ℤ)
-        → SamplesRead (blockLine (fields text)) (valuesOf (drop 1 (fields text))) room q room′ → room′ ≡ roomAfter room (blockAt s at)
+        → LineRead (fields text) room q room′ → room′ ≡ roomAfter room (blockAt s at)
     stored-there k next e room q room′ t = by (blockLine (fields text)) refl
-     where
-      by : (d : Samples) → blockLine (fields text) ≡ d → room′ ≡ roomAfter room (blockAt s at)
-      by (Count j) g = rw (found, g) (t .stored j (t .is ∙ g))
-      by (Bad f) g = no-reply (sym (rw (found, g) at e))
+      where
+        by : (d : Samples) → blockLine (fields text) ≡ d → room′ ≡ roomAfter room (blockAt s at)
+        by (Count j) g = rw (found, g) (t .stored j (t .is ∙ g))
+        by (Bad f) g = no-reply (sym (rw (found, g) at e))

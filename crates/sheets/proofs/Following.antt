@@ -4,18 +4,18 @@ use borrow.Author.Tests.{leb-true, leb-false}
 use lib.Dec.{eqb, leb}
 use lib.IntN.{ℤ}
 use lib.ListN.{length, take, drop, getD, length-drop}
-use lib.Seq.{drop-nil, drop-drop}
+use lib.Seq.{drop-nil}
 use mathlib.Core.Bool.{Bool, true, false, cond}
 use mathlib.Core.List.{List, [], _∷_}
-use mathlib.Core.Logic.{_⊎_, ⊎-elim, inl, inr}
+use mathlib.Core.Logic.{⊎-elim}
 use mathlib.Core.Path.{_≡_, refl, sym, _∙_, ap}
 use native.Mathlib.Nat.{zero-add, eq-or-lt-of-le}
 use native.Mathlib.Omega.{arith}
 use Rattle.plates.specs.declared.Verdict.the-variants as J
-use Rattle.sheets.specs.Text.{lineFeed, till, lines, linesFrom, begins, Until}
-use Rattle.sheets.specs.Blocks.{BlockFound, block, noBlock, blockFront, blocksOf, blockAt, nextLine, blockPlace, Ended}
-use Rattle.sheets.specs.Lines.{endingOf}
-use Rattle.sheets.specs.Sheet.{Contents, contents, endingAfter, lineVerdict, lineBad, startOf, says, reading}
+use Rattle.sheets.specs.Text.{lineFeed, till, lines, linesFrom, begins}
+use Rattle.sheets.specs.Blocks.{BlockFound, block, noBlock, blocksOf, blockAt, nextLine, blockPlace}
+use Rattle.sheets.specs.Sheet.{Contents, contents, endingAfter, lineVerdict, startOf, says, reading}
+use Rattle.sheets.specs.Readers.{Ended, Until}
 use Rattle.sheets.specs.declared.line.Fault.the-variants.{Missing}
 use Rattle.sheets.specs.declared.body.Ending.{Ending}
 use Rattle.sheets.specs.declared.body.Ending.the-variants.{Fine, NoEnd, After}
@@ -50,14 +50,14 @@ module _ (s : List ℕ) (at : ℕ) where
   -- a block line is ended
   pub block-ended : (vs : List ℤ) → blockAt s at ≡ block vs → Ended s at (nextLine s at)
   block-ended vs e = by (leb at (length s)) refl
-   where
-    by : (t : Bool) → leb at (length s) ≡ t → Ended s at (nextLine s at)
-    by true q =
-        let h = leb-true at (length s) q in
-        let r = at + till lineFeed (drop at s) in
-        let u = until-there lineFeed s at h in
-        rw (next-is s at r h u) (line-closed s at r u (λ z. no-block (rw (from-last lineFeed s at r h u z) at e)))
-    by false q = no-block (rw (from-none lineFeed s at (leb-false at (length s) q)) at e)
+    where
+      by : (t : Bool) → leb at (length s) ≡ t → Ended s at (nextLine s at)
+      by true q =
+          let h = leb-true at (length s) q in
+          let r = at + till lineFeed (drop at s) in
+          let u = until-there lineFeed s at h in
+          rw (next-is s at r h u) (line-closed s at r u (λ z. no-block (rw (from-last lineFeed s at r h u z) at e)))
+      by false q = no-block (rw (from-none lineFeed s at (leb-false at (length s) q)) at e)
 
   -- a block line, and those after it
   pub block-first : (vs : List ℤ) → blockAt s at ≡ block vs → blocksOf (linesFrom s at) ≡ vs ∷ blocksOf (linesFrom s (nextLine s at))
@@ -97,9 +97,9 @@ module _ (s : List ℕ) (at : ℕ) where
   last-later k (block vs) e t h = t (omega (arith, ap length (block-first s at vs e)))
   last-later k noBlock e t h = absurd (omega (arith, ap length (block-none s at e)))
 
-pub block-last : (s : List ℕ) (at k : ℕ) → Last s at k
-block-last s at zero = last-here s at (blockAt s at) refl
-block-last s at (suc k) = last-later s at k (blockAt s at) refl (block-last s (nextLine s at) k)
+pub blocks-end : (s : List ℕ) (at k : ℕ) → Last s at k
+blocks-end s at zero = last-here s at (blockAt s at) refl
+blocks-end s at (suc k) = last-later s at k (blockAt s at) refl (blocks-end s (nextLine s at) k)
 
 -- ---- the first block line of a sheet
 
@@ -120,11 +120,11 @@ module _ (s : List ℕ) (at : ℕ) (h : at ≤ length s) where
   from-next : (k : ℕ) → (end + 1 ≤ length s → From s (end + 1) k) → From s at (suc k)
   from-next k f n =
       let p : at + (length (take (end - at) (drop at s)) + 1 + begins (linesFrom s (end + 1)) k) ≡ end + 1 + begins (linesFrom s (end + 1)) k =
-        omega (arith, part-length lineFeed s at end h ends) in
+      omega (arith, part-length lineFeed s at end h ends) in
       rw more (ap (linesFrom s) p ∙ f inside (λ z. n (rw more z)))
-   where
-    inside : end + 1 ≤ length s
-    inside = ⊎-elim (λ q. absurd (n (rw (more, from-none lineFeed s (end + 1) (omega (arith, q)), drop-nil k)))) (λ l. omega (arith, l)) (eq-or-lt-of-le (ends .high))
+    where
+      inside : end + 1 ≤ length s
+      inside = ⊎-elim (λ q. absurd (n (rw (more, from-none lineFeed s (end + 1) (omega (arith, q)), drop-nil k)))) (λ l. omega (arith, l)) (eq-or-lt-of-le (ends .high))
 
 from-line : (s : List ℕ) (at k : ℕ) → at ≤ length s → From s at k
 from-line s at zero h = λ n. ap (linesFrom s) (omega arith)
@@ -151,9 +151,9 @@ line-left s a e =
     let f = fine-case (length (c .rows) + length (c .blocks) + 2) (endingAfter c (drop 1 (lines s))) (a .ended) in
     let g = rw (drop-one (length (c .rows)) (lines s), e, drop-nil (length (c .blocks))) at f in
     never g
- where
-  never : NoEnd Missing ≡ Fine → ⊥
-  never q = let z : _≡_ {A = ℕ} 0 1 = cc in omega arith
+  where
+    never : NoEnd Missing ≡ Fine → ⊥
+    never q = let z : _≡_ {A = ℕ} 0 1 = cc in omega arith
 
 start-case : (s : List ℕ) → Accepts s → blocksOf (linesFrom s (startOf s (contents s))) ≡ (contents s) .blocks
 unfolding contents
@@ -173,4 +173,4 @@ sheet-block s c e k h =
 
 -- and after the last of them there is no block line
 pub sheet-blocks-end : (s : List ℕ) (c : Contents) → reading s ≡ says c → blockAt s (blockPlace s (startOf s c) (length (c .blocks))) ≡ noBlock
-sheet-blocks-end s c e = block-last s (startOf s c) (length (c .blocks)) (ap length (blocks-from-start s c e))
+sheet-blocks-end s c e = blocks-end s (startOf s c) (length (c .blocks)) (ap length (blocks-from-start s c e))

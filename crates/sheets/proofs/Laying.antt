@@ -1,6 +1,6 @@
 -- Values laid into a room one after the other.
 use Prim.Native.Nat.{ℕ, zero, suc}
-use lib.ListN.{length, set}
+use lib.ListN.{set}
 use mathlib.Core.List.{List, [], _∷_}
 use mathlib.Core.Path.{_≡_, refl, ap}
 use Rattle.sheets.specs.Room.{laid}

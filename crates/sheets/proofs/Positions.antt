@@ -1,9 +1,9 @@
 -- With first the leftmost character of a row is position 0, with last the rightmost.
-use Prim.Native.Nat.{ℕ, zero, suc, _+_, _*_, _-_, _/_, _%_, _<_}
+use Prim.Native.Nat.{ℕ, zero, suc, _+_, _*_, _/_, _%_, _<_}
 use lib.ListN.{length, getD, length-reverse, List·getD-append}
 use lib.Seq.{getD-at}
 use mathlib.Core.List.{List, [], _∷_, reverse, reverse-cons}
-use mathlib.Core.Path.{_≡_, refl, sym, _∙_, ap}
+use mathlib.Core.Path.{_≡_, _∙_, ap}
 use native.Mathlib.Omega.{arith}
 use Rattle.words.specs.Word.{bit}
 use Rattle.sheets.specs.Rows.{bitOf, wordFrom, inOrder}

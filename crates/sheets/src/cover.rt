@@ -4,14 +4,14 @@ ghost use lib.ListN.{length};
 ghost use mathlib.Core.Path.{_≡_};
 ghost use Rattle.sheets.specs.Text.{fields, fieldsFrom};
 ghost use Rattle.sheets.specs.Covers.{kindOf, orderOf, coverIs, coverFields, coverRest, coverBy, coverOf};
+use crate::Order;
 use crate::line::Fault;
-use crate::number::read_number;
 use crate::number::Number;
+use crate::number::read_number;
 use crate::scan::until;
+use crate::word::Word;
 use crate::word::is_text;
 use crate::word::read_word;
-use crate::word::Word;
-use crate::Order;
 use plates::Kind;
 
 // What a cover says.

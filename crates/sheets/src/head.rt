@@ -1,8 +1,8 @@
 // The cover as the head of a sheet: its form, then its range.
-ghost use Rattle.sheets.specs.Sheet.{HeadRead};
-use crate::cover::read_cover;
+ghost use Rattle.sheets.specs.Readers.{HeadRead};
 use crate::cover::Cover;
 use crate::cover::CoverLine;
+use crate::cover::read_cover;
 use crate::scan::until;
 use plates::Refusal;
 

@@ -4,19 +4,20 @@ ghost use Rattle.sheets.specs.Sheet.{ReadsSheet};
 use block::block_at;
 use block::read_block_line;
 use body::read_body;
-use head::read_head;
 use head::Head;
+use head::read_head;
 use plates::Kind;
 use plates::Refusal;
-mod scan;
-mod number;
-mod word;
-mod row;
+
 mod block;
-mod line;
+mod body;
 mod cover;
 mod head;
-mod body;
+mod line;
+mod number;
+mod row;
+mod scan;
+mod word;
 
 // Which character of a row is position 0: with first the leftmost, with last the rightmost.
 pub enum Order {

@@ -2,16 +2,17 @@
 ghost use Prim.Native.Nat.{_+_, _≤_};
 ghost use lib.ListN.{length};
 ghost use mathlib.Core.Path.{_≡_};
-ghost use Rattle.sheets.specs.Text.{lineFeed, fields, fieldsFrom, linesFrom, Until};
+ghost use Rattle.sheets.specs.Text.{lineFeed, fields, fieldsFrom, linesFrom};
+ghost use Rattle.sheets.specs.Readers.{Until};
 ghost use Rattle.sheets.specs.Lines.{rowIs, rowRest, blockIs, blockRest, endRest, lineBy, lineOf, front};
-use crate::block::read_samples;
-use crate::block::Samples;
-use crate::row::read_row;
-use crate::row::Row;
-use crate::scan::until;
-use crate::word::read_word;
-use crate::word::Word;
 use crate::Order;
+use crate::block::Samples;
+use crate::block::read_samples;
+use crate::row::Row;
+use crate::row::read_row;
+use crate::scan::until;
+use crate::word::Word;
+use crate::word::read_word;
 
 // What is wrong with a line. Fields are counted from 1.
 pub enum Fault {

@@ -23,7 +23,7 @@ returns : tie.Need-returns
 returns c = record {
   reply = sym (c .before .before .before .before .before .reply .given .1) ∙ c .before .before .before .before .before .before .before .check-body .ensures;
   kept = c .before .before .read-rows .ensures .stored;
-  }
+}
 
 returns-2 : tie.Need-returns-2
 returns-2 c = record { reply = sym (c .before .reply2 .given .1) ∙ c .before .before .before .check-body .ensures; kept = refl }

@@ -36,9 +36,11 @@ returns-3 c =
     let l = a .line .now in
     let u = c .before .before .before .until in
     let v = c .before .until2 in
-    rw (after-more tab l (a .a) (omega arith) (c .before .before .before .before .if1 .left) (u .result) (u .ensures),
-    after-more tab l (u .result) (u .ensures .high) (c .before .before .if2 .left) (v .result) (v .ensures),
-    after-last tab l (v .result) (v .ensures .high) (c .if3 .taken))
+    rw (
+      after-more tab l (a .a) (omega arith) (c .before .before .before .before .if1 .left) (u .result) (u .ensures),
+      after-more tab l (u .result) (u .ensures .high) (c .before .before .if2 .left) (v .result) (v .ensures),
+      after-last tab l (v .result) (v .ensures .high) (c .if3 .taken),
+    )
 
 add-r : tie.Need-add-r
 add-r c = search needs
@@ -53,10 +55,12 @@ returns-4 c =
     let u = c .before .before .before .before .before .until in
     let v = c .before .before .before .until2 in
     let w = c .before .until3 in
-    rw (after-more tab l (a .a) (omega arith) (c .before .before .before .before .before .before .if1 .left) (u .result) (u .ensures),
-    after-more tab l (u .result) (u .ensures .high) (c .before .before .before .before .if2 .left) (v .result) (v .ensures),
-    after-more tab l (v .result) (v .ensures .high) (c .before .before .if3 .left) (w .result) (w .ensures),
-    after-some tab l (w .result) (w .ensures .high) (c .if4 .taken))
+    rw (
+      after-more tab l (a .a) (omega arith) (c .before .before .before .before .before .before .if1 .left) (u .result) (u .ensures),
+      after-more tab l (u .result) (u .ensures .high) (c .before .before .before .before .if2 .left) (v .result) (v .ensures),
+      after-more tab l (v .result) (v .ensures .high) (c .before .before .if3 .left) (w .result) (w .ensures),
+      after-some tab l (w .result) (w .ensures .high) (c .if4 .taken),
+    )
 
 sub-cover-fields : tie.Need-sub-cover-fields
 sub-cover-fields c = search needs
@@ -95,10 +99,12 @@ returns-5 c =
     let u = c .before .before .before .before .before .before .before .before .before .until in
     let v = c .before .before .before .before .before .before .before .until2 in
     let w = c .before .before .before .before .before .until3 in
-    rw (after-more tab l (a .a) (omega arith) (c .before .before .before .before .before .before .before .before .before .before .if1 .left) (u .result) (u .ensures),
-    after-more tab l (u .result) (u .ensures .high) (c .before .before .before .before .before .before .before .before .if2 .left) (v .result) (v .ensures),
-    after-more tab l (v .result) (v .ensures .high) (c .before .before .before .before .before .before .if3 .left) (w .result) (w .ensures),
-    after-last tab l (w .result) (w .ensures .high) (c .before .before .before .before .if4 .left))
+    rw (
+      after-more tab l (a .a) (omega arith) (c .before .before .before .before .before .before .before .before .before .before .if1 .left) (u .result) (u .ensures),
+      after-more tab l (u .result) (u .ensures .high) (c .before .before .before .before .before .before .before .before .if2 .left) (v .result) (v .ensures),
+      after-more tab l (v .result) (v .ensures .high) (c .before .before .before .before .before .before .if3 .left) (w .result) (w .ensures),
+      after-last tab l (w .result) (w .ensures .high) (c .before .before .before .before .if4 .left),
+    )
     (c .cover-fields .ensures)
 
 pub cover-rest-spec : {M : Type 1} → statement M

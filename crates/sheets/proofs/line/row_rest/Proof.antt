@@ -23,8 +23,10 @@ returns-2 : tie.Need-returns-2
 returns-2 c =
     let a = c .before .before .before .before .args in
     let u = c .before .until in
-    rw (after-more tab (a .line .now) (a .a) (omega arith) (c .before .before .if1 .left) (u .result) (u .ensures),
-    after-some tab (a .line .now) (u .result) (u .ensures .high) (c .if2 .taken))
+    rw (
+      after-more tab (a .line .now) (a .a) (omega arith) (c .before .before .if1 .left) (u .result) (u .ensures),
+      after-some tab (a .line .now) (u .result) (u .ensures .high) (c .if2 .taken),
+    )
 
 sub-read-row : tie.Need-sub-read-row
 sub-read-row c = search needs
@@ -45,8 +47,10 @@ returns-3 : tie.Need-returns-3
 returns-3 c =
     let a = c .before .before .before .before .before .before .before .args in
     let u = c .before .before .before .before .until in
-    rw (after-more tab (a .line .now) (a .a) (omega arith) (c .before .before .before .before .before .if1 .left) (u .result) (u .ensures),
-    after-last tab (a .line .now) (u .result) (u .ensures .high) (c .before .before .before .if2 .left))
+    rw (
+      after-more tab (a .line .now) (a .a) (omega arith) (c .before .before .before .before .before .if1 .left) (u .result) (u .ensures),
+      after-last tab (a .line .now) (u .result) (u .ensures .high) (c .before .before .before .if2 .left),
+    )
     (c .row-is .ensures ∙ ap rowIs (c .before .read-row .ensures))
 
 pub row-rest-spec : {M : Type 1} → statement M

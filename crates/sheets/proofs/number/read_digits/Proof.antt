@@ -58,10 +58,11 @@ loop-again c =
     let t = sym (c .before .before .within .ensures) ∙ not-false _ (c .before .if1 .left) in
     let d = between 48 57 (getD (l .before .before .args .f .now) (l .loop .i) 0) t in
     let e = digits-on (l .before .before .args .f .now) (l .loop .i) (l .loop .value) (omega arith) t in
-    let g = c .digit .ensures in
-    (omega arith,
-    rw add-one (grow 10 (l .loop .value) (c .digit .result) (l .loop .i) (l .loop .inv .1) (omega arith)),
-    rw g (sym e ∙ l .loop .inv .2))
+    let g = c .digit .ensures in (
+      omega arith,
+      rw add-one (grow 10 (l .loop .value) (c .digit .result) (l .loop .i) (l .loop .inv .1) (omega arith)),
+      rw g (sym e ∙ l .loop .inv .2),
+    )
 
 returns-2 : tie.Need-returns-2 Inv-loop μ-loop
 returns-2 c =

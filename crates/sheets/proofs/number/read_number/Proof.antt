@@ -23,7 +23,7 @@ returns-3 : tie.Need-returns-3
 returns-3 c = record {
   is = rw (ne-eqb _ _ (c .before .before .before .if1 .left), le-ltb _ _ (c .before .before .if2 .left), sym (c .before .leading-zero .ensures) ∙ c .if3 .taken);
   below = tt;
-  }
+}
 
 read-digits-requires : tie.Need-read-digits-requires
 read-digits-requires c κs = search needs
