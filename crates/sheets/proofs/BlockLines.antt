@@ -2,13 +2,14 @@
 use Prim.Native.Nat.{ℕ, _+_}
 use denote.Enum.Declared.{tagOf}
 use lib.IntN.{ℤ}
-use lib.ListN.{take, drop}
+use lib.ListN.{take}
 use mathlib.Core.List.{List, [], _∷_}
 use mathlib.Core.Path.{_≡_, refl, _∙_, ap}
 use types.Run.{OneOf, miss}
-use Rattle.sheets.specs.Text.{tab, fields, fieldsFrom, Until}
+use Rattle.sheets.specs.Text.{tab, fields, fieldsFrom}
 use Rattle.sheets.specs.Words.{wordOf}
-use Rattle.sheets.specs.Blocks.{samplesOf, valuesOf, blockBy, blockLine, SamplesRead}
+use Rattle.sheets.specs.Blocks.{blockBy, blockLine}
+use Rattle.sheets.specs.Readers.{FieldsRead, LineRead, Until}
 use Rattle.sheets.specs.declared.word.Word.{Word}
 use Rattle.sheets.specs.declared.word.Word.the-variants.{Cover, Row, Block, End, Other}
 use Rattle.sheets.specs.declared.block.Samples.{Samples}
@@ -29,14 +30,11 @@ module _ (line : List ℕ) (end : ℕ) (u : Until tab line 0 end) (w : Word) (e 
   by-word : blockLine (fields line) ≡ blockBy w (fieldsFrom line (end + 1))
   by-word = ap blockLine (parts-front tab line end u) ∙ ap (λ (v : Word). blockBy v (fieldsFrom line (end + 1))) e
 
-  abbrev Reads : List ℤ → Samples → List ℤ → Type 0
-  Reads room r room′ = SamplesRead (blockLine (fields line)) (valuesOf (drop 1 (fields line))) room r room′
-
   -- another word than block
-  pub no-block-word : (room : List ℤ) → OneOf (0 ∷ 1 ∷ 3 ∷ 4 ∷ []) (tagOf the-type w) → Reads room (Bad 1) room
+  pub no-block-word : (room : List ℤ) → OneOf (0 ∷ 1 ∷ 3 ∷ 4 ∷ []) (tagOf the-type w) → LineRead (fields line) room (Bad 1) room
   no-block-word room h = read-bad _ _ room room 1 (by-word ∙ other-word w (fieldsFrom line (end + 1)) h)
 
   -- block, and what follows it
   pub block-word : (room : List ℤ) (r : Samples) (room′ : List ℤ) → w ≡ Block
-      → SamplesRead (samplesOf 0 (fieldsFrom line (end + 1))) (valuesOf (fieldsFrom line (end + 1))) room r room′ → Reads room r room′
+      → FieldsRead (fieldsFrom line (end + 1)) room r room′ → LineRead (fields line) room r room′
   block-word room r room′ q h = rw (by-word, q, parts-front tab line end u) h

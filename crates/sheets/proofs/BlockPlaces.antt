@@ -6,10 +6,11 @@ use mathlib.Core.Bool.{Bool, true, false, cond}
 use mathlib.Core.List.{List, [], _∷_}
 use mathlib.Core.Path.{_≡_, refl, sym, _∙_, ap}
 use native.Mathlib.Omega.{arith}
-use Rattle.sheets.specs.Text.{lineFeed, fields, linesFrom, Until}
+use Rattle.sheets.specs.Text.{lineFeed, fields}
 use Rattle.sheets.specs.Numbers.{sampleOf}
 use Rattle.sheets.specs.Words.{wordOf}
-use Rattle.sheets.specs.Blocks.{isSample, samplesOf, valuesOf, blockBy, blockLine, BlockFound, block, noBlock, samplesFound, blockFront, blockAt, nextLine, blockReply, roomAfter, SamplesRead, Ended, BlockRead}
+use Rattle.sheets.specs.Blocks.{isSample, samplesOf, valuesOf, blockBy, blockLine, BlockFound, block, noBlock, samplesFound, blockAt, nextLine, blockReply, roomAfter}
+use Rattle.sheets.specs.Readers.{BlockRead, Ended, LineRead, Until}
 use Rattle.sheets.specs.declared.word.Word.{Word}
 use Rattle.sheets.specs.declared.word.Word.the-variants.{Cover, Row, Block, End, Other}
 use Rattle.sheets.specs.declared.block.Samples.{Samples}
@@ -69,7 +70,7 @@ module _ (s : List ℕ) (at r : ℕ) (h : at ≤ length s) (u : Until lineFeed s
   text = take (r - at) (drop at s)
 
   -- the place of the line after
-  next-is : nextLine s at ≡ r + 1
+  pub next-is : nextLine s at ≡ r + 1
   next-is = rw (from-more lineFeed s at r h u, part-length lineFeed s at r h u) (omega arith)
 
   module _ (n : r ≡ length s → ⊥) where
@@ -99,7 +100,7 @@ module _ (s : List ℕ) (at r : ℕ) (h : at ≤ length s) (u : Until lineFeed s
 
     -- its samples, read once more into the room
     pub stored-there : (k next : ℕ) → Read k next ≡ blockReply (nextLine s at) (blockAt s at) → (room : List ℤ) (q : Samples) (room′ : List ℤ)
-        → SamplesRead (blockLine (fields text)) (valuesOf (drop 1 (fields text))) room q room′ → room′ ≡ roomAfter room (blockAt s at)
+        → LineRead (fields text) room q room′ → room′ ≡ roomAfter room (blockAt s at)
     stored-there k next e room q room′ t = by (blockLine (fields text)) refl
       where
         by : (d : Samples) → blockLine (fields text) ≡ d → room′ ≡ roomAfter room (blockAt s at)

@@ -6,8 +6,8 @@ use mathlib.Core.List.{List, [], _∷_}
 use mathlib.Core.Path.{_≡_, refl, sym, _∙_, ap}
 use native.Mathlib.Omega.{arith}
 use Rattle.sheets.specs.Text.{linesFrom}
-use Rattle.sheets.specs.Blocks.{BlockFound, block, noBlock, blockFront, blockThen, blocksOf, blockAt, nextLine, blockReply, Ended, BlockRead}
-use Rattle.sheets.specs.Sheet.{Passed}
+use Rattle.sheets.specs.Blocks.{BlockFound, block, noBlock, blockFront, blockThen, blocksOf, blockAt, nextLine, blockReply}
+use Rattle.sheets.specs.Readers.{BlockRead, BlocksRead}
 use Rattle.sheets.specs.declared.BlockReply.{BlockReply}
 use Rattle.sheets.specs.declared.BlockReply.the-variants.{Read, NoBlock}
 use Rattle.sheets.proofs.Passing.{at-end, line-split, Passing, pass-on, pass-end}
@@ -28,11 +28,11 @@ told-none noBlock next q = refl
 
 module _ {s : List ℕ} {from at k : ℕ} (i : Passing blocksOf s from at k) where
   -- no block line begins there
-  pub block-stop : (r : BlockReply) → BlockRead s at r → r ≡ NoBlock → Passed (blocksOf (linesFrom s from)) s from (record { count = k; next = at })
+  pub block-stop : (r : BlockReply) → BlockRead s at r → r ≡ NoBlock → BlocksRead s from (record { count = k; next = at })
   block-stop r d e = pass-end i (blocks-none (linesFrom s at) (told-none (blockAt s at) (nextLine s at) (sym e ∙ d .reply)))
 
   -- the end of the input
-  pub block-last : length s ≤ at → Passed (blocksOf (linesFrom s from)) s from (record { count = k; next = at })
+  pub block-last : length s ≤ at → BlocksRead s from (record { count = k; next = at })
   block-last h = pass-end i (rw (at-end s at (omega arith)))
 
   -- one block line more

@@ -1,14 +1,14 @@
 -- The lines after the cover by what was read of them.
-use Prim.Native.Nat.{ℕ, _+_}
+use Prim.Native.Nat.{ℕ}
 use lib.Dec.{ltb}
 use lib.ListN.{length, drop}
-use mathlib.Core.List.{List, [], _∷_}
-use mathlib.Core.Path.{_≡_, refl, sym, _∙_, ap}
-use Rattle.sheets.specs.Text.{linesFrom, begins}
+use mathlib.Core.List.{List}
+use mathlib.Core.Path.{_≡_, _∙_, ap}
+use Rattle.sheets.specs.Text.{linesFrom}
 use Rattle.sheets.specs.Blocks.{blocksOf}
 use Rattle.sheets.specs.Lines.{rowsOf, endingOf}
-use Rattle.sheets.specs.Sheet.{Contents, contentsOf, sheetAt, endingAfter, closed, bodyOf, Passed}
-use Rattle.sheets.specs.declared.Sheet.{Sheet}
+use Rattle.sheets.specs.Sheet.{Contents, contentsOf, endingAfter}
+use Rattle.sheets.specs.Readers.{Passed, bodyOf, closed}
 use Rattle.sheets.specs.declared.cover.Cover.{Cover}
 use Rattle.sheets.specs.declared.body.Ending.{Ending}
 use Rattle.sheets.specs.declared.body.Run.{Run}
@@ -26,7 +26,7 @@ module _ (s : List ℕ) (from : ℕ) (cover : Cover) (rows blocks : Run) (ending
   pub body-is : Passed words s from rows → Passed (blocksOf (linesFrom s (rows .next))) s (rows .next) blocks
       → ending ≡ endingOf (cover .n) (cover .order) (ltb 0 (blocks .count)) (linesFrom s (blocks .next))
       → closed (record { n = cover .n; kind = cover .kind; order = cover .order; rows = rows .count; start = rows .next; blocks = blocks .count }) ending
-      ≡ bodyOf from said ls
+      ≡ bodyOf from cover ls
   body-is p q e =
       let b : length (blocksOf (linesFrom s (rows .next))) ≡ length (said .blocks) = ap (λ (m : List (List ℕ)). length (blocksOf m)) (p .left) in
       let c : blocks .count ≡ length (said .blocks) = q .count ∙ b in

@@ -11,7 +11,8 @@ use mir.Syntax.{w16}
 use mir.Val.{SFits}
 use native.Mathlib.Nat.{pow-suc, pow-le-pow-right, mul-le-mul-right, suc-mul, lt-of-lt-of-le}
 use native.Mathlib.Omega.{arith}
-use Rattle.sheets.specs.Numbers.{isDigit, digitsOf, Below}
+use Rattle.sheets.specs.Numbers.{isDigit, digitsOf}
+use Rattle.sheets.specs.Readers.{Below}
 use Rattle.sheets.specs.declared.number.Number.{Number}
 use Rattle.sheets.specs.declared.number.Number.the-variants.{Is, Bad}
 use Rattle.sheets.proofs.Bytes.{here, done}

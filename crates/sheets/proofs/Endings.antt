@@ -1,12 +1,12 @@
 -- A line that is ended or not, and what stands after end.
-use Prim.Native.Nat.{ℕ, _+_, _-_, _≤_, _<_}
+use Prim.Native.Nat.{ℕ, _+_, _-_, _≤_}
 use lib.ListN.{length, drop}
 use mathlib.Core.Bool.{Bool}
 use mathlib.Core.List.{List}
 use mathlib.Core.Path.{_≡_, sym, _∙_, ap}
 use native.Mathlib.Omega.{arith}
-use Rattle.sheets.specs.Text.{lineFeed, linesFrom, Until}
-use Rattle.sheets.specs.Blocks.{Ended}
+use Rattle.sheets.specs.Text.{lineFeed, linesFrom}
+use Rattle.sheets.specs.Readers.{Ended, Until}
 use Rattle.sheets.specs.Lines.{front, afterEnd, endBy, endingOf}
 use Rattle.sheets.specs.declared.Order.{Order}
 use Rattle.sheets.specs.declared.line.Fault.the-variants.{Missing, Turn}

@@ -3,23 +3,22 @@ use Prim.Native.Nat.{ℕ, _+_, _≤_, _<_}
 use borrow.Author.Tests.{eq-eqb, ne-eqb, lt-ltb, le-ltb}
 use lib.ListN.{length, take}
 use mathlib.Core.List.{List, [], _∷_}
-use mathlib.Core.Path.{_≡_, sym, _∙_, ap}
+use mathlib.Core.Path.{_≡_, _∙_, ap}
 use native.Mathlib.Omega.{arith}
 use Rattle.plates.specs.declared.Refusal.{Refusal}
 use Rattle.plates.specs.declared.Refusal.the-variants.{Length, SheetLine}
 use Rattle.plates.specs.declared.Verdict.{Verdict}
 use Rattle.plates.specs.declared.Verdict.the-variants as J
-use Rattle.sheets.specs.Text.{lineFeed, fields, lines, Until}
+use Rattle.sheets.specs.Text.{lineFeed, fields, lines}
 use Rattle.sheets.specs.Covers.{coverOf}
-use Rattle.sheets.specs.Sheet.{coverFront, coverIn, coverBad, lengthBad, firstRefusal, HeadIs, HeadRead}
+use Rattle.sheets.specs.Sheet.{coverFront, coverIn, coverBad, lengthBad, firstRefusal}
+use Rattle.sheets.specs.Readers.{HeadIs, HeadRead, Until}
 use Rattle.sheets.specs.declared.line.Fault.{Fault}
-use Rattle.sheets.specs.declared.line.Fault.the-variants.{Missing}
 use Rattle.sheets.specs.declared.cover.Cover.{Cover}
 use Rattle.sheets.specs.declared.cover.CoverLine.{CoverLine}
 use Rattle.sheets.specs.declared.cover.CoverLine.the-variants as C
-use Rattle.sheets.specs.declared.head.Head.{Head}
 use Rattle.sheets.specs.declared.head.Head.the-variants.{Is, Refused}
-use Rattle.sheets.proofs.Parts.{from-start, from-last, parts-front, after-some, after-last}
+use Rattle.sheets.proofs.Parts.{parts-front, after-some, after-last}
 use Rattle.sheets.proofs.Endings.{line-closed}
 
 module _ (s : List ℕ) where

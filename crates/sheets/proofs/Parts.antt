@@ -8,7 +8,8 @@ use mathlib.Core.List.{List, [], _∷_}
 use mathlib.Core.Path.{_≡_, refl, sym, _∙_, ap}
 use native.Mathlib.Nat.{suc-add, zero-add}
 use native.Mathlib.Omega.{arith}
-use Rattle.sheets.specs.Text.{till, onto, parts, partsFrom, Until}
+use Rattle.sheets.specs.Text.{till, onto, parts, partsFrom}
+use Rattle.sheets.specs.Readers.{Until}
 
 -- from one place further in a text that has one byte more in front
 from-suc : (b x : ℕ) (xs : List ℕ) (k : ℕ) → partsFrom b (x ∷ xs) (suc k) ≡ partsFrom b xs k

@@ -1,14 +1,13 @@
 -- Lines passed one after the other: what a loop over them keeps.
-use Prim.Native.Nat.{ℕ, zero, suc, _+_, _-_, _≤_, _<_}
+use Prim.Native.Nat.{ℕ, _+_, _-_, _≤_}
 use lib.ListN.{length, take, drop}
 use lib.Seq.{drop-length}
 use mathlib.Core.List.{List, [], _∷_}
-use mathlib.Core.Path.{_≡_, refl, sym, _∙_, ap}
+use mathlib.Core.Path.{_≡_, refl}
 use native.Mathlib.Omega.{arith}
 use borrow.Author.Tests.{le-leb}
 use Rattle.sheets.specs.Text.{lineFeed, linesFrom, begins}
-use Rattle.sheets.specs.Blocks.{Ended}
-use Rattle.sheets.specs.Sheet.{Passed}
+use Rattle.sheets.specs.Readers.{Ended, Passed}
 use Rattle.sheets.proofs.Parts.{from-more, part-length}
 
 -- at the end of the input there is nothing but what follows the last line feed

@@ -5,7 +5,7 @@ use lib.Dec.{eqb, ltb}
 use lib.ListN.{length, drop, getD, length-reverse}
 use mathlib.Core.Bool.{Bool, true, false, cond, _&&_}
 use mathlib.Core.List.{List, [], _∷_}
-use mathlib.Core.Path.{_≡_, refl, sym, _∙_, ap}
+use mathlib.Core.Path.{_≡_, refl}
 use native.Mathlib.Omega.{arith}
 use Rattle.plates.specs.declared.Refusal.{Refusal}
 use Rattle.plates.specs.declared.Refusal.the-variants.{Length, TooManyRows}
@@ -13,10 +13,10 @@ use Rattle.plates.specs.declared.Verdict.{Verdict}
 use Rattle.plates.specs.declared.Verdict.the-variants as J
 use Rattle.sheets.specs.Text.{fields, lines}
 use Rattle.sheets.specs.Words.{wordOf}
-use Rattle.sheets.specs.Rows.{bitsOnly, wordFrom, inOrder, rowOf}
+use Rattle.sheets.specs.Rows.{bitsOnly, wordFrom, inOrder}
 use Rattle.sheets.specs.Blocks.{samplesOf}
 use Rattle.sheets.specs.Lines.{rowIs, rowRest, blockIs, endRest, lineBy, lineOf, front, rowThen, rowsOf}
-use Rattle.sheets.specs.Sheet.{Contents, coverFront, coverIn, contents, inputTooLong, coverBad, lengthBad, lineBad, rowsTooMany, firstRefusal, verdict, Reading, says, readingBy, reading}
+use Rattle.sheets.specs.Sheet.{Contents, coverFront, coverIn, contents, inputTooLong, coverBad, lengthBad, lineBad, rowsTooMany, firstRefusal, verdict, says, readingBy, reading}
 use Rattle.sheets.specs.declared.Order.{Order}
 use Rattle.sheets.specs.declared.Order.the-variants.{First, Last}
 use Rattle.sheets.specs.declared.word.Word.{Word}

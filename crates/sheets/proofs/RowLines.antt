@@ -8,10 +8,10 @@ use mathlib.Core.Path.{_≡_, refl, sym, _∙_, ap}
 use native.Mathlib.Numerals.{add-one}
 use native.Mathlib.Omega.{arith}
 use types.Run.{OneOf, miss}
-use Rattle.sheets.specs.Text.{lineFeed, linesFrom, Until}
+use Rattle.sheets.specs.Text.{lineFeed, linesFrom}
 use Rattle.sheets.specs.Room.{laid}
 use Rattle.sheets.specs.Lines.{front, rowThen, rowsOf}
-use Rattle.sheets.specs.Sheet.{RowsRead}
+use Rattle.sheets.specs.Readers.{RowsRead, Until}
 use Rattle.sheets.specs.declared.Order.{Order}
 use Rattle.sheets.specs.declared.line.Fault.the-variants.{Missing}
 use Rattle.sheets.specs.declared.line.Line.{Line}
@@ -49,7 +49,7 @@ module _ {n : ℕ} {order : Order} {s : List ℕ} {from : ℕ} where
 
   module _ {table₀ table : List ℕ} {at k : ℕ} (i : Rowing n order s from table₀ table at k) where
     row-end : rowsOf n order (linesFrom s at) ≡ []
-        → RowsRead (rowsOf n order (linesFrom s from)) s from table₀ (record { count = k; next = at }) table
+        → RowsRead n order s from table₀ (record { count = k; next = at }) table
     row-end e = record {
       passed = pass-end (i .passing) e;
       stored = sym (laid-none k table) ∙ (rw e at (i .kept));
@@ -57,11 +57,11 @@ module _ {n : ℕ} {order : Order} {s : List ℕ} {from : ℕ} where
 
     -- a line that is no row
     pub row-stop : (l : Line) → front n order false (linesFrom s at) ≡ l → OneOf (1 ∷ 2 ∷ 3 ∷ []) (tagOf the-type l)
-        → RowsRead (rowsOf n order (linesFrom s from)) s from table₀ (record { count = k; next = at }) table
+        → RowsRead n order s from table₀ (record { count = k; next = at }) table
     row-stop l e h = row-end (rows-none n order (linesFrom s at) l e h)
 
     -- the end of the input
-    pub row-last : length s ≤ at → RowsRead (rowsOf n order (linesFrom s from)) s from table₀ (record { count = k; next = at }) table
+    pub row-last : length s ≤ at → RowsRead n order s from table₀ (record { count = k; next = at }) table
     row-last h = row-end (rw (at-end s at (omega arith)))
 
     -- one row more

@@ -2,14 +2,15 @@
 use Prim.Native.Nat.{ℕ, _+_, _-_, _≤_, _<_}
 use lib.IntN.{ℤ}
 use lib.ListN.{length, take, drop, set, length-set}
-use mathlib.Core.List.{List, _∷_}
+use mathlib.Core.List.{List}
 use mathlib.Core.Path.{_≡_, refl, sym, _∙_}
 use native.Mathlib.Numerals.{add-one}
 use native.Mathlib.Omega.{arith}
-use Rattle.sheets.specs.Text.{tab, fieldsFrom, Until}
+use Rattle.sheets.specs.Text.{tab, fieldsFrom}
 use Rattle.sheets.specs.Numbers.{sampleOf}
 use Rattle.sheets.specs.Room.{laid}
-use Rattle.sheets.specs.Blocks.{samplesOf, valuesOf, SamplesRead}
+use Rattle.sheets.specs.Blocks.{samplesOf, valuesOf}
+use Rattle.sheets.specs.Readers.{FieldsRead, SamplesRead, Until}
 use Rattle.sheets.specs.declared.number.Sample.the-variants as S
 use Rattle.sheets.specs.declared.block.Samples.{Samples}
 use Rattle.sheets.specs.declared.block.Samples.the-variants.{Count, Bad}
@@ -31,13 +32,13 @@ pub record Sampling (line : List ℕ) (from : ℕ) (room₀ room : List ℤ) (at
   pub counted : samplesOf k (fieldsFrom line at) ≡ samplesOf 0 (fieldsFrom line from)
   pub kept : laidFrom k (valuesOf (fieldsFrom line at)) room ≡ laid (valuesOf (fieldsFrom line from)) room₀
 
-pub start : (line : List ℕ) (from : ℕ) (room : List ℤ) → from ≤ length line + 1 → Sampling line from room room from 0
-start line from room h = record { low = omega arith; high = h; size = refl; counted = refl; kept = refl }
+pub sample-start : (line : List ℕ) (from : ℕ) (room : List ℤ) → from ≤ length line + 1 → Sampling line from room room from 0
+sample-start line from room h = record { low = omega arith; high = h; size = refl; counted = refl; kept = refl }
 
 module _ {line : List ℕ} {from : ℕ} {room₀ room : List ℤ} {at k : ℕ} (i : Sampling line from room₀ room at k) where
   -- at the end all are taken
-  pub end-all : length line < at → SamplesRead (samplesOf 0 (fieldsFrom line from)) (valuesOf (fieldsFrom line from)) room₀ (Count k) room
-  end-all h =
+  pub sample-end : length line < at → FieldsRead (fieldsFrom line from) room₀ (Count k) room
+  sample-end h =
       let e = from-none tab line at h in
       record {
         is = rw e at (i .counted);
@@ -46,8 +47,8 @@ module _ {line : List ℕ} {from : ℕ} {room₀ room : List ℤ} {at k : ℕ} (
 
   module _ (r : ℕ) (h : at ≤ length line) (u : Until tab line at r) where
     -- one field more, which is a sample
-    pub take-one : (v : ℤ) → sampleOf (take (r - at) (drop at line)) ≡ S.Is v → Sampling line from room₀ (set room k v) (r + 1) (k + 1)
-    take-one v e =
+    pub sample-on : (v : ℤ) → sampleOf (take (r - at) (drop at line)) ≡ S.Is v → Sampling line from room₀ (set room k v) (r + 1) (k + 1)
+    sample-on v e =
         let m = from-more tab line at r h u in
         record {
           low = omega arith;
@@ -58,6 +59,6 @@ module _ {line : List ℕ} {from : ℕ} {room₀ room : List ℤ} {at k : ℕ} (
         }
 
     -- a field that is none
-    pub stop-bad : sampleOf (take (r - at) (drop at line)) ≡ S.Bad
-        → SamplesRead (samplesOf 0 (fieldsFrom line from)) (valuesOf (fieldsFrom line from)) room₀ (Bad (k + 2)) room
-    stop-bad e = read-bad _ _ room₀ room (k + 2) (sym (i .counted) ∙ rw (from-more tab line at r h u, e))
+    pub sample-bad : sampleOf (take (r - at) (drop at line)) ≡ S.Bad
+        → FieldsRead (fieldsFrom line from) room₀ (Bad (k + 2)) room
+    sample-bad e = read-bad _ _ room₀ room (k + 2) (sym (i .counted) ∙ rw (from-more tab line at r h u, e))

@@ -1,5 +1,5 @@
 -- A whole sheet by what was read of it.
-use Prim.Native.Nat.{ℕ, suc, _+_, _-_, _≤_, _<_}
+use Prim.Native.Nat.{ℕ, _+_, _-_, _≤_, _<_}
 use borrow.Author.Tests.{lt-ltb, le-ltb}
 use lib.ListN.{length, take, drop}
 use mathlib.Core.List.{List, [], _∷_}
@@ -10,11 +10,11 @@ use Rattle.plates.specs.declared.Refusal.the-variants.{InputTooLong}
 use Rattle.plates.specs.declared.Verdict.{Verdict}
 use Rattle.plates.specs.declared.Verdict.the-variants as J
 use Rattle.sheets.specs.Text.{lineFeed, lines, linesFrom, begins}
-use Rattle.sheets.specs.Room.{laid}
-use Rattle.sheets.specs.Sheet.{Contents, coverFront, coverIn, contentsOf, contents, coverBad, lengthBad, lineBad, rowsTooMany, firstRefusal, verdict, readingBy, reading, sheetAt, startOf, sheetReply, tableAfter, ReadsSheet, replyBy, bodyOf, tableBy, BodyRead, HeadIs}
+use Rattle.sheets.specs.Sheet.{Contents, coverFront, coverIn, contentsOf, contents, coverBad, lengthBad, lineBad, rowsTooMany, firstRefusal, verdict, readingBy, sheetAt, startOf, sheetReply, tableAfter, ReadsSheet}
+use Rattle.sheets.specs.Readers.{BodyRead, HeadIs, replyBy, tableBy}
 use Rattle.sheets.specs.declared.Sheet.{Sheet}
 use Rattle.sheets.specs.declared.SheetReply.{SheetReply}
-use Rattle.sheets.specs.declared.SheetReply.the-variants.{Read, Refused}
+use Rattle.sheets.specs.declared.SheetReply.the-variants.{Refused}
 use Rattle.sheets.specs.declared.cover.Cover.{Cover}
 use Rattle.sheets.proofs.Parts.{from-start}
 use Rattle.sheets.proofs.Passing.{line-split, line-length}
@@ -83,7 +83,7 @@ module _ (s table : List ℕ) (h : length s ≤ 32768) where
     start-is = let n = line-length (i .ended) in rw split (omega arith)
 
     -- its head is read, and what follows decides
-    pub sheet-body : (r : SheetReply) (table′ : List ℕ) → BodyRead from said (linesFrom s from) table r table′ → ReadsSheet s table r table′
+    pub sheet-body : (r : SheetReply) (table′ : List ℕ) → BodyRead from cover (linesFrom s from) table r table′ → ReadsSheet s table r table′
     sheet-body r table′ b = record {
       reply = rw (contents-are, verdict-is) (b .reply ∙ sym (reply-by s left said ∙ ap (λ (p : ℕ). replyBy left (sheetAt p said)) start-is));
       rows =

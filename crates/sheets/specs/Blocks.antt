@@ -1,11 +1,11 @@
 -- A block line: the word block and any number of samples, which are in order of position.
-use Prim.Native.Nat.{ℕ, zero, suc, _+_, _-_, _≤_, _<_}
+use Prim.Native.Nat.{ℕ, zero, suc, _+_}
 use lib.IntN.{ℤ, pos}
 use lib.ListN.{length, drop}
 use mathlib.Core.Bool.{Bool, true, false, cond}
 use mathlib.Core.List.{List, [], _∷_}
 use mathlib.Core.Path.{_≡_}
-use Rattle.sheets.specs.Text.{lineFeed, fields, linesFrom, begins, Until}
+use Rattle.sheets.specs.Text.{fields, linesFrom, begins}
 use Rattle.sheets.specs.Numbers.{sampleOf}
 use Rattle.sheets.specs.Words.{wordOf}
 use Rattle.sheets.specs.Room.{laid}
@@ -18,10 +18,12 @@ use Rattle.sheets.specs.declared.block.Samples.the-variants.{Count, Bad}
 use Rattle.sheets.specs.declared.BlockReply.{BlockReply}
 use Rattle.sheets.specs.declared.BlockReply.the-variants.{Read, NoBlock}
 
+-- whether a field was a sample
 abbrev pub isSample : Sample → Bool
 isSample (S.Is v) = true
 isSample S.Bad = false
 
+-- its value, where it was
 abbrev pub valueOf : Sample → ℤ
 valueOf (S.Is v) = v
 valueOf S.Bad = pos 0
@@ -36,6 +38,7 @@ abbrev pub valuesOf : List (List ℕ) → List ℤ
 valuesOf [] = []
 valuesOf (f ∷ fs) = valueOf (sampleOf f) ∷ valuesOf fs
 
+-- the first field decides: another word than block is field 1
 abbrev pub blockBy : Word → List (List ℕ) → Samples
 blockBy Cover fs = Bad 1
 blockBy Row fs = Bad 1
@@ -53,6 +56,7 @@ pub data BlockFound : Type 0 where
   block : List ℤ → BlockFound
   noBlock : BlockFound
 
+-- the line is a block where each field is a sample
 abbrev pub samplesFound : Samples → List ℤ → BlockFound
 samplesFound (Count k) vs = block vs
 samplesFound (Bad f) vs = noBlock
@@ -63,6 +67,7 @@ blockFront [] = noBlock
 blockFront (l ∷ []) = noBlock
 blockFront (l ∷ m ∷ ls) = samplesFound (blockLine (fields l)) (valuesOf (drop 1 (fields l)))
 
+-- one block line more, or no more
 abbrev pub blockThen : BlockFound → List (List ℤ) → List (List ℤ)
 blockThen (block vs) bs = vs ∷ bs
 blockThen noBlock bs = []
@@ -87,10 +92,12 @@ abbrev pub blockPlace : List ℕ → ℕ → ℕ → ℕ
 blockPlace s at zero = at
 blockPlace s at (suc k) = blockPlace s (nextLine s at) k
 
+-- the reply for what was found, the next line beginning at `next`
 abbrev pub blockReply : ℕ → BlockFound → BlockReply
 blockReply next (block vs) = Read (length vs) next
 blockReply next noBlock = NoBlock
 
+-- the room after it
 abbrev pub roomAfter : List ℤ → BlockFound → List ℤ
 roomAfter room (block vs) = laid vs room
 roomAfter room noBlock = room
@@ -100,21 +107,3 @@ roomAfter room noBlock = room
 pub record ReadsBlock (s : List ℕ) (at : ℕ) (room : List ℤ) (r : BlockReply) (room′ : List ℤ) : Type 0 where
   pub reply : r ≡ blockReply (nextLine s at) (blockAt s at)
   pub samples : room′ ≡ roomAfter room (blockAt s at)
-
--- ---- what the readers below that promise
-
--- r is the definition's answer d and, where that is a number of samples, vs are laid into the room
-pub record SamplesRead (d : Samples) (vs : List ℤ) (room : List ℤ) (r : Samples) (room′ : List ℤ) : Type 0 where
-  pub is : r ≡ d
-  pub stored : (k : ℕ) → r ≡ Count k → room′ ≡ laid vs room
-
--- the line at a place is ended, and the next begins at `next`
-pub record Ended (s : List ℕ) (at next : ℕ) : Type 0 where
-  pub low : at < next
-  pub high : next ≤ length s
-  pub until : Until lineFeed s at (next - 1)
-
--- r is the reply for the block line at a place
-pub record BlockRead (s : List ℕ) (at : ℕ) (r : BlockReply) : Type 0 where
-  pub reply : r ≡ blockReply (nextLine s at) (blockAt s at)
-  pub place : (k next : ℕ) → r ≡ Read k next → Ended s at next

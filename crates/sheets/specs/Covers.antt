@@ -33,7 +33,7 @@ coverIs (N.Is n) K.Bad order = Bad (Value 3)
 coverIs (N.Is n) (K.Is kind) O.Bad = Bad (Value 4)
 coverIs (N.Is n) (K.Is kind) (O.Is order) = Is (record { n = n; kind = kind; order = order })
 
--- n has one to three digits
+-- by their fields; n has one to three digits
 unfoldable pub coverFields : List ℕ → List ℕ → List ℕ → CoverLine
 coverFields f g h = coverIs (numberOf 3 f) (kindOf g) (orderOf h)
 
@@ -45,6 +45,7 @@ coverRest (f ∷ g ∷ []) = Bad (Count 4)
 coverRest (f ∷ g ∷ h ∷ []) = coverFields f g h
 coverRest (f ∷ g ∷ h ∷ i ∷ fs) = Bad (Count 5)
 
+-- another word than cover is out of its turn
 abbrev pub coverBy : Word → List (List ℕ) → CoverLine
 coverBy W.Cover fs = coverRest fs
 coverBy W.Row fs = Bad Turn

@@ -7,3 +7,4 @@ pub mod Blocks
 pub mod Covers
 pub mod Lines
 pub mod Sheet
+pub mod Readers

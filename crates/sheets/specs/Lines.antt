@@ -21,6 +21,7 @@ use Rattle.sheets.specs.declared.line.Line.the-variants as L
 use Rattle.sheets.specs.declared.body.Ending.{Ending}
 use Rattle.sheets.specs.declared.body.Ending.the-variants.{Fine, NoEnd, After}
 
+-- the field after row makes the line
 abbrev pub rowIs : Row → Line
 rowIs (R.Is w) = L.Row w
 rowIs R.Bad = L.Bad (F.Row 2)
@@ -31,6 +32,7 @@ rowRest n order [] = L.Bad (F.Count 2)
 rowRest n order (f ∷ []) = rowIs (rowOf n order f)
 rowRest n order (f ∷ g ∷ fs) = L.Bad (F.Count 3)
 
+-- the samples after block make the line
 abbrev pub blockIs : Samples → Line
 blockIs (S.Count k) = L.Block
 blockIs (S.Bad f) = L.Bad (F.Value f)
@@ -63,6 +65,7 @@ front n order late [] = L.Bad F.Missing
 front n order late (l ∷ []) = L.Bad F.Missing
 front n order late (l ∷ m ∷ ls) = lineOf n order late (fields l)
 
+-- one row more, or no more
 abbrev pub rowThen : Line → List ℕ → List ℕ
 rowThen (L.Row w) ws = w ∷ ws
 rowThen L.Block ws = []
@@ -81,6 +84,7 @@ afterEnd ([] ∷ []) = Fine
 afterEnd ((x ∷ xs) ∷ []) = After F.Missing
 afterEnd (l ∷ m ∷ ls) = After F.Turn
 
+-- another line than end: a row or a block here is out of its turn
 abbrev pub endBy : Line → List (List ℕ) → Ending
 endBy (L.Row w) ls = NoEnd F.Turn
 endBy L.Block ls = NoEnd F.Turn

@@ -1,11 +1,10 @@
 -- Numbers have one to four digits (n one to three), no leading zero but for 0 itself, a minus only on a sample and never before 0.
-use Prim.Native.Nat.{ℕ, _+_, _*_, _-_, _^_, _<_}
+use Prim.Native.Nat.{ℕ, _+_, _*_, _-_}
 use lib.Dec.{eqb, leb, ltb}
-use lib.IntN.{ℤ, pos, negℤ}
+use lib.IntN.{pos, negℤ}
 use lib.ListN.{length, getD, drop}
 use mathlib.Core.Bool.{Bool, cond, _&&_}
 use mathlib.Core.List.{List, [], _∷_}
-use mathlib.Core.Path.{_≡_}
 use Rattle.sheets.specs.declared.number.Number.{Number}
 use Rattle.sheets.specs.declared.number.Number.the-variants.{Is, Bad}
 use Rattle.sheets.specs.declared.number.Sample.{Sample}
@@ -44,13 +43,3 @@ abbrev pub sampleOf : List ℕ → Sample
 sampleOf f =
     cond (eqb (length f) 0) S.Bad
     (cond (eqb (getD f 0 0) 45) (negated (numberOf 4 (drop 1 f))) (plain (numberOf 4 f)))
-
--- a number that was read is below k
-abbrev pub Below : ℕ → Number → Type 0
-Below k (Is v) = v < k
-Below k Bad = Unit {0}
-
--- r is the definition's answer d, and below k
-pub record Reads (d : Number) (k : ℕ) (r : Number) : Type 0 where
-  pub is : r ≡ d
-  pub below : Below k r

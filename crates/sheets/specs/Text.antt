@@ -1,14 +1,15 @@
 -- Lines and fields: lines end with a line feed, fields are parted by tabs.
-use Prim.Native.Nat.{ℕ, zero, suc, _+_, _≤_}
+use Prim.Native.Nat.{ℕ, zero, suc, _+_}
 use lib.Dec.{eqb, leb}
 use lib.ListN.{length, drop}
 use mathlib.Core.Bool.{cond}
 use mathlib.Core.List.{List, [], _∷_}
-use mathlib.Core.Path.{_≡_}
 
+-- the byte between two fields
 abbrev pub tab : ℕ
 tab = 9
 
+-- the byte that ends a line
 abbrev pub lineFeed : ℕ
 lineFeed = 10
 
@@ -39,9 +40,11 @@ lines s = parts lineFeed s
 abbrev pub partsFrom : ℕ → List ℕ → ℕ → List (List ℕ)
 partsFrom b s at = cond (leb at (length s)) (parts b (drop at s)) []
 
+-- the fields of a line from a place on
 abbrev pub fieldsFrom : List ℕ → ℕ → List (List ℕ)
 fieldsFrom line at = partsFrom tab line at
 
+-- the lines of a text from a place on
 abbrev pub linesFrom : List ℕ → ℕ → List (List ℕ)
 linesFrom s at = partsFrom lineFeed s at
 
@@ -50,9 +53,3 @@ abbrev pub begins : List (List ℕ) → ℕ → ℕ
 begins ls zero = 0
 begins [] (suc k) = 0
 begins (l ∷ ls) (suc k) = length l + 1 + begins ls k
-
--- r is the first place from `at` on where b stands, or the length where there is none
-pub record Until (b : ℕ) (s : List ℕ) (at r : ℕ) : Type 0 where
-  pub is : r ≡ at + till b (drop at s)
-  pub low : at ≤ r
-  pub high : r ≤ length s

@@ -1,9 +1,9 @@
 // A block line and its samples.
 ghost use Prim.Native.Nat.{_+_, _≤_};
-ghost use lib.ListN.{length, drop, set};
+ghost use lib.ListN.{length, set};
 ghost use mathlib.Core.Path.{_≡_};
 ghost use Rattle.sheets.specs.Text.{fields, fieldsFrom};
-ghost use Rattle.sheets.specs.Blocks.{samplesOf, valuesOf, blockLine, SamplesRead, BlockRead};
+ghost use Rattle.sheets.specs.Readers.{FieldsRead, LineRead, BlockRead};
 use crate::BlockReply;
 use crate::number::Sample;
 use crate::number::read_sample;
@@ -31,7 +31,7 @@ fn put_sample(room: &mut [i16], k: usize, value: i16)
 // The samples of a line from a place on.
 pub fn read_samples(line: &[u8], from: usize, room: &mut [i16]) -> Samples
     requires { ⌜ from ≤ length (now line) + 1 ⌝ }
-    ensures { λ r. ⌜ SamplesRead (samplesOf 0 (fieldsFrom (now (line .entry)) from)) (valuesOf (fieldsFrom (now (line .entry)) from)) (now (room .entry)) r (now (room .exit)) ⌝ }
+    ensures { λ r. ⌜ FieldsRead (fieldsFrom (now (line .entry)) from) (now (room .entry)) r (now (room .exit)) ⌝ }
 {
     let mut at = from;
     let mut k: usize = 0;
@@ -50,7 +50,7 @@ pub fn read_samples(line: &[u8], from: usize, room: &mut [i16]) -> Samples
 
 // The samples of a block line.
 pub fn read_block_line(line: &[u8], room: &mut [i16]) -> Samples
-    ensures { λ r. ⌜ SamplesRead (blockLine (fields (now (line .entry)))) (valuesOf (drop 1 (fields (now (line .entry))))) (now (room .entry)) r (now (room .exit)) ⌝ }
+    ensures { λ r. ⌜ LineRead (fields (now (line .entry))) (now (room .entry)) r (now (room .exit)) ⌝ }
 {
     let end = until(line, 0, b'\t');
     let word = read_word(&line[..end]);

@@ -3,9 +3,8 @@ ghost use Prim.Native.Nat.{_+_, _≤_};
 ghost use lib.ListN.{length, set};
 ghost use mathlib.Core.Path.{_≡_};
 ghost use Rattle.sheets.specs.Text.{linesFrom};
-ghost use Rattle.sheets.specs.Blocks.{blocksOf};
-ghost use Rattle.sheets.specs.Lines.{rowsOf, afterEnd, endingOf};
-ghost use Rattle.sheets.specs.Sheet.{contentsOf, closed, bodyOf, Passed, RowsRead, BodyRead};
+ghost use Rattle.sheets.specs.Lines.{afterEnd, endingOf};
+ghost use Rattle.sheets.specs.Readers.{closed, bodyOf, RowsRead, BlocksRead, BodyRead};
 use crate::BlockReply;
 use crate::Order;
 use crate::Sheet;
@@ -47,7 +46,7 @@ fn put_row(table: &mut [u64], k: usize, word: u64)
 pub fn read_rows(input: &[u8], from: usize, n: usize, order: Order, table: &mut [u64]) -> Run
     requires { ⌜ from ≤ length (now input) ⌝ }
     requires { ⌜ n ≤ 64 ⌝ }
-    ensures { λ r. ⌜ RowsRead (rowsOf n order (linesFrom (now (input .entry)) from)) (now (input .entry)) from (now (table .entry)) r (now (table .exit)) ⌝ }
+    ensures { λ r. ⌜ RowsRead n order (now (input .entry)) from (now (table .entry)) r (now (table .exit)) ⌝ }
 {
     let mut at = from;
     let mut rows: usize = 0;
@@ -73,7 +72,7 @@ pub fn read_rows(input: &[u8], from: usize, n: usize, order: Order, table: &mut 
 // The block lines from a place on, counted.
 pub fn read_blocks(input: &[u8], from: usize) -> Run
     requires { ⌜ from ≤ length (now input) ⌝ }
-    ensures { λ r. ⌜ Passed (blocksOf (linesFrom (now (input .entry)) from)) (now (input .entry)) from r ⌝ }
+    ensures { λ r. ⌜ BlocksRead (now (input .entry)) from r ⌝ }
 {
     let mut at = from;
     let mut blocks: usize = 0;
@@ -149,7 +148,7 @@ fn check_body(input: &[u8], from: usize, cover: Cover) -> SheetReply
     requires { ⌜ from ≤ length (now input) ⌝ }
     requires { ⌜ length (now input) ≤ 32768 ⌝ }
     requires { ⌜ cover .n ≤ 64 ⌝ }
-    ensures { λ r. ⌜ r ≡ bodyOf from (contentsOf cover (linesFrom (now (input .entry)) from)) (linesFrom (now (input .entry)) from) ⌝ }
+    ensures { λ r. ⌜ r ≡ bodyOf from cover (linesFrom (now (input .entry)) from) ⌝ }
 {
     let n = cover.n;
     let kind = cover.kind;
@@ -177,7 +176,7 @@ pub fn read_body(input: &[u8], from: usize, cover: Cover, table: &mut [u64]) -> 
     requires { ⌜ from ≤ length (now input) ⌝ }
     requires { ⌜ length (now input) ≤ 32768 ⌝ }
     requires { ⌜ cover .n ≤ 64 ⌝ }
-    ensures { λ r. ⌜ BodyRead from (contentsOf cover (linesFrom (now (input .entry)) from)) (linesFrom (now (input .entry)) from) (now (table .entry)) r (now (table .exit)) ⌝ }
+    ensures { λ r. ⌜ BodyRead from cover (linesFrom (now (input .entry)) from) (now (table .entry)) r (now (table .exit)) ⌝ }
 {
     let n = cover.n;
     let order = cover.order;

@@ -1,5 +1,5 @@
 // The cover as the head of a sheet: its form, then its range.
-ghost use Rattle.sheets.specs.Sheet.{HeadRead};
+ghost use Rattle.sheets.specs.Readers.{HeadRead};
 use crate::cover::Cover;
 use crate::cover::CoverLine;
 use crate::cover::read_cover;

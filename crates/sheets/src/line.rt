@@ -2,7 +2,8 @@
 ghost use Prim.Native.Nat.{_+_, _≤_};
 ghost use lib.ListN.{length};
 ghost use mathlib.Core.Path.{_≡_};
-ghost use Rattle.sheets.specs.Text.{lineFeed, fields, fieldsFrom, linesFrom, Until};
+ghost use Rattle.sheets.specs.Text.{lineFeed, fields, fieldsFrom, linesFrom};
+ghost use Rattle.sheets.specs.Readers.{Until};
 ghost use Rattle.sheets.specs.Lines.{rowIs, rowRest, blockIs, blockRest, endRest, lineBy, lineOf, front};
 use crate::Order;
 use crate::block::Samples;

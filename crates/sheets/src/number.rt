@@ -3,7 +3,8 @@ ghost use Prim.Native.Nat.{_+_, _-_, _^_, _≤_, _<_};
 ghost use lib.IntN.{pos, negℤ};
 ghost use lib.ListN.{length};
 ghost use mathlib.Core.Path.{_≡_};
-ghost use Rattle.sheets.specs.Numbers.{leadingZero, digitsOf, numberOf, plain, negated, sampleOf, Below, Reads};
+ghost use Rattle.sheets.specs.Numbers.{leadingZero, digitsOf, numberOf, plain, negated, sampleOf};
+ghost use Rattle.sheets.specs.Readers.{Below, NumberRead};
 use crate::scan::within;
 
 // A field's number, or that it is none.
@@ -29,7 +30,7 @@ fn digit(x: u8) -> usize
 // The value of a run of at most four digits.
 fn read_digits(f: &[u8]) -> Number
     requires { ⌜ length (now f) ≤ 4 ⌝ }
-    ensures { λ r. ⌜ Reads (digitsOf 0 (now (f .entry))) (10 ^ length (now (f .entry))) r ⌝ }
+    ensures { λ r. ⌜ NumberRead (digitsOf 0 (now (f .entry))) (10 ^ length (now (f .entry))) r ⌝ }
 {
     let mut value: usize = 0;
     let mut i = 0;
@@ -54,7 +55,7 @@ fn leading_zero(f: &[u8]) -> bool
 // A number of one to `most` digits, with no leading zero but for 0 itself.
 pub fn read_number(f: &[u8], most: usize) -> Number
     requires { ⌜ most ≤ 4 ⌝ }
-    ensures { λ r. ⌜ Reads (numberOf most (now (f .entry))) (10 ^ most) r ⌝ }
+    ensures { λ r. ⌜ NumberRead (numberOf most (now (f .entry))) (10 ^ most) r ⌝ }
 {
     let length = f.len();
     if length == 0 {

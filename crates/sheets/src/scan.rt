@@ -4,7 +4,7 @@ ghost use lib.Dec.{leb};
 ghost use lib.ListN.{length};
 ghost use mathlib.Core.Bool.{_&&_};
 ghost use mathlib.Core.Path.{_≡_};
-ghost use Rattle.sheets.specs.Text.{Until};
+ghost use Rattle.sheets.specs.Readers.{Until};
 
 // The first place from `at` on where `stop` stands, or the length where there is none.
 pub fn until(text: &[u8], at: usize, stop: u8) -> usize

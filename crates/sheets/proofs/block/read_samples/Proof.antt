@@ -6,7 +6,7 @@ use mir.Facts.{toZ-ofZ}
 use mir.Syntax.{w16}
 use native.Mathlib.Omega.{arith}
 use Prim.Native.Nat.{_+_, _-_}
-use Rattle.sheets.proofs.Sampling.{Sampling, end-all, start, stop-bad, take-one}
+use Rattle.sheets.proofs.Sampling.{Sampling, sample-bad, sample-end, sample-on, sample-start}
 use Rattle.sheets.proofs.block.read_samples.Statement.{statement}
 use Rattle.sheets.proofs.block.read_samples.Tie as tie
 
@@ -17,7 +17,7 @@ abbrev μ-loop : tie.MeasureT-loop
 μ-loop line from room₀ at₀ k₀ room at k = length line + 1 - at
 
 loop-holds : tie.Need-loop-holds Inv-loop μ-loop
-loop-holds c = start _ _ _ (c .before .pre)
+loop-holds c = sample-start _ _ _ (c .before .pre)
 
 until-requires : tie.Need-until-requires Inv-loop μ-loop
 until-requires c κs = search needs
@@ -50,7 +50,7 @@ returns : tie.Need-returns Inv-loop μ-loop
 returns c =
     let l = c .before .before .before .before .before .before in
     let u = c .before .before .before .before .until in
-    stop-bad (l .loop .inv) (u .result) (omega arith) (u .ensures) (sym (c .before .before .read-sample .ensures) ∙ c .enum-told .given .1)
+    sample-bad (l .loop .inv) (u .result) (omega arith) (u .ensures) (sym (c .before .before .read-sample .ensures) ∙ c .enum-told .given .1)
 
 put-sample-requires : tie.Need-put-sample-requires Inv-loop μ-loop
 put-sample-requires c κs = search needs
@@ -71,13 +71,13 @@ loop-again c =
     let v = c .before .before .before .before .sample .given .0 .0 in
     let g = sym (c .before .before .before .before .before .before .read-sample .ensures) ∙ c .before .before .before .before .sample .given .1 in
     rw (c .before .put-sample .ensures, toZ-ofZ {w = w16} {z = v} (record { sfits = c .before .before .before .known-told .given .0 .1 }))
-    (take-one (l .loop .inv) (u .result) (omega arith) (u .ensures) v g)
+    (sample-on (l .loop .inv) (u .result) (omega arith) (u .ensures) v g)
 
 same-length-2 : tie.Need-same-length-2 Inv-loop μ-loop
 same-length-2 c = search needs
 
 returns-2 : tie.Need-returns-2 Inv-loop μ-loop
-returns-2 c = end-all (c .before .loop .inv) (omega arith)
+returns-2 c = sample-end (c .before .loop .inv) (omega arith)
 
 pub read-samples-spec : {M : Type 1} → statement M
 read-samples-spec =
