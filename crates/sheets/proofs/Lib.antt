@@ -19,3 +19,4 @@ pub mod Ranges
 pub mod Following
 pub mod Positions
 pub mod Worked
+pub mod Replies
