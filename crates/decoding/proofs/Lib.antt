@@ -1,5 +1,6 @@
 pub mod Integers
 pub mod Preference
+pub mod Without
 pub mod Targets
 pub mod Branches
 pub mod Digits
