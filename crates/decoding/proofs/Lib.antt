@@ -10,3 +10,4 @@ pub mod Runs
 pub mod Masks
 pub mod Parities
 pub mod Progress
+pub mod Gathering

@@ -6,7 +6,7 @@ use mathlib.Core.Bool.{Bool, false, true}
 use mathlib.Core.Path.{ap, ap₂, refl, sym, _∙_, _≡_}
 use native.Mathlib.Nat.{add-assoc, add-comm, add-mul, add-mul-mod-self-right, add-zero, div-eq-of-lt, lt-of-lt-of-le, mod-eq-of-lt, mul-add-div-right, mul-assoc, zero-add, zero-mul}
 use native.Mathlib.Omega.{arith}
-use Prim.Native.Nat.{_%_, _*_, _+_, _-_, _/_, _<_, _^_, suc, ℕ}
+use Prim.Native.Nat.{_%_, _*_, _+_, _-_, _/_, _<_, _^_, suc, ℕ, _≤_}
 use Rattle.trellises.specs.Numbers.{without}
 
 -- a digit past all of x changes nothing
@@ -56,3 +56,11 @@ without-cat e k a r l = go (ltb e k) refl
         let b : without (m + k) (a * 2 ^ k) ≡ a / 2 ^ m / 2 * 2 ^ (m + k) + (a % 2 ^ m * 2 ^ k + 0) = ap (without (m + k)) (sym z) ∙ above m k a 0 (pow-pos k) in
         let f : without (m + k) r ≡ r = without-past (m + k) r (lt-of-lt-of-le l (pow-mono (omega arith))) in
         rw (s, above m k a r l, b, f) (omega arith)
+
+-- the digits below the one taken out stay
+pub stays : (m e a k : ℕ) → m ≤ e → k < 2 ^ m → without e (a * 2 ^ m + k) ≡ without e (a * 2 ^ m) + k
+stays m e a k h l = without-cat e m a k l ∙ ap (λ (z : ℕ). without e (a * 2 ^ m) + z) (without-past e k (lt-of-lt-of-le l (pow-mono h)))
+
+-- four numbers from a multiple of four on
+pub four-stay : (e y k : ℕ) → 2 ≤ e → y % 4 ≡ 0 → k < 4 → without e (y + k) ≡ without e y + k
+four-stay e y k h a l = let q : y ≡ y / 4 * 2 ^ 2 = omega arith in ap (λ (z : ℕ). without e (z + k)) q ∙ stays 2 e (y / 4) k h l ∙ ap (λ (z : ℕ). without e z + k) (sym q)

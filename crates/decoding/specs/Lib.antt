@@ -4,3 +4,4 @@ pub mod Choosing
 pub mod Running
 pub mod Patterns
 pub mod Blocks
+pub mod Strips

@@ -3,6 +3,7 @@ mod choices;
 mod patterns;
 mod states;
 mod step;
+mod strips;
 
 // What the steps counted: branches added, and comparisons made.
 pub struct Counts {
