@@ -11,3 +11,4 @@ pub mod Masks
 pub mod Parities
 pub mod Progress
 pub mod Gathering
+pub mod Entries

@@ -5,3 +5,4 @@ pub mod Running
 pub mod Patterns
 pub mod Blocks
 pub mod Strips
+pub mod Tables

@@ -4,6 +4,7 @@ mod patterns;
 mod states;
 mod step;
 mod strips;
+mod tables;
 
 // What the steps counted: branches added, and comparisons made.
 pub struct Counts {
