@@ -12,3 +12,5 @@ pub mod Parities
 pub mod Progress
 pub mod Gathering
 pub mod Entries
+pub mod Storing
+pub mod Picks

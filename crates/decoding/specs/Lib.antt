@@ -6,3 +6,4 @@ pub mod Patterns
 pub mod Blocks
 pub mod Strips
 pub mod Tables
+pub mod Picking

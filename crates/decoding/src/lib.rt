@@ -1,4 +1,5 @@
 // Decoding: the codeword of greatest correlation with soft samples.
+mod blocks;
 mod choices;
 mod patterns;
 mod states;
