@@ -14,3 +14,4 @@ pub mod Gathering
 pub mod Entries
 pub mod Storing
 pub mod Picks
+pub mod StripParts

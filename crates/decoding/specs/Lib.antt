@@ -7,3 +7,4 @@ pub mod Blocks
 pub mod Strips
 pub mod Tables
 pub mod Picking
+pub mod Halves

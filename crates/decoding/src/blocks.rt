@@ -3,6 +3,7 @@ ghost use mathlib.Core.Bool.{cond, false, true};
 ghost use mathlib.Core.Path.{_≡_};
 ghost use Prim.Native.Nat.{_%_, _*_, _+_, _<_};
 ghost use lib.Dec.{eqb};
+ghost use Rattle.decoding.specs.Halves.{StripDone, StripFits};
 ghost use Rattle.decoding.specs.Picking.{LoneFits, LoneTaken, Lones, LonesFit, PickFits, PickTaken, Picks, PicksFit};
 use crate::Counts;
 use crate::choices;
@@ -136,46 +137,20 @@ fn side_of(bits: u64) -> usize
     (bits % 2 * 32) as usize
 }
 
-// A strip of 32 states from `first` on, whose bits are the lowest of `bits`.
-fn strip(
-    metrics: &mut [i32],
-    from: usize,
-    to: usize,
-    section: Section,
-    gain: i32,
-    weights: &[u32; 32],
-    signs: &[i32; 64],
-    ties: &[i32; 64],
-    bits: u64,
-    first: usize,
-    near: &mut [i32; 32],
-    far: &mut [i32; 32],
-    counts: Counts,
-) -> Run {
+// A strip of 32 states from `first` on, whose bits are the lowest of `bits`. What the gain adds is in the tables.
+fn strip(metrics: &mut [i32], from: usize, to: usize, section: Section, gain: i32, weights: &[u32; 32], signs: &[i32; 64], ties: &[i32; 64], bits: u64, first: usize, near: &mut [i32; 32], far: &mut [i32; 32], counts: Counts) -> Run
+    requires { ⌜ StripFits (now metrics) from to section gain (now weights) (now signs) (now ties) bits first 32 (now near) (now far) counts ⌝ }
+    ensures { λ r. ⌜ StripDone (now (metrics .entry)) from to section gain first 32 counts (now (metrics .exit)) (now (near .exit)) (now (far .exit)) r ⌝ }
+{
     let place = states::place(section);
     let side = side_of(bits);
     let word = bits % 4294967296;
     let at = to + first;
     strips::fetch(&*metrics, from, place, first, &mut *near);
     if section.begins {
-        strips::fetch(
-            &*metrics,
-            from,
-            place,
-            first + states::power(section.live),
-            &mut *far,
-        );
-        let picked = picks(
-            metrics,
-            at,
-            &*near,
-            &*far,
-            weights,
-            signs,
-            ties,
-            side,
-            counts,
-        );
+        let second = first + states::power(section.live);
+        strips::fetch(&*metrics, from, place, second, &mut *far);
+        let picked = picks(metrics, at, &*near, &*far, weights, signs, ties, side, counts);
         let raised = picked.counts;
         return Run {
             word: word ^ (picked.word as u64),
@@ -189,42 +164,17 @@ fn strip(
     }
 }
 
-// The 64 states of a decision word, the upper strip first.
-pub fn block(
-    metrics: &mut [i32],
-    from: usize,
-    to: usize,
-    section: Section,
-    gain: i32,
-    weights: &[u32; 32],
-    signs: &[i32; 64],
-    ties: &[i32; 64],
-    bits: u64,
-    first: usize,
-    near: &mut [i32; 32],
-    far: &mut [i32; 32],
-    counts: Counts,
-) -> Run {
+// The 64 states of a decision word from `first` on, whose bits are `bits`: the upper strip, then the lower.
+pub fn block(metrics: &mut [i32], from: usize, to: usize, section: Section, gain: i32, weights: &[u32; 32], signs: &[i32; 64], ties: &[i32; 64], bits: u64, first: usize, near: &mut [i32; 32], far: &mut [i32; 32], counts: Counts) -> Run
+    requires { ⌜ StripFits (now metrics) from to section gain (now weights) (now signs) (now ties) bits first 64 (now near) (now far) counts ⌝ }
+    ensures { λ r. ⌜ StripDone (now (metrics .entry)) from to section gain first 64 counts (now (metrics .exit)) (now (near .exit)) (now (far .exit)) r ⌝ }
+{
     let mut word: u64 = 0;
     let mut raised = counts;
     let mut i = 64;
     while 0 < i {
         i -= 32;
-        let run = strip(
-            &mut *metrics,
-            from,
-            to,
-            section,
-            gain,
-            weights,
-            signs,
-            ties,
-            bits >> i,
-            first + i,
-            &mut *near,
-            &mut *far,
-            raised,
-        );
+        let run = strip(&mut *metrics, from, to, section, gain, weights, signs, ties, bits >> i, first + i, &mut *near, &mut *far, raised);
         word = 4294967296 * word + run.word;
         raised = run.counts;
     }
