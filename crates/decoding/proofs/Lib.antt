@@ -15,3 +15,4 @@ pub mod Entries
 pub mod Storing
 pub mod Picks
 pub mod StripParts
+pub mod TwoStrips

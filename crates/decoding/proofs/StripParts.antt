@@ -135,7 +135,7 @@ module _ (M : List ℤ) (from to : ℕ) (c : Section) (y : ℤ) (weights : List 
       }
 
       pub lones-asks : LonesFit M (to + first) near signs side k
-      lones-asks = record { strip = lone-strip; additions = h .additions }
+      lones-asks = record { strip = lone-strip; additions = omega (arith, h .additions) }
 
       -- ---- one branch a state
 
@@ -168,8 +168,8 @@ module _ (M : List ℤ) (from to : ℕ) (c : Section) (y : ℤ) (weights : List 
             tie-small = either-half (λ (i : ℕ). natAbs (getD ties i (pos 0)) ≤ 1) (λ d i hd hi. rw (h .prepared .tables .tie d i hd hi) (omega arith));
             masks = h .prepared .masks;
           };
-          additions = h .additions;
-          comparisons = h .comparisons;
+          additions = omega (arith, h .additions);
+          comparisons = omega (arith, h .comparisons);
         }
 
         module _ (M₁ : List ℤ) (r : Picked) (q : Picks M (to + first) near far signs ties side 32 k M₁ r) (v : ℕ) (ev : v ≡ r .word) where

@@ -33,8 +33,8 @@ pub record StripFits (metrics : List ℤ) (from to : ℕ) (c : Section) (y : ℤ
   pub aligned : first ≡ strip * 32
   pub states : first + n ≤ 2 ^ c .live
   pub bits : (i : ℕ) → i < n → bit w i ≡ bitOf c (first + i)
-  pub additions : k .additions ≤ 2 ^ 42
-  pub comparisons : k .comparisons ≤ 2 ^ 42
+  pub additions : k .additions + 4 * n ≤ 2 ^ 42
+  pub comparisons : k .comparisons + 4 * n ≤ 2 ^ 42
 
 -- they are done, and the rooms for old metrics are there still
 pub record StripDone (metrics : List ℤ) (from to : ℕ) (c : Section) (y : ℤ) (first n : ℕ) (k : Counts) (metrics′ near′ far′ : List ℤ) (r : Run) : Type 0 where

@@ -138,7 +138,21 @@ fn side_of(bits: u64) -> usize
 }
 
 // A strip of 32 states from `first` on, whose bits are the lowest of `bits`. What the gain adds is in the tables.
-fn strip(metrics: &mut [i32], from: usize, to: usize, section: Section, gain: i32, weights: &[u32; 32], signs: &[i32; 64], ties: &[i32; 64], bits: u64, first: usize, near: &mut [i32; 32], far: &mut [i32; 32], counts: Counts) -> Run
+fn strip(
+    metrics: &mut [i32],
+    from: usize,
+    to: usize,
+    section: Section,
+    gain: i32,
+    weights: &[u32; 32],
+    signs: &[i32; 64],
+    ties: &[i32; 64],
+    bits: u64,
+    first: usize,
+    near: &mut [i32; 32],
+    far: &mut [i32; 32],
+    counts: Counts,
+) -> Run
     requires { ⌜ StripFits (now metrics) from to section gain (now weights) (now signs) (now ties) bits first 32 (now near) (now far) counts ⌝ }
     ensures { λ r. ⌜ StripDone (now (metrics .entry)) from to section gain first 32 counts (now (metrics .exit)) (now (near .exit)) (now (far .exit)) r ⌝ }
 {
@@ -150,7 +164,17 @@ fn strip(metrics: &mut [i32], from: usize, to: usize, section: Section, gain: i3
     if section.begins {
         let second = first + states::power(section.live);
         strips::fetch(&*metrics, from, place, second, &mut *far);
-        let picked = picks(metrics, at, &*near, &*far, weights, signs, ties, side, counts);
+        let picked = picks(
+            metrics,
+            at,
+            &*near,
+            &*far,
+            weights,
+            signs,
+            ties,
+            side,
+            counts,
+        );
         let raised = picked.counts;
         return Run {
             word: word ^ (picked.word as u64),
@@ -165,7 +189,21 @@ fn strip(metrics: &mut [i32], from: usize, to: usize, section: Section, gain: i3
 }
 
 // The 64 states of a decision word from `first` on, whose bits are `bits`: the upper strip, then the lower.
-pub fn block(metrics: &mut [i32], from: usize, to: usize, section: Section, gain: i32, weights: &[u32; 32], signs: &[i32; 64], ties: &[i32; 64], bits: u64, first: usize, near: &mut [i32; 32], far: &mut [i32; 32], counts: Counts) -> Run
+pub fn block(
+    metrics: &mut [i32],
+    from: usize,
+    to: usize,
+    section: Section,
+    gain: i32,
+    weights: &[u32; 32],
+    signs: &[i32; 64],
+    ties: &[i32; 64],
+    bits: u64,
+    first: usize,
+    near: &mut [i32; 32],
+    far: &mut [i32; 32],
+    counts: Counts,
+) -> Run
     requires { ⌜ StripFits (now metrics) from to section gain (now weights) (now signs) (now ties) bits first 64 (now near) (now far) counts ⌝ }
     ensures { λ r. ⌜ StripDone (now (metrics .entry)) from to section gain first 64 counts (now (metrics .exit)) (now (near .exit)) (now (far .exit)) r ⌝ }
 {
@@ -174,7 +212,21 @@ pub fn block(metrics: &mut [i32], from: usize, to: usize, section: Section, gain
     let mut i = 64;
     while 0 < i {
         i -= 32;
-        let run = strip(&mut *metrics, from, to, section, gain, weights, signs, ties, bits >> i, first + i, &mut *near, &mut *far, raised);
+        let run = strip(
+            &mut *metrics,
+            from,
+            to,
+            section,
+            gain,
+            weights,
+            signs,
+            ties,
+            bits >> i,
+            first + i,
+            &mut *near,
+            &mut *far,
+            raised,
+        );
         word = 4294967296 * word + run.word;
         raised = run.counts;
     }
