@@ -34,7 +34,7 @@ use Rattle.words.specs.Parity.{parity}
 use Rattle.words.specs.Word.{bit}
 
 -- the low 32 bits of a word
-low-word : (w i : ℕ) → i < 32 → bit (w % 2 ^ 32) i ≡ bit w i
+pub low-word : (w i : ℕ) → i < 32 → bit (w % 2 ^ 32) i ≡ bit w i
 low-word w i l = sym (ap (λ (x : ℕ). bit x i) (sym (div-add-mod' w (2 ^ 32))) ∙ bit-low 32 (w / 2 ^ 32) (w % 2 ^ 32) i l)
 
 module _ (M : List ℤ) (from to : ℕ) (c : Section) (y : ℤ) (weights : List ℕ) (signs ties : List ℤ) (w first : ℕ) (near₀ far₀ : List ℤ) (k : Counts)

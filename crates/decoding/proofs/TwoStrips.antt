@@ -1,5 +1,6 @@
 -- The two strips of a decision word, the upper one first.
 use lib.IntN.{ℤ}
+use lib.ListN.{length}
 use lib.Pow.{pow-mono}
 use mathlib.Core.List.{List}
 use mathlib.Core.Path.{ap, refl, sym, _∙_, _≡_}
@@ -8,12 +9,17 @@ use native.Mathlib.Omega.{arith}
 use Prim.Native.Nat.{_%_, _*_, _+_, _-_, _/_, _<_, _^_, ℕ, _≤_}
 use Rattle.decoding.proofs.Digits.{bit-shift}
 use Rattle.decoding.proofs.Runs.{adds-room, after-ready, compares-room, lower, no-states}
+use Rattle.decoding.proofs.StripParts.{low-word}
+use Rattle.decoding.specs.Blocks.{BlockFits}
 use Rattle.decoding.specs.declared.Counts.{Counts}
 use Rattle.decoding.specs.declared.states.Run.{Run}
-use Rattle.decoding.specs.Halves.{StripDone, StripFits}
+use Rattle.decoding.specs.Halves.{Prepared, StripDone, StripFits}
+use Rattle.decoding.specs.Patterns.{Pattern, Turned}
+use Rattle.decoding.specs.Tables.{Tables, Weights}
 use Rattle.trellises.specs.declared.Section.{Section}
 use Rattle.trellises.specs.Numbers.{bitOf}
 use Rattle.words.specs.Ends.{first}
+use Rattle.words.specs.Word.{bit}
 
 -- the strips from i on are done
 pub record Strips (M : List ℤ) (from to : ℕ) (c : Section) (y : ℤ) (first : ℕ) (k : Counts) (i : ℕ) (M₁ near far : List ℤ) (v : ℕ) (k₁ : Counts) : Type 0 where
@@ -75,3 +81,34 @@ module _ (M : List ℤ) (from to : ℕ) (c : Section) (y : ℤ) (weights : List 
       let z : i ≡ 0 = omega arith in
       let f : first + 0 ≡ first = omega arith in
       rw (z, f) at (s .done)
+
+-- ---- the states of a decision word
+
+-- a pattern turned to its states is their bits
+pub word-asks : (M : List ℤ) (from to : ℕ) (c : Section) (y : ℤ) (weights : List ℕ) (signs ties : List ℤ) (w at v : ℕ) (near far : List ℤ) (k : Counts)
+    → Prepared c y weights signs ties near far → BlockFits M from to c y w at 64 k → Turned (c .column) (at * 64) v
+    → StripFits M from to c y weights signs ties v (at * 64) 64 near far k
+word-asks M from to c y weights signs ties w at v near far k p h t = record {
+  prepared = p;
+  ready = h .ready;
+  strip = at * 2;
+  aligned = omega arith;
+  states = h .states;
+  bits = t .bits;
+  additions = omega (arith, h .additions);
+  comparisons = omega (arith, h .comparisons);
+}
+
+-- ---- the tables of a section
+
+pub prepared-by : (c : Section) (y : ℤ) (weights : List ℕ) (signs ties near far : List ℤ) (w v : ℕ) → 6 ≤ c .live → Weights weights → Pattern (c .column) w
+    → v ≡ w % 2 ^ 32 → Tables v y signs ties → length near ≡ 32 → length far ≡ 32 → Prepared c y weights signs ties near far
+prepared-by c y weights signs ties near far w v l m p e t n f = record {
+  wide = l;
+  masks = m;
+  word = v;
+  pattern = λ i h. ap (λ (x : ℕ). bit x i) e ∙ low-word w i h ∙ p .bits i (omega arith);
+  tables = t;
+  near-size = n;
+  far-size = f;
+}
