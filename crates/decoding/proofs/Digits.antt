@@ -1,11 +1,12 @@
 -- A number above another: its bits are those of both.
 use lib.Arith.{digits-lt}
 use lib.Bits.{block-half, block-odd}
-use lib.Pow.{pow-add}
-use mathlib.Core.Path.{ap, ap₂, _∙_, _≡_}
+use lib.Pow.{pow-add, shr-shr}
+use mathlib.Core.Path.{ap, ap₂, sym, _∙_, _≡_}
 use native.Mathlib.Nat.{add-comm, pow-suc}
 use native.Mathlib.Omega.{arith}
-use Prim.Native.Nat.{_*_, _+_, _/_, _<_, _^_, suc, zero, ℕ}
+use Prim.Native.Nat.{_%_, _*_, _+_, _/_, _<_, _^_, suc, zero, ℕ}
+use Rattle.words.proofs.Word.{bit-div}
 use Rattle.words.specs.Word.{bit}
 
 -- a word's low n bits and those above them
@@ -22,3 +23,7 @@ bit-high (suc n) a b i l =
 
 pub cat-lt : (n m a b : ℕ) → a < 2 ^ m → b < 2 ^ n → a * 2 ^ n + b < 2 ^ (n + m)
 cat-lt n m a b ha hb = rw (add-comm n m, pow-add 2 m n) (digits-lt ha hb)
+
+-- a word shifted down
+pub bit-shift : (w m i : ℕ) → bit (w / 2 ^ m) i ≡ bit w (m + i)
+bit-shift w m i = bit-div i (w / 2 ^ m) ∙ ap (λ (x : ℕ). x % 2) (shr-shr w m i) ∙ sym (bit-div (m + i) w)

@@ -14,6 +14,7 @@ pub mod LentParts
 pub mod SweepSection
 pub mod SweepEnds
 pub mod Preference
+pub mod Without
 pub mod Targets
 pub mod Branches
 pub mod Digits
@@ -40,3 +41,9 @@ pub mod SearchEnds
 pub mod PlateSizes
 pub mod DecodeCalls
 pub mod DecodeDetermined
+pub mod Gathering
+pub mod Entries
+pub mod Storing
+pub mod Picks
+pub mod StripParts
+pub mod TwoStrips

@@ -1,11 +1,14 @@
 -- Masks: digit j of the numbers 0 to 63 as one word, tested at each of them, and the parity of a number by its digits.
 use lib.Dec.{T, eqb, eqb→eq}
+use lib.ListN.{getD}
 use mathlib.Core.Bool.{Bool, false, true}
+use mathlib.Core.List.{List, [], _∷_}
 use mathlib.Core.Logic.{⊎-elim}
-use mathlib.Core.Path.{subst, sym, _≡_}
+use mathlib.Core.Path.{refl, subst, sym, _≡_}
 use native.Mathlib.Nat.{eq-or-lt-of-le, le-of-suc-le-suc}
 use native.Mathlib.Omega.{arith}
-use Prim.Native.Nat.{_%_, _/_, _<_, suc, zero, ℕ}
+use Prim.Native.Nat.{_%_, _/_, _<_, _^_, suc, zero, ℕ}
+use Rattle.decoding.specs.Tables.{Weights}
 use Rattle.words.specs.Word.{bit}
 
 abbrev both : Bool → Bool → Bool
@@ -31,28 +34,35 @@ at (suc n) f t i h =
     ⊎-elim (λ e. subst (λ (k : ℕ). T (f k)) (sym e) (left (f n) (below n f) t))
     (λ l. at n f (right (f n) (below n f) t) i l) (eq-or-lt-of-le (le-of-suc-le-suc h))
 
--- two numbers that antt finds equal at each place below 64
-same-below : (f g : ℕ → ℕ) → T (below 64 (λ i. eqb (f i) (g i))) → (i : ℕ) → i < 64 → f i ≡ g i
-same-below f g t i h = eqb→eq (f i) (g i) (at 64 (λ i. eqb (f i) (g i)) t i h)
+-- two numbers that antt finds equal at each place below n
+same-below : (n : ℕ) (f g : ℕ → ℕ) → T (below n (λ i. eqb (f i) (g i))) → (i : ℕ) → i < n → f i ≡ g i
+same-below n f g t i h = eqb→eq (f i) (g i) (at n (λ i. eqb (f i) (g i)) t i h)
 
 pub mask-0 : (i : ℕ) → i < 64 → bit 0xAAAAAAAAAAAAAAAA i ≡ i % 2
-mask-0 = same-below (bit 0xAAAAAAAAAAAAAAAA) (λ i. i % 2) tt
+mask-0 = same-below 64 (bit 0xAAAAAAAAAAAAAAAA) (λ i. i % 2) tt
 
 pub mask-1 : (i : ℕ) → i < 64 → bit 0xCCCCCCCCCCCCCCCC i ≡ i / 2 % 2
-mask-1 = same-below (bit 0xCCCCCCCCCCCCCCCC) (λ i. i / 2 % 2) tt
+mask-1 = same-below 64 (bit 0xCCCCCCCCCCCCCCCC) (λ i. i / 2 % 2) tt
 
 pub mask-2 : (i : ℕ) → i < 64 → bit 0xF0F0F0F0F0F0F0F0 i ≡ i / 2 / 2 % 2
-mask-2 = same-below (bit 0xF0F0F0F0F0F0F0F0) (λ i. i / 2 / 2 % 2) tt
+mask-2 = same-below 64 (bit 0xF0F0F0F0F0F0F0F0) (λ i. i / 2 / 2 % 2) tt
 
 pub mask-3 : (i : ℕ) → i < 64 → bit 0xFF00FF00FF00FF00 i ≡ i / 2 / 2 / 2 % 2
-mask-3 = same-below (bit 0xFF00FF00FF00FF00) (λ i. i / 2 / 2 / 2 % 2) tt
+mask-3 = same-below 64 (bit 0xFF00FF00FF00FF00) (λ i. i / 2 / 2 / 2 % 2) tt
 
 pub mask-4 : (i : ℕ) → i < 64 → bit 0xFFFF0000FFFF0000 i ≡ i / 2 / 2 / 2 / 2 % 2
-mask-4 = same-below (bit 0xFFFF0000FFFF0000) (λ i. i / 2 / 2 / 2 / 2 % 2) tt
+mask-4 = same-below 64 (bit 0xFFFF0000FFFF0000) (λ i. i / 2 / 2 / 2 / 2 % 2) tt
 
 pub mask-5 : (i : ℕ) → i < 64 → bit 0xFFFFFFFF00000000 i ≡ i / 2 / 2 / 2 / 2 / 2 % 2
-mask-5 = same-below (bit 0xFFFFFFFF00000000) (λ i. i / 2 / 2 / 2 / 2 / 2 % 2) tt
+mask-5 = same-below 64 (bit 0xFFFFFFFF00000000) (λ i. i / 2 / 2 / 2 / 2 / 2 % 2) tt
 
 -- every bit of the largest word
 pub full : (i : ℕ) → i < 64 → bit 0xFFFFFFFFFFFFFFFF i ≡ 1
-full = same-below (bit 0xFFFFFFFFFFFFFFFF) (λ i. 1) tt
+full = same-below 64 (bit 0xFFFFFFFFFFFFFFFF) (λ i. 1) tt
+
+-- the weights of 32 positions
+abbrev pub weights : List ℕ
+weights = 1 ∷ 2 ∷ 4 ∷ 8 ∷ 16 ∷ 32 ∷ 64 ∷ 128 ∷ 256 ∷ 512 ∷ 1024 ∷ 2048 ∷ 4096 ∷ 8192 ∷ 16384 ∷ 32768 ∷ 65536 ∷ 131072 ∷ 262144 ∷ 524288 ∷ 1048576 ∷ 2097152 ∷ 4194304 ∷ 8388608 ∷ 16777216 ∷ 33554432 ∷ 67108864 ∷ 134217728 ∷ 268435456 ∷ 536870912 ∷ 1073741824 ∷ 2147483648 ∷ []
+
+pub weights-are : Weights weights
+weights-are = record { size = refl; weight = same-below 32 (λ i. getD weights i 0) (λ i. 2 ^ i) tt }

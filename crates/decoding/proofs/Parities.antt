@@ -2,8 +2,9 @@
 use lib.Arith.{digits-div, digits-mod}
 use lib.Bits.{and-block, and-lt, and-step, and-zero-l, bitAnd, bitXor, differ}
 use lib.Count.{ones, ones-cat, ones-step}
+use lib.Pow.{pow-pos}
 use mathlib.Core.Path.{ap, ap₂, sym, _∙_, _≡_}
-use native.Mathlib.Nat.{add-comm, div-add-mod'}
+use native.Mathlib.Nat.{add-comm, div-add-mod', mod-lt}
 use native.Mathlib.Omega.{arith}
 use Prim.Native.Nat.{_%_, _*_, _+_, _/_, _<_, _^_, min, ℕ}
 use Rattle.decoding.proofs.Masks.{full, mask-0, mask-1, mask-2, mask-3, mask-4, mask-5}
@@ -120,36 +121,37 @@ module _ (column a b c d e r : ℕ) (h0 : Added 0 (column % 2) 0xAAAAAAAAAAAAAAA
   pub six-digits : Pattern column r
   six-digits = record { bits = six-bits }
 
--- ---- another block of 64
+-- ---- another block of 2 ^ b numbers
 
--- the ones in common of number i of block k: those of the block above digit 6, and those of i below
-block-ones : (k i column : ℕ) → i < 64 → ones (bitAnd (k * 64 + i) column) ≡ ones (bitAnd k (column / 64)) + ones (bitAnd i (column % 64))
-block-ones k i column h =
-    let r : column % 2 ^ 6 < 2 ^ 6 = omega arith in
-    ap (λ (z : ℕ). ones (bitAnd (k * 2 ^ 6 + i) z)) (sym (div-add-mod' column (2 ^ 6)))
-    ∙ ap ones (and-block 6 k (column / 2 ^ 6) i (column % 2 ^ 6) h r)
-    ∙ ones-cat 6 (bitAnd k (column / 2 ^ 6)) (bitAnd i (column % 2 ^ 6)) (and-lt 6 i (column % 2 ^ 6) h r)
+-- the ones in common of number i of block k: those of the block above digit b, and those of i below
+block-ones : (b k i column : ℕ) → i < 2 ^ b
+    → ones (bitAnd (k * 2 ^ b + i) column) ≡ ones (bitAnd k (column / 2 ^ b)) + ones (bitAnd i (column % 2 ^ b))
+block-ones b k i column h =
+    let r : column % 2 ^ b < 2 ^ b = mod-lt column (pow-pos b) in
+    ap (λ (z : ℕ). ones (bitAnd (k * 2 ^ b + i) z)) (sym (div-add-mod' column (2 ^ b)))
+    ∙ ap ones (and-block b k (column / 2 ^ b) i (column % 2 ^ b) h r)
+    ∙ ones-cat b (bitAnd k (column / 2 ^ b)) (bitAnd i (column % 2 ^ b)) (and-lt b i (column % 2 ^ b) h r)
 
 ones-none : (b : ℕ) → ones (bitAnd 0 b) ≡ 0
 unfolding ones
 ones-none b = ap ones (and-zero-l b)
 
 -- so a number's parity is its block's own and its place's
-block-parity : (k i column : ℕ) → i < 64 → parity (k * 64 + i) column ≡ (parity (k * 64) column + parity i column) % 2
-block-parity k i column h =
-    let d : k * 64 + 0 ≡ k * 64 = omega arith in
-    let e : 0 * 64 + i ≡ i = omega arith in
-    let b : ones (bitAnd (k * 64) column) ≡ ones (bitAnd k (column / 64)) =
-    ap (λ (x : ℕ). ones (bitAnd x column)) (sym d) ∙ block-ones k 0 column (omega arith) ∙ omega (arith, ones-none (column % 64)) in
-    let c : ones (bitAnd i column) ≡ ones (bitAnd i (column % 64)) =
-    ap (λ (x : ℕ). ones (bitAnd x column)) (sym e) ∙ block-ones 0 i column h ∙ omega (arith, ones-none (column / 64)) in
-    let s : ones (bitAnd (k * 64 + i) column) ≡ ones (bitAnd (k * 64) column) + ones (bitAnd i column) = omega (arith, block-ones k i column h) in
-    ap (λ (x : ℕ). x % 2) s ∙ sym (mod-left (ones (bitAnd (k * 64) column)) (ones (bitAnd i column)))
-    ∙ sym (mod-right (parity (k * 64) column) (ones (bitAnd i column)))
+pub block-parity : (b k i column : ℕ) → i < 2 ^ b → parity (k * 2 ^ b + i) column ≡ (parity (k * 2 ^ b) column + parity i column) % 2
+block-parity b k i column h =
+    let d : k * 2 ^ b + 0 ≡ k * 2 ^ b = omega arith in
+    let e : 0 * 2 ^ b + i ≡ i = omega arith in
+    let f : ones (bitAnd (k * 2 ^ b) column) ≡ ones (bitAnd k (column / 2 ^ b)) =
+    ap (λ (x : ℕ). ones (bitAnd x column)) (sym d) ∙ block-ones b k 0 column (pow-pos b) ∙ omega (arith, ones-none (column % 2 ^ b)) in
+    let c : ones (bitAnd i column) ≡ ones (bitAnd i (column % 2 ^ b)) =
+    ap (λ (x : ℕ). ones (bitAnd x column)) (sym e) ∙ block-ones b 0 i column h ∙ omega (arith, ones-none (column / 2 ^ b)) in
+    let s : ones (bitAnd (k * 2 ^ b + i) column) ≡ ones (bitAnd (k * 2 ^ b) column) + ones (bitAnd i column) = omega (arith, block-ones b k i column h) in
+    ap (λ (x : ℕ). x % 2) s ∙ sym (mod-left (ones (bitAnd (k * 2 ^ b) column)) (ones (bitAnd i column)))
+    ∙ sym (mod-right (parity (k * 2 ^ b) column) (ones (bitAnd i column)))
 
 module _ (w column first : ℕ) (h : TurnFits w column first) where
   first-parity : (i : ℕ) → i < 64 → parity (first + i) column ≡ (parity first column + parity i column) % 2
-  first-parity i l = rw (h .aligned) (block-parity (h .block) i column l)
+  first-parity i l = rw (h .aligned) (block-parity 6 (h .block) i column l)
 
   pub kept : parity first column ≡ 0 → Turned column first w
   kept e = record { bits = λ i l. h .pattern .bits i l ∙ sym (first-parity i l ∙ ap (λ (x : ℕ). (x + parity i column) % 2) e ∙ mod-one i) }

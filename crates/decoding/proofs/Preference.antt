@@ -7,7 +7,7 @@ use mathlib.Core.Path.{ap, ap₂, refl, _∙_, _≡_}
 use mir.Syntax.{w32}
 use mir.Val.{SFits, ofZ, toZ}
 use native.Mathlib.Omega.{arith}
-use Prim.Native.Nat.{_^_, suc, zero, ℕ, _≤_}
+use Prim.Native.Nat.{_<_, _^_, suc, zero, ℕ, _≤_}
 use Rattle.decoding.proofs.Integers.{abs-add, abs-neg, back, difference-fits, difference-is, sum-fits, sum-is}
 use Rattle.decoding.specs.Choosing.{takesSecond}
 use Rattle.decoding.specs.Taking.{signed}
@@ -16,6 +16,17 @@ use Rattle.decoding.specs.Taking.{signed}
 pub minus : (d : ℕ) (y : ℤ) → (d ≡ 0 → ⊥) → pos 0 -ℤ y ≡ signed d y
 minus zero y h = absurd (h refl)
 minus (suc d) y h = +ℤ-idl (negℤ y)
+
+pub sign-size : (d : ℕ) (y : ℤ) → natAbs (signed d y) ≡ natAbs y
+sign-size zero y = refl
+sign-size (suc d) y = abs-neg y
+
+-- the machine's copies of a sign and of a tie
+pub sign-copy : (d : ℕ) (y s : ℤ) → natAbs y ≤ 2 ^ 20 → s ≡ signed d y → toZ w32 (ofZ w32 s) ≡ signed d y
+sign-copy d y s h e = rw e (back (signed d y) (omega (arith, sign-size d y)))
+
+pub tie-copy : (d : ℕ) (u : ℤ) → d < 2 → u ≡ pos d → toZ w32 (ofZ w32 u) ≡ pos d
+tie-copy d u h e = rw e (back (pos d) (omega arith))
 
 -- a choice by a digit that is 1 where a test holds
 pub by-test {ℓ} : {A : Type ℓ} (t : Bool) (x y : A) → cond (eqb (cond t 1 0) 0) x y ≡ cond t y x

@@ -7,6 +7,7 @@ use mathlib.Core.Bool.{Bool, cond, false, true}
 use mathlib.Core.List.{List}
 use mathlib.Core.Logic.{inl, inr, _⊎_, ⊎-elim}
 use mathlib.Core.Path.{ap, ap₂, refl, sym, _∙_, _≡_}
+use native.Mathlib.Nat.{zero-add}
 use native.Mathlib.Omega.{arith}
 use Prim.Native.Nat.{_%_, _*_, _+_, _-_, _/_, _<_, _^_, suc, zero, zero-le, ℕ, _≤_}
 use Rattle.decoding.proofs.Parts.{below-or, state-same, still-ready}
@@ -14,12 +15,13 @@ use Rattle.decoding.proofs.Runs.{adds-le, compares-le, times-le}
 use Rattle.decoding.proofs.Targets.{live-le}
 use Rattle.decoding.specs.Blocks.{Block, BlockFits}
 use Rattle.decoding.specs.declared.Counts.{Counts}
+use Rattle.decoding.specs.declared.states.Run.{Run}
 use Rattle.decoding.specs.Patterns.{Pattern}
-use Rattle.decoding.specs.Running.{Ready, addsOf, comparesOf}
+use Rattle.decoding.specs.Running.{Part, Ready, RunFits, addsOf, comparesOf}
 use Rattle.decoding.specs.Stepping.{StepFits, Stepped, olds}
 use Rattle.decoding.specs.Taking.{Taken, atState, counting}
 use Rattle.trellises.specs.declared.Section.{Section}
-use Rattle.trellises.specs.Numbers.{leadsTo}
+use Rattle.trellises.specs.Numbers.{bitOf, leadsTo}
 use Rattle.words.specs.Word.{bit}
 
 -- how many decision words 64 states or more have
@@ -157,10 +159,18 @@ module _ (M : List ℤ) (from to : ℕ) (D : List ℕ) (c : Section) (y : ℤ) (
       count-le : n ≤ 64
       count-le = omega (arith, pow-mono {i = c .live} {j = 6} (omega arith))
 
-      pub one-word-fits : (w : ℕ) → Pattern (c .column) w → BlockFits M from to c y w 0 n k
-      one-word-fits w p = block-fits 0 M D k upto-none w n p count-le (omega arith)
+      pub one-word-fits : (w : ℕ) → Pattern (c .column) w → RunFits M from to c y w 0 n k
+      one-word-fits w p = record {
+        ready = step-ready M from to D c y k h;
+        word = count-le;
+        states = omega arith;
+        pattern = λ i g. p .bits i (omega (arith, count-le)) ∙ ap (bitOf c) (sym (zero-add i));
+        additions = omega (arith, h .additions);
+        comparisons = omega (arith, h .comparisons);
+      }
 
-      pub one-word : (M₁ : List ℤ) (D₁ : List ℕ) (k₁ : Counts) → Block M from to D c y 0 n k M₁ D₁ k₁ → Stepped M from to D c y k M₁ D₁ k₁
-      one-word M₁ D₁ k₁ b =
+      pub one-word : (M₁ : List ℤ) (D₁ : List ℕ) (r : Run) → Part M from to c y 0 n k M₁ r → D₁ ≡ set D 0 (r .word) → Stepped M from to D c y k M₁ D₁ (r .counts)
+      one-word M₁ D₁ r p s =
           let f : 0 * 64 + n ≡ 2 ^ c .live = omega arith in
-          upto-all M₁ D₁ k₁ (rw f at (upto-more 0 M D k upto-none n count-le (omega arith) M₁ D₁ k₁ b))
+          upto-all M₁ D₁ (r .counts)
+          (rw f at (upto-more 0 M D k upto-none n count-le (omega arith) M₁ D₁ (r .counts) (record { word = r .word; part = p; stored = s })))

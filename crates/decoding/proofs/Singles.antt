@@ -3,16 +3,17 @@ use lib.IntN.{_+ℤ_, _-ℤ_, natAbs, negℤ, pos, ℤ}
 use lib.ListN.{getD, length, set}
 use mathlib.Core.Bool.{Bool, cond, false, true}
 use mathlib.Core.List.{List}
-use mathlib.Core.Path.{ap, ap₂, refl, sym, _∙_, _≡_}
+use mathlib.Core.Path.{ap, ap₂, sym, _∙_, _≡_}
 use mir.Syntax.{w32}
 use mir.Val.{ofZ, toZ}
 use native.Mathlib.Nat.{add-zero}
 use native.Mathlib.Omega.{arith}
-use Prim.Native.Nat.{_%_, _*_, _+_, _<_, _^_, suc, zero, ℕ, _≤_}
+use Prim.Native.Nat.{_%_, _*_, _+_, _<_, _^_, ℕ, _≤_}
 use Rattle.decoding.proofs.Branches.{alone-is, farAt, nearAt, signAt, tieAt, two-bit, two-metric}
 use Rattle.decoding.proofs.Integers.{abs-add, abs-neg, back}
 use Rattle.decoding.proofs.Parts.{single}
-use Rattle.decoding.proofs.Targets.{first-branch, second-branch}
+use Rattle.decoding.proofs.Preference.{sign-copy, sign-size, tie-copy}
+use Rattle.decoding.proofs.Targets.{far-leads, first-branch, second-branch}
 use Rattle.decoding.specs.Choosing.{AloneFits, AloneTaken, ChoiceFits, Chosen, takesSecond}
 use Rattle.decoding.specs.declared.choices.Choice.{Choice}
 use Rattle.decoding.specs.declared.Counts.{Counts}
@@ -21,10 +22,6 @@ use Rattle.decoding.specs.Stepping.{olds}
 use Rattle.decoding.specs.Taking.{Taken, atState, signed}
 use Rattle.trellises.specs.declared.Section.{Section}
 use Rattle.trellises.specs.Numbers.{bitOf, branchCount, leadsTo}
-
-sign-size : (d : ℕ) (y : ℤ) → natAbs (signed d y) ≡ natAbs y
-sign-size zero y = refl
-sign-size (suc d) y = abs-neg y
 
 size-cond : (t : Bool) (x y : ℤ) (n : ℕ) → natAbs x ≤ n → natAbs y ≤ n → natAbs (cond t x y) ≤ n
 size-cond true x y n hx hy = hx
@@ -55,10 +52,10 @@ module _ (M : List ℤ) (from to : ℕ) (c : Section) (y : ℤ) (ready : Ready M
   near-read r e = rw e (back _ (omega (arith, near-size)))
 
   pub sign-read : (p : ℕ) (s : ℤ) → p ≡ bitOf c i → s ≡ signed p y → toZ w32 (ofZ w32 s) ≡ signAt c y (olds M from) i
-  sign-read p s ep es = rw (es, ep) (back _ (omega (arith, sign-small)))
+  sign-read p s ep es = sign-copy (bitOf c i) y s (ready .gain) (es ∙ ap (λ (d : ℕ). signed d y) ep)
 
   pub tie-read : (p : ℕ) (u : ℤ) → p ≡ bitOf c i → u ≡ pos p → toZ w32 (ofZ w32 u) ≡ tieAt c y (olds M from) i
-  tie-read p u ep eu = rw (eu, ep) (back _ (omega arith))
+  tie-read p u ep eu = tie-copy (bitOf c i) u (omega arith) (eu ∙ ap pos ep)
 
   -- a state that one branch leaves
   module _ (f : c .begins ≡ false) {a s : ℤ} (ea : a ≡ nearAt c y (olds M from) i) (es : s ≡ signAt c y (olds M from) i) (k : Counts) where
@@ -88,14 +85,21 @@ module _ (M : List ℤ) (from to : ℕ) (c : Section) (y : ℤ) (ready : Ready M
     far-size : natAbs (farAt c y (olds M from) i) ≤ 2 ^ 27
     far-size = ready .small (i + 2 ^ c .live) far-branch
 
-    pub far-place : from + leadsTo c (i + 2 ^ c .live) < length M
+    far-place : from + leadsTo c (i + 2 ^ c .live) < length M
     far-place = ready .place (i + 2 ^ c .live) far-branch
 
-    pub far-fits : length M * 4 < 2 ^ 63 → (n : ℕ) → n ≡ 2 ^ c .live → SourceFits from c (i + n)
-    far-fits b n en = rw en (record { section = ready .section; branch = far-branch; place = omega (arith, far-place) })
+    far-sum : from + leadsTo c (i + 2 ^ c .live) ≡ from + leadsTo c i + leadsTo c (2 ^ c .live)
+    far-sum = omega (arith, far-leads c (ready .section) i l)
 
-    pub far-read : (r : ℕ) → r ≡ from + leadsTo c (i + 2 ^ c .live) → toZ w32 (ofZ w32 (getD M r (pos 0))) ≡ farAt c y (olds M from) i
-    far-read r er = rw er (back _ (omega (arith, far-size)))
+    -- r is where the first branch leads, and d how far the second leads past it
+    pub far-there : (r d : ℕ) → r ≡ from + leadsTo c i → d ≡ leadsTo c (2 ^ c .live) → r + d < length M
+    far-there r d er ed = omega (arith, far-place, far-sum)
+
+    pub far-read : (r d : ℕ) → r ≡ from + leadsTo c i → d ≡ leadsTo c (2 ^ c .live)
+        → toZ w32 (ofZ w32 (getD M (r + d) (pos 0))) ≡ farAt c y (olds M from) i
+    far-read r d er ed =
+        let e : r + d ≡ from + leadsTo c (i + 2 ^ c .live) = omega (arith, far-sum) in
+        rw e (back _ (omega (arith, far-size)))
 
     module _ {a b s u : ℤ} (ea : a ≡ nearAt c y (olds M from) i) (eb : b ≡ farAt c y (olds M from) i)
         (es : s ≡ signAt c y (olds M from) i) (eu : u ≡ tieAt c y (olds M from) i) (k : Counts) where

@@ -1,10 +1,11 @@
 -- Where a branch leads, as the code computes it.
 use lib.Pow.{pow-lt, pow-mono}
 use mathlib.Core.Bool.{Bool, cond, false, true}
-use mathlib.Core.Path.{ap, refl, sym, _∙_, _≡_}
-use native.Mathlib.Nat.{div-add-mod', div-eq-of-lt, div-le-self, div-mul-le-self, le-trans, mod-eq-of-lt, mul-le-mul-right, one-mul, zero-add, zero-mul}
+use mathlib.Core.Path.{ap, ap₂, refl, sym, _∙_, _≡_}
+use native.Mathlib.Nat.{add-comm, div-add-mod', div-le-self, div-mul-le-self, le-trans, mod-eq-of-lt, mul-le-mul-right, one-mul}
 use native.Mathlib.Omega.{arith}
 use Prim.Native.Nat.{_%_, _*_, _+_, _/_, _<_, _^_, ℕ, _≤_}
+use Rattle.decoding.proofs.Without.{without-cat, without-past}
 use Rattle.decoding.specs.Running.{placeOf}
 use Rattle.decoding.specs.Stepping.{SectionFits}
 use Rattle.trellises.specs.declared.Section.{Section}
@@ -20,11 +21,6 @@ half-le x p = le-trans (mul-le-mul-right p (div-le-self (x / p) 2)) (div-mul-le-
 
 pub without-le : (x p : ℕ) → x / p / 2 * p + x % p ≤ x
 without-le x p = omega (arith, mul-le-mul-right p (div-le-self (x / p) 2), div-add-mod' x p)
-
--- a digit past all of x changes nothing
-without-past : (e x : ℕ) → x < 2 ^ e → without e x ≡ x
-without-past e x h =
-    rw (div-eq-of-lt h, mod-eq-of-lt h) (ap (λ (z : ℕ). z + x) (zero-mul (2 ^ e)) ∙ zero-add x)
 
 module _ (c : Section) (h : SectionFits c) where
   -- 2 ^ live is at most 4,096
@@ -55,6 +51,19 @@ module _ (c : Section) (h : SectionFits c) where
 
   pub source-is : (x p r : ℕ) → x < branchCount c → p ≡ placeOf c → r ≡ without p x → r ≡ leadsTo c x
   source-is x p r l ep er = er ∙ ap (λ (e : ℕ). without e x) ep ∙ sym (leads-place x (branch-lt x l))
+
+  -- how far the second branch of a state leads past its first
+  pub stride-is : (p s r : ℕ) → p ≡ placeOf c → s ≡ 2 ^ c .live → r ≡ without p s → r ≡ leadsTo c (2 ^ c .live)
+  stride-is p s r ep es er =
+      er ∙ ap₂ without ep es ∙ sym (leads-place (2 ^ c .live) (omega (arith, live-le)))
+
+  pub far-leads : (i : ℕ) → i < 2 ^ c .live → leadsTo c (i + 2 ^ c .live) ≡ leadsTo c i + leadsTo c (2 ^ c .live)
+  far-leads i l =
+      let e : i + 2 ^ c .live ≡ 1 * 2 ^ c .live + i = omega arith in
+      let f : 1 * 2 ^ c .live ≡ 2 ^ c .live = omega arith in
+      leads-place (i + 2 ^ c .live) (omega (arith, live-le)) ∙ ap (without (placeOf c)) e
+      ∙ without-cat (placeOf c) (c .live) 1 i l ∙ add-comm (without (placeOf c) (1 * 2 ^ c .live)) (without (placeOf c) i)
+      ∙ ap₂ _+_ (sym (leads-place i (omega (arith, live-le)))) (ap (without (placeOf c)) f ∙ sym (leads-place (2 ^ c .live) (omega (arith, live-le))))
 
   -- the branches of a state
   pub first-branch : (i : ℕ) → i < 2 ^ c .live → i < branchCount c

@@ -1,6 +1,6 @@
 -- The states of one decision word: what they ask, and what they do.
 use lib.IntN.{ℤ}
-use lib.ListN.{set}
+use lib.ListN.{length, set}
 use mathlib.Core.List.{List}
 use mathlib.Core.Path.{_≡_}
 use Prim.Native.Nat.{_*_, _+_, _^_, ℕ, _≤_}
@@ -24,3 +24,10 @@ pub record Block (metrics : List ℤ) (from to : ℕ) (decisions : List ℕ) (c 
   pub word : ℕ
   pub part : Part metrics from to c y (at * 64) n k metrics′ (record { word = word; counts = k′ })
   pub stored : decisions′ ≡ set decisions at word
+
+-- the 64 states of a word are done so, and the rooms for old metrics are there still
+pub record WordDone (metrics : List ℤ) (from to : ℕ) (decisions : List ℕ) (c : Section) (y : ℤ) (at : ℕ) (k : Counts)
+    (metrics′ : List ℤ) (decisions′ : List ℕ) (near′ far′ : List ℤ) (k′ : Counts) : Type 0 where
+  pub block : Block metrics from to decisions c y at 64 k metrics′ decisions′ k′
+  pub near-size : length near′ ≡ 32
+  pub far-size : length far′ ≡ 32

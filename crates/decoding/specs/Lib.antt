@@ -12,3 +12,7 @@ pub mod Blocks
 pub mod Needs
 pub mod Totals
 pub mod Searching
+pub mod Strips
+pub mod Tables
+pub mod Picking
+pub mod Halves

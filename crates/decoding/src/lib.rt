@@ -8,6 +8,7 @@ use plates::Plate;
 use plates::Refusal;
 ghost use Rattle.decoding.specs.Decode.{Decodes};
 
+mod blocks;
 mod choices;
 mod live;
 mod patterns;
@@ -16,7 +17,9 @@ mod samples;
 mod search;
 mod states;
 mod step;
+mod strips;
 mod sweep;
+mod tables;
 mod walk;
 
 // What the steps counted: branches added, and comparisons made.

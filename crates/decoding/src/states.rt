@@ -3,6 +3,7 @@ ghost use mathlib.Core.Bool.{false, true};
 ghost use mathlib.Core.Path.{_≡_};
 ghost use Prim.Native.Nat.{_+_, _<_, _^_};
 ghost use Rattle.decoding.specs.Running.{Part, RunFits, SourceFits, StateFits, placeOf};
+ghost use Rattle.decoding.specs.Stepping.{SectionFits};
 ghost use Rattle.trellises.specs.Numbers.{leadsTo, without};
 use crate::Counts;
 use crate::choices;
@@ -44,6 +45,14 @@ pub fn source(from: usize, section: Section, x: usize) -> usize
     ensures { λ r. ⌜ r ≡ from + leadsTo section x ⌝ }
 {
     from + target(place(section), x)
+}
+
+// How far the second branch of a state leads past its first.
+fn stride(section: Section) -> usize
+    requires { ⌜ SectionFits section ⌝ }
+    ensures { λ r. ⌜ r ≡ leadsTo section (2 ^ section .live) ⌝ }
+{
+    target(place(section), power(section.live))
 }
 
 // A decision as a bit of a word.
@@ -95,7 +104,7 @@ fn two(
     ensures { λ r. ⌜ Part (now (metrics .entry)) from to section gain state 1 counts (now (metrics .exit)) r ⌝ }
 {
     let near = source(from, section, state);
-    let far = source(from, section, state + power(section.live));
+    let far = near + stride(section);
     let a = metrics[near];
     let b = metrics[far];
     let sign = choices::sign_of(parity, gain);

@@ -2,11 +2,14 @@
 ghost use mathlib.Core.Path.{_≡_};
 ghost use Prim.Native.Nat.{_<_, _≤_};
 ghost use lib.ListN.{set};
-ghost use Rattle.decoding.specs.Blocks.{Block, BlockFits};
+ghost use Rattle.decoding.specs.Blocks.{BlockFits, WordDone};
+ghost use Rattle.decoding.specs.Halves.{Prepared};
 ghost use Rattle.decoding.specs.Stepping.{StepFits, Stepped};
 use crate::Counts;
+use crate::blocks;
 use crate::patterns;
 use crate::states;
+use crate::tables;
 use trellises::Section;
 
 // A decision word is stored where there is room for any.
@@ -16,29 +19,6 @@ fn put(decisions: &mut [u64], at: usize, word: u64)
     if at < decisions.len() {
         decisions[at] = word;
     }
-}
-
-// The states of one decision word, at most 64.
-fn block(
-    metrics: &mut [i32],
-    from: usize,
-    to: usize,
-    decisions: &mut [u64],
-    section: Section,
-    gain: i32,
-    pattern: u64,
-    at: usize,
-    count: usize,
-    counts: Counts,
-) -> Counts
-    requires { ⌜ BlockFits (now metrics) from to section gain pattern at count counts ⌝ }
-    ensures { λ r. ⌜ Block (now (metrics .entry)) from to (now (decisions .entry)) section gain at count counts (now (metrics .exit)) (now (decisions .exit)) r ⌝ }
-{
-    let first = at * 64;
-    let bits = patterns::turned(pattern, section.column, first);
-    let run = states::states(metrics, from, to, section, gain, bits, first, count, counts);
-    put(decisions, at, run.word);
-    run.counts
 }
 
 // A section of less than 64 states: one decision word.
@@ -56,18 +36,50 @@ fn narrow(
 {
     let pattern = patterns::pattern(section.column);
     let count = states::power(section.live);
-    block(
+    let run = states::states(metrics, from, to, section, gain, pattern, 0, count, counts);
+    put(decisions, 0, run.word);
+    run.counts
+}
+
+// The 64 states of decision word `at`.
+fn word(
+    metrics: &mut [i32],
+    from: usize,
+    to: usize,
+    decisions: &mut [u64],
+    section: Section,
+    gain: i32,
+    weights: &[u32; 32],
+    signs: &[i32; 64],
+    ties: &[i32; 64],
+    pattern: u64,
+    at: usize,
+    near: &mut [i32; 32],
+    far: &mut [i32; 32],
+    counts: Counts,
+) -> Counts
+    requires { ⌜ Prepared section gain (now weights) (now signs) (now ties) (now near) (now far) × BlockFits (now metrics) from to section gain pattern at 64 counts ⌝ }
+    ensures { λ r. ⌜ WordDone (now (metrics .entry)) from to (now (decisions .entry)) section gain at counts (now (metrics .exit)) (now (decisions .exit)) (now (near .exit)) (now (far .exit)) r ⌝ }
+{
+    let first = at * 64;
+    let bits = patterns::turned(pattern, section.column, first);
+    let run = blocks::block(
         metrics,
         from,
         to,
-        decisions,
         section,
         gain,
-        pattern,
-        0,
-        count,
+        weights,
+        signs,
+        ties,
+        bits,
+        first,
+        near,
+        far,
         counts,
-    )
+    );
+    put(decisions, at, run.word);
+    run.counts
 }
 
 // A section of 64 states or more: one decision word after the other.
@@ -85,19 +97,35 @@ fn wide(
 {
     let pattern = patterns::pattern(section.column);
     let words = states::power(section.live - 6);
+    let weights = tables::WEIGHTS;
+    let mut signs = [0i32; 64];
+    let mut ties = [0i32; 64];
+    let mut near = [0i32; 32];
+    let mut far = [0i32; 32];
+    tables::fill(
+        &mut signs,
+        &mut ties,
+        &weights,
+        (pattern % 4294967296) as u32,
+        gain,
+    );
     let mut raised = counts;
     let mut at = 0;
     while at < words {
-        raised = block(
+        raised = word(
             &mut *metrics,
             from,
             to,
             &mut *decisions,
             section,
             gain,
+            &weights,
+            &signs,
+            &ties,
             pattern,
             at,
-            64,
+            &mut near,
+            &mut far,
             raised,
         );
         at += 1;

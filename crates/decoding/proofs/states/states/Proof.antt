@@ -7,7 +7,7 @@ use mir.Val.{ofZ, toZ}
 use native.Mathlib.Omega.{arith}
 use Prim.Native.Nat.{_+_, _-_, _≤_}
 use Rattle.decoding.proofs.Targets.{live-le}
-use Rattle.decoding.proofs.Runs.{next, next-fits, none, word-room}
+use Rattle.decoding.proofs.Runs.{next, next-fits, no-states, word-room}
 use Rattle.decoding.specs.Running.{Part}
 use Rattle.decoding.proofs.states.states.Statement.{statement}
 use Rattle.decoding.proofs.states.states.Tie as tie
@@ -22,7 +22,7 @@ abbrev μ-loop : tie.MeasureT-loop
 loop-holds : tie.Need-loop-holds Inv-loop μ-loop
 loop-holds c =
     let e : c .args .count - c .args .count ≡ 0 = omega arith in
-    (omega arith, rw e (none (c .args .metrics .now) (c .args .from) (c .args .to) (c .args .section) (toZ w32 (ofZ w32 (c .args .gain))) (c .args .first + c .args .count) (c .args .counts)))
+    (omega arith, rw e (no-states (c .args .metrics .now) (c .args .from) (c .args .to) (c .args .section) (toZ w32 (ofZ w32 (c .args .gain))) (c .args .first + c .args .count) (c .args .counts)))
 
 sub-i : tie.Need-sub-i Inv-loop μ-loop
 sub-i c = search needs

@@ -13,9 +13,12 @@ pattern-requires c κs = search needs
 power-requires : tie.Need-power-requires
 power-requires c κs = search needs
 
-block-requires : tie.Need-block-requires
-block-requires c κs =
-    one-word-fits (c .before .before .before .before .before .args .metrics .now) (c .before .before .before .before .before .args .from) (c .before .before .before .before .before .args .to) (c .before .before .before .before .before .args .decisions .now) (c .before .before .before .before .before .args .section) (toZ w32 (ofZ w32 (c .before .before .before .before .before .args .gain))) (c .before .before .before .before .before .args .counts) (rw (toZ-ofZ (c .before .before .before .before .before .fits .gain)) (c .before .before .before .before .before .pre .1)) (c .before .before .before .before .before .pre .0) _ (c .before .before .power .ensures) _ (c .before .before .before .pattern .ensures)
+states-requires : tie.Need-states-requires
+states-requires c κs =
+    one-word-fits (c .before .before .before .before .args .metrics .now) (c .before .before .before .before .args .from) (c .before .before .before .before .args .to) (c .before .before .before .before .args .decisions .now) (c .before .before .before .before .args .section) (toZ w32 (ofZ w32 (c .before .before .before .before .args .gain))) (c .before .before .before .before .args .counts) (rw (toZ-ofZ (c .before .before .before .before .fits .gain)) (c .before .before .before .before .pre .1)) (c .before .before .before .before .pre .0) _ (c .before .power .ensures) _ (c .before .before .pattern .ensures)
+
+put-requires : tie.Need-put-requires
+put-requires c κs = search needs
 
 same-length : tie.Need-same-length
 same-length c = search needs
@@ -25,10 +28,17 @@ same-length-2 c = search needs
 
 returns : tie.Need-returns
 returns c =
-    rw (toZ-ofZ (c .before .before .before .before .before .before .before .before .before .fits .gain)) at
-    (one-word (c .before .before .before .before .before .before .before .before .before .args .metrics .now) (c .before .before .before .before .before .before .before .before .before .args .from) (c .before .before .before .before .before .before .before .before .before .args .to) (c .before .before .before .before .before .before .before .before .before .args .decisions .now) (c .before .before .before .before .before .before .before .before .before .args .section) (toZ w32 (ofZ w32 (c .before .before .before .before .before .before .before .before .before .args .gain))) (c .before .before .before .before .before .before .before .before .before .args .counts) (rw (toZ-ofZ (c .before .before .before .before .before .before .before .before .before .fits .gain)) (c .before .before .before .before .before .before .before .before .before .pre .1)) (c .before .before .before .before .before .before .before .before .before .pre .0) _ (c .before .before .before .before .before .before .power .ensures) _ _ _ (c .before .before .before .block .ensures))
+    rw (toZ-ofZ (c .before .before .before .before .before .before .before .before .before .before .before .fits .gain)) at
+    (one-word (c .before .before .before .before .before .before .before .before .before .before .before .args .metrics .now) (c .before .before .before .before .before .before .before .before .before .before .before .args .from) (c .before .before .before .before .before .before .before .before .before .before .before .args .to) (c .before .before .before .before .before .before .before .before .before .before .before .args .decisions .now) (c .before .before .before .before .before .before .before .before .before .before .before .args .section) (toZ w32 (ofZ w32 (c .before .before .before .before .before .before .before .before .before .before .before .args .gain))) (c .before .before .before .before .before .before .before .before .before .before .before .args .counts) (rw (toZ-ofZ (c .before .before .before .before .before .before .before .before .before .before .before .fits .gain)) (c .before .before .before .before .before .before .before .before .before .before .before .pre .1)) (c .before .before .before .before .before .before .before .before .before .before .before .pre .0) _ (c .before .before .before .before .before .before .before .before .power .ensures) _ _ _ (c .before .before .before .before .before .before .states .ensures) (c .before .before .before .put .ensures))
 
 pub narrow-spec : {M : Type 1} → statement M
 narrow-spec =
     tie.close
-    (tie.spec pattern-requires power-requires block-requires same-length same-length-2 returns)
+    (tie.spec
+    pattern-requires
+    power-requires
+    states-requires
+    put-requires
+    same-length
+    same-length-2
+    returns)
