@@ -6,3 +6,7 @@ pub mod Checking
 pub mod CodeWords
 pub mod PlatesChecked
 pub mod RefusalsChecked
+pub mod WordsChecked
+pub mod BlocksChecked
+pub mod LinesChecked
+pub mod ExamplesRight

@@ -8,7 +8,6 @@ use mathlib.Core.Path.{ap₂, refl, sym, _∙_, _≡_}
 use native.Mathlib.Omega.{arith}
 use Prim.Native.Nat.{_<_, _^_, ℕ, _≤_}
 use Rattle.demands.proofs.Checking.{Check, atMost, both, by, each, either, equal, less}
-use Rattle.listings.specs.Lines.{line}
 use Rattle.plates.specs.declared.Kind.{Kind}
 use Rattle.plates.specs.declared.Refusal.{Refusal}
 use Rattle.plates.specs.declared.Refusal.the-variants.{DecisionRoom, Information, InputTooLong, Length, LineRoom, MetricRoom, NoCodeword, NoSuchBranch, NotPrepared, RowBeyond, SampleCount, SampleRange, SheetLine, TooManyRows, TooWide}

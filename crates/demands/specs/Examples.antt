@@ -66,7 +66,7 @@ Writing Promise line = (room : List ℕ) → length line ≤ length room
 abbrev pub Decoding : Plate → List ℤ → Answer → Type 0
 Decoding plate samples a = (metrics : List ℤ) (decisions : List ℕ) → metricNeed plate ≤ length metrics → decisionNeed plate ≤ length decisions
     → Exactly (λ (x : Decoded × List ℤ × List ℕ). Decodes plate samples metrics decisions (x .1) (x .2) (x .0))
-        (Found a, replicate (metricNeed plate) (pos 0) ++ drop (metricNeed plate) metrics, replicate (decisionNeed plate) 0 ++ drop (decisionNeed plate) decisions)
+    (Found a, replicate (metricNeed plate) (pos 0) ++ drop (metricNeed plate) metrics, replicate (decisionNeed plate) 0 ++ drop (decisionNeed plate) decisions)
 
 -- what an entry says
 abbrev pub Right : Example → Type 0
@@ -158,9 +158,9 @@ sheet =
     ∷ decodes sheetPlate sheetBlock sheetAnswer
     ∷ plate-line sheetPlate (112 ∷ 108 ∷ 97 ∷ 116 ∷ 101 ∷ 9 ∷ 56 ∷ 9 ∷ 52 ∷ 9 ∷ 51 ∷ 10 ∷ [])
     ∷ profile-line sheetPlate
-        (112 ∷ 114 ∷ 111 ∷ 102 ∷ 105 ∷ 108 ∷ 101 ∷ 9 ∷ 48 ∷ 9 ∷ 49 ∷ 9 ∷ 50 ∷ 9 ∷ 51 ∷ 9 ∷ 50 ∷ 9 ∷ 51 ∷ 9 ∷ 50 ∷ 9 ∷ 49 ∷ 9 ∷ 48 ∷ 10 ∷ [])
+    (112 ∷ 114 ∷ 111 ∷ 102 ∷ 105 ∷ 108 ∷ 101 ∷ 9 ∷ 48 ∷ 9 ∷ 49 ∷ 9 ∷ 50 ∷ 9 ∷ 51 ∷ 9 ∷ 50 ∷ 9 ∷ 51 ∷ 9 ∷ 50 ∷ 9 ∷ 49 ∷ 9 ∷ 48 ∷ 10 ∷ [])
     ∷ word-line sheetPlate sheetAnswer
-        (119 ∷ 111 ∷ 114 ∷ 100 ∷ 9 ∷ 49 ∷ 49 ∷ 49 ∷ 49 ∷ 48 ∷ 48 ∷ 48 ∷ 48 ∷ 9 ∷ 49 ∷ 57 ∷ 9 ∷ 52 ∷ 52 ∷ 9 ∷ 49 ∷ 49 ∷ 10 ∷ [])
+    (119 ∷ 111 ∷ 114 ∷ 100 ∷ 9 ∷ 49 ∷ 49 ∷ 49 ∷ 49 ∷ 48 ∷ 48 ∷ 48 ∷ 48 ∷ 9 ∷ 49 ∷ 57 ∷ 9 ∷ 52 ∷ 52 ∷ 9 ∷ 49 ∷ 49 ∷ 10 ∷ [])
     ∷ end-line 1 (101 ∷ 110 ∷ 100 ∷ 9 ∷ 49 ∷ 10 ∷ [])
     ∷ []
 
