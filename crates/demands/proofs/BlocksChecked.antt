@@ -19,6 +19,7 @@ use Rattle.decoding.specs.Decode.{Best, Decodes, decisionNeed, metricNeed}
 use Rattle.decoding.specs.Metric.{limit, metricOf}
 use Rattle.demands.proofs.Checking.{Check, atMost, both, by, each, either, equal, whole}
 use Rattle.demands.proofs.CodeWords.{sum, sums}
+use Rattle.demands.proofs.Demand1.{decode-passes}
 use Rattle.demands.proofs.PlatesChecked.{isPrepared}
 use Rattle.demands.specs.Examples.{Decoding}
 use Rattle.plates.specs.declared.Plate.{Plate}
@@ -30,10 +31,12 @@ use Rattle.decoding.specs.declared.Decoded.the-variants as D
 
 -- ---- which of two words is earlier, by their first k positions
 
+-- a has 0 at the first difference
 abbrev pub isEarlier : ℕ → ℕ → ℕ → Bool
 isEarlier zero a b = false
 isEarlier (suc k) a b = cond (eqb (a % 2) (b % 2)) (isEarlier k (a / 2) (b / 2)) (eqb (a % 2) 0)
 
+-- then a is earlier
 pub is-earlier : (k a b : ℕ) → T (isEarlier k a b) → Earlier a b
 is-earlier zero a b t = absurd t
 is-earlier (suc k) a b t = go (eqb (a % 2) (b % 2)) refl t (is-earlier k (a / 2) (b / 2))
@@ -55,14 +58,17 @@ is-earlier (suc k) a b t = go (eqb (a % 2) (b % 2)) refl t (is-earlier k (a / 2)
         odd (yes h) d z = absurd (d (omega (arith, h, z)))
         odd (no h) d z = omega arith
 
+-- of words of 64 positions
 abbrev pub earlier : (a b : ℕ) → Check (Earlier a b)
 earlier a b = record { test = isEarlier 64 a b; law = is-earlier 64 a b }
 
 -- ---- decode
 
+-- one metric is at most another
 abbrev pub atMostWhole : (a b : ℤ) → Check (a ≤ℤ b)
 atMostWhole a b = record { test = leZ a b; law = leZ-yes }
 
+-- one metric is less than another
 abbrev pub lessWhole : (a b : ℤ) → Check (a <ℤ b)
 lessWhole a b = record { test = ltZ a b; law = ltZ-yes }
 
@@ -71,12 +77,13 @@ module _ (plate : Plate) (samples : List ℤ) (a : Answer) where
   abbrev pub Behind : ℕ → Type 0
   Behind w = (metricOf samples w ≤ℤ a .metric) × ((metricOf samples w <ℤ a .metric) ⊎ ((a .word ≡ w) ⊎ Earlier (a .word) w))
 
+  -- tested by computing the metric
   abbrev pub behind : (w : ℕ) → Check (Behind w)
   behind w =
       both (atMostWhole (metricOf samples w) (a .metric)) (either (lessWhole (metricOf samples w) (a .metric)) (either (equal (a .word) w) (earlier (a .word) w)))
 
   -- what is tested of a block
-  pub record Tested : Type 0 where
+  pub record TestedBlock : Type 0 where
     pub given : IsPrepared plate
     pub count : length samples ≡ plate .n
     pub within : (i : ℕ) → i < length samples → natAbs (getD samples i (pos 0)) ≤ limit
@@ -86,7 +93,8 @@ module _ (plate : Plate) (samples : List ℤ) (a : Answer) where
     pub additions : a .counts .additions ≡ counted (sectionOf (rowsOf plate)) samples 0 .additions
     pub comparisons : a .counts .comparisons ≡ counted (sectionOf (rowsOf plate)) samples 0 .comparisons
 
-  abbrev pub tested : Check Tested
+  -- all of it, computed
+  abbrev pub tested : Check TestedBlock
   tested =
       by (λ p. record {
         given = p .0;
@@ -115,7 +123,8 @@ module _ (plate : Plate) (samples : List ℤ) (a : Answer) where
       go (inl l) = absurd (<ℤ-irrefl (subst (λ (m : ℤ). m <ℤ a .metric) e l))
       go (inr s) = s
 
-  pub tested-best : Tested → Best plate samples a
+  -- the answer is the best
+  pub tested-best : TestedBlock → Best plate samples a
   tested-best p = record {
     codeword = p .codeword;
     metric = p .metric;
@@ -124,23 +133,18 @@ module _ (plate : Plate) (samples : List ℤ) (a : Answer) where
     counts = ap₂ (λ (x y : ℕ). record { additions = x; comparisons = y }) (p .additions) (p .comparisons);
   }
 
-  pub tested-decodes : Tested → (metrics : List ℤ) (decisions : List ℕ) → metricNeed plate ≤ length metrics → decisionNeed plate ≤ length decisions
+  -- and decoding finds it
+  pub tested-decodes : TestedBlock → (metrics : List ℤ) (decisions : List ℕ) → metricNeed plate ≤ length metrics → decisionNeed plate ≤ length decisions
       → Decodes plate samples metrics decisions (replicate (metricNeed plate) (pos 0) ++ drop (metricNeed plate) metrics)
       (replicate (decisionNeed plate) 0 ++ drop (decisionNeed plate) decisions) (D.Found a)
   tested-decodes p metrics decisions m d = (
-    (
-      (λ q c. c .0 (p .given)),
-      (
-        (λ q c. c .0 (p .count)),
-        ((λ q c. omega (arith, c .over, p .within (c .position) (c .there))), ((λ q c. omega (arith, c .0, m)), ((λ q c. omega (arith, c .0, d)), tt))),
-      ),
-    ),
+    decode-passes plate samples metrics decisions (p .given) (p .count) (p .within) m d,
     tested-best p,
     record { metrics-zero = refl; decisions-zero = refl },
   )
 
   -- any reply that meets the promise is this one
-  pub decoded-exactly : Tested → Decoding plate samples a
+  pub decoded-exactly : TestedBlock → Decoding plate samples a
   decoded-exactly p metrics decisions m d r = (
     (λ x.
         let e = decode-determined plate samples metrics decisions (r .0) (D.Found a) (r .1) _ (r .2) _ x (tested-decodes p metrics decisions m d) in
@@ -149,5 +153,6 @@ module _ (plate : Plate) (samples : List ℤ) (a : Answer) where
     λ e. subst (λ (x : Decoded × List ℤ × List ℕ). Decodes plate samples metrics decisions (x .1) (x .2) (x .0)) (sym e) (tested-decodes p metrics decisions m d),
   )
 
+  -- the block is decoded so, and not otherwise
   abbrev pub decoded : Check (Decoding plate samples a)
   decoded = by decoded-exactly tested

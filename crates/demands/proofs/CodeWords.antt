@@ -1,6 +1,6 @@
 -- Tests of the words of a code, one after the other.
 use borrow.Author.Tests.{eq-eqb}
-use lib.Dec.{T, eqb}
+use lib.Dec.{T, eqb, eqb→eq}
 use lib.ListN.{getD, length}
 use mathlib.Core.Bool.{_&&_, Bool, not, true}
 use mathlib.Core.List.{List, [], _∷_}
@@ -8,7 +8,7 @@ use mathlib.Core.Logic.{inl, inr, _↔_}
 use mathlib.Core.Path.{ap₂, refl, subst, _∙_, _≡_}
 use native.Mathlib.Omega.{arith}
 use Prim.Native.Nat.{_<_, _^_, suc, suc-le-suc, zero, zero-le, ℕ}
-use Rattle.demands.proofs.Checking.{Check, both, by, each, either, equal, less, some}
+use Rattle.demands.proofs.Checking.{Check, both, by, each, either, equal, left, less, right, some}
 use Rattle.plates.proofs.OneDimension.{sum-trim, trim, trim-lt}
 use Rattle.plates.specs.Code.{Checked, InCode}
 use Rattle.plates.specs.declared.Kind.{Kind}
@@ -37,15 +37,18 @@ abbrev pub evenWith : List ℕ → ℕ → Bool
 evenWith [] w = true
 evenWith (r ∷ rs) w = eqb (parity r w) 0 && evenWith rs w
 
+-- its law
 pub even-with : (rows : List ℕ) (w : ℕ) → T (evenWith rows w) → (j : ℕ) → j < length rows → parity (getD rows j 0) w ≡ 0
 even-with [] w t j h = absurd (omega arith)
-even-with (r ∷ rs) w t zero h = both (equal (parity r w) 0) (record { test = evenWith rs w; law = λ s. s }) .law t .0
-even-with (r ∷ rs) w t (suc j) h = even-with rs w (both (equal (parity r w) 0) (record { test = evenWith rs w; law = λ s. s }) .law t .1) j (omega arith)
+even-with (r ∷ rs) w t zero h = eqb→eq (parity r w) 0 (left (eqb (parity r w) 0) (evenWith rs w) t)
+even-with (r ∷ rs) w t (suc j) h = even-with rs w (right (eqb (parity r w) 0) (evenWith rs w) t) j (omega arith)
 
+-- and the other way
 with-even : (rows : List ℕ) (w : ℕ) → ((j : ℕ) → j < length rows → parity (getD rows j 0) w ≡ 0) → evenWith rows w ≡ true
 with-even [] w h = refl
 with-even (r ∷ rs) w h = ap₂ _&&_ (eq-eqb (parity r w) 0 (h 0 (suc-le-suc zero-le))) (with-even rs w (λ j k. h (suc j) (suc-le-suc k)))
 
+-- the rows check w
 abbrev pub checked : (n : ℕ) (rows : List ℕ) (w : ℕ) → Check (Checked n rows w)
 checked n rows w =
     by (λ p. record { below = p .0; even = p .1 }) (both (less w (2 ^ n)) (record { test = evenWith rows w; law = even-with rows w }))
@@ -54,6 +57,7 @@ checked n rows w =
 pub odd-with : (n : ℕ) (rows : List ℕ) (w : ℕ) → T (not (evenWith rows w)) → Checked n rows w → ⊥
 odd-with n rows w t c = subst (λ (x : Bool). T (not x)) (with-even rows w (c .even)) t
 
+-- P holds of each word that the rows check
 abbrev pub checkedWords : (n : ℕ) (rows : List ℕ) {P : ℕ → Type 0} → ((w : ℕ) → Check (P w)) → Check ((w : ℕ) → Checked n rows w → P w)
 checkedWords n rows {P} c =
     by (λ h w x. elim (h w (x .below)) [ inl o ↦ absurd (o x) | inr y ↦ y ])
@@ -61,10 +65,12 @@ checkedWords n rows {P} c =
 
 -- ---- the code of a matrix
 
+-- w is in the code
 abbrev pub word : (kind : Kind) (n : ℕ) (rows : List ℕ) (w : ℕ) → Check (InCode kind n rows w)
 word G n rows w = sum rows w
 word H n rows w = checked n rows w
 
+-- P holds of each word of the code
 abbrev pub words : (kind : Kind) (n : ℕ) (rows : List ℕ) {P : ℕ → Type 0} → ((w : ℕ) → Check (P w)) → Check ((w : ℕ) → InCode kind n rows w → P w)
 words G n rows c = sums rows c
 words H n rows c = checkedWords n rows c

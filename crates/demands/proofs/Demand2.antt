@@ -1,17 +1,21 @@
 -- Demand 2: the trellis is that of Wolf and Massey: full paths spell exactly the codewords, each once. Decoding returns the codeword of
 -- greatest correlation, of equals the one with 0 at the first difference. Encode and read back undo each other.
-use lib.IntN.{ℤ}
+use lib.IntN.{natAbs, pos, ℤ}
+use lib.ListN.{getD, length}
 use mathlib.Core.List.{List}
 use mathlib.Core.Logic.{_↔_}
-use mathlib.Core.Path.{refl, subst, _≡_}
+use mathlib.Core.Path.{refl, subst, sym, _∙_, _≡_}
 use Prim.Native.Nat.{_<_, _^_, ℕ, _≤_}
 use Rattle.coding.proofs.RoundTrip.{encode-then-read, read-refuses, read-then-encode}
 use Rattle.coding.specs.Coding.{Encodes, ReadsBack}
 use Rattle.coding.specs.declared.Encoded.{Encoded}
 use Rattle.coding.specs.declared.ReadBack.{ReadBack}
 use Rattle.decoding.specs.declared.Answer.{Answer}
+use Rattle.decoding.specs.declared.Decoded.{Decoded}
 use Rattle.decoding.specs.declared.Decoded.the-variants.{Found}
-use Rattle.decoding.specs.Decode.{Decodes}
+use Rattle.decoding.specs.Decode.{Decodes, decisionNeed, metricNeed}
+use Rattle.decoding.specs.Metric.{limit}
+use Rattle.demands.proofs.Demand1.{decode-passed-found, decode-passes}
 use Rattle.demands.specs.Greatest.{Greatest}
 use Rattle.plates.specs.Code.{Checked, InCode}
 use Rattle.plates.specs.declared.Kind.{Kind}
@@ -70,6 +74,16 @@ module _ (n : ℕ) (kind : Kind) (rows : List ℕ) (r : Prepared) (p : Prepares 
     greatest = λ w c. d .1 .greatest w (accepted-code n kind rows r p e w .0 c);
     earliest = λ w c. d .1 .earliest w (accepted-code n kind rows r p e w .0 c);
   }
+
+  -- and n samples within the limit, with rooms that are long enough, are decoded so
+  pub decode-returns-greatest : (samples metrics metrics′ : List ℤ) (decisions decisions′ : List ℕ) (x : Decoded)
+      → Decodes (r .plate) samples metrics decisions metrics′ decisions′ x → length samples ≡ n
+      → ((i : ℕ) → i < length samples → natAbs (getD samples i (pos 0)) ≤ limit) → metricNeed (r .plate) ≤ length metrics
+      → decisionNeed (r .plate) ≤ length decisions → (a : Answer) × (x ≡ Found a) × Greatest (InCode kind n rows) samples (a .word) (a .metric)
+  decode-returns-greatest samples metrics metrics′ decisions decisions′ x d size within m o =
+      let h = decode-passes (r .plate) samples metrics decisions (accepted-prepared n kind rows r p e) (size ∙ sym (accepted-length n kind rows r p e)) within m o in
+      let f = decode-passed-found (r .plate) samples metrics decisions metrics′ decisions′ x d h in
+      (f .0, f .1, decode-greatest samples metrics metrics′ decisions decisions′ (f .0) (subst (Decodes (r .plate) samples metrics decisions metrics′ decisions′) (f .1) d))
 
   -- ---- encode and read back
 

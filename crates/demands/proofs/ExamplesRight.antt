@@ -26,6 +26,7 @@ use Rattle.words.specs.Ends.{first, last}
 pub exactly : {A : Type 0} (Promise : A → Type 0) (reply : A) → ((r s : A) → Promise r → Promise s → r ≡ s) → Promise reply → Exactly Promise reply
 exactly Promise reply determined holds r = ((λ x. determined r reply x holds), λ e. subst Promise (sym e) holds)
 
+-- the test of an entry
 abbrev pub entry : (e : Example) → Check (Right e)
 entry (accepts n kind rows plate) = by (exactly (Prepares n kind rows) _ (prepare-determined n kind rows)) (accepted n kind rows plate)
 entry (refuses n kind rows q) = by (exactly (Prepares n kind rows) _ (prepare-determined n kind rows)) (refused n kind rows q)
@@ -39,6 +40,7 @@ entry (word-line plate a line) =
     plateLineIs plate (wordLine (plate .n) (a .word) (a .metric) (a .counts .additions) (a .counts .comparisons)) line
 entry (end-line blocks line) = lineIs (endLine blocks) line
 
+-- the tests of all
 abbrev pub entries : (es : List Example) → Check (AllRight es)
 entries [] = record { test = true; law = λ t. tt }
 entries (e ∷ es) = both (entry e) (entries es)

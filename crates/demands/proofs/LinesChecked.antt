@@ -1,9 +1,10 @@
 -- Tests of a written line, byte by byte.
 use lib.ListN.{drop, length}
 use mathlib.Core.List.{_++_, List, [], _∷_}
-use mathlib.Core.Path.{ap₂, subst, sym, _∙_}
+use mathlib.Core.Path.{ap₂, subst, sym}
 use Prim.Native.Nat.{ℕ}
 use Rattle.demands.proofs.Checking.{Check, both, by, list}
+use Rattle.demands.proofs.Demand1.{line-single, plate-line-single}
 use Rattle.demands.proofs.PlatesChecked.{isPrepared}
 use Rattle.demands.specs.Examples.{Exactly, Writing}
 use Rattle.listings.proofs.Conditions.{fits-room}
@@ -28,17 +29,18 @@ written-exactly cs single line room w r = (
 -- a line that takes a plate, which is prepared
 pub plate-line-written : (plate : Plate) (line : List ℕ) → IsPrepared plate → Writing (WritesOf plate line) line
 plate-line-written plate line p room h =
-    written-exactly (notPrepared plate ∷ lineRoom line room ∷ []) ((λ p q x y. x .1 ∙ sym (y .1)), ((λ p q x y. x .1 ∙ sym (y .1)), tt)) line room
+    written-exactly (notPrepared plate ∷ lineRoom line room ∷ []) (plate-line-single plate line room) line room
     (plate-passed p (fits-room line room h))
 
 -- a line that takes none
 pub line-written : (line : List ℕ) → Writing (WritesLine line) line
-line-written line room h = written-exactly (lineRoom line room ∷ []) ((λ p q x y. x .1 ∙ sym (y .1)), tt) line room (fits-room line room h)
+line-written line room h = written-exactly (lineRoom line room ∷ []) (line-single line room) line room (fits-room line room h)
 
 -- a call's own line has these bytes
 abbrev pub plateLineIs : (plate : Plate) (own line : List ℕ) → Check (Writing (WritesOf plate own) line)
 plateLineIs plate own line =
     by (λ p. subst (Writing (WritesOf plate own)) (p .1) (plate-line-written plate own (p .0))) (both (isPrepared plate) (list own line))
 
+-- the same of a line that takes no plate
 abbrev pub lineIs : (own line : List ℕ) → Check (Writing (WritesLine own) line)
 lineIs own line = by (λ p. subst (Writing (WritesLine own)) p (line-written own)) (list own line)

@@ -2,8 +2,8 @@
 use lib.ListN.{drop, getD, length}
 use lib.Seq.{getD-drop}
 use mathlib.Core.List.{List}
-use mathlib.Core.Logic.{inl, inr, _↔_, _⊎_}
-use mathlib.Core.Path.{ap, refl, subst, sym, _∙_, _≡_}
+use mathlib.Core.Logic.{Iff·symm, inl, inr, _↔_, _⊎_}
+use mathlib.Core.Path.{ap, subst, sym, _∙_, _≡_}
 use native.Mathlib.Omega.{arith}
 use Prim.Native.Nat.{_+_, _-_, _<_, _^_, suc, ℕ, _≤_}
 use Rattle.demands.proofs.Checking.{Check, atMost, below, both, by, each, equal, less, unequal, zeros}
@@ -15,12 +15,12 @@ use Rattle.plates.specs.declared.Kind.{Kind}
 use Rattle.plates.specs.declared.Plate.{Plate}
 use Rattle.plates.specs.declared.Refusal.{Refusal}
 use Rattle.plates.specs.declared.Verdict.the-variants.{Accepted}
-use Rattle.plates.specs.Heads.{RowsOf}
 use Rattle.plates.specs.Prepare.{IsPrepared, PlateOf, Prepares, Wide, prepareConditions, rowsOf}
 use Rattle.plates.specs.Profile.{liveAt}
 use Rattle.plates.specs.Reduced.{Reduced}
 use Rattle.plates.specs.Refusals.{Passes}
 use Rattle.plates.specs.Sound.{Sound}
+use Rattle.trellises.proofs.AcceptedIsPrepared.{plate-same}
 use Rattle.words.proofs.Ends.{first-is, last-is}
 use Rattle.words.proofs.Span.{lt-tri}
 use Rattle.words.specs.Ends.{first, firsts, last, lasts}
@@ -37,6 +37,7 @@ goodRow n r = both (less 0 r) (both (less r (2 ^ 64)) (less r (2 ^ n)))
 abbrev pub Apart₂ : ℕ → ℕ → Type 0
 Apart₂ x y = (first x < first y) × ((last x ≡ last y → ⊥) × (last y < last x → bit x (first y) ≡ 0))
 
+-- its test
 abbrev pub goodPair : (x y : ℕ) → Check (Apart₂ x y)
 goodPair x y = both (less (first x) (first y)) (both (unequal (last x) (last y)) (below (last y) (last x) (equal (bit x (first y)) 0)))
 
@@ -66,7 +67,7 @@ unused xs k h j l =
 
 module _ (plate : Plate) where
   -- what is tested of a plate
-  pub record Tested : Type 0 where
+  pub record TestedPlate : Type 0 where
     pub positive : 1 ≤ plate .n
     pub short : plate .n ≤ 64
     pub few : plate .k ≤ 64
@@ -78,7 +79,8 @@ module _ (plate : Plate) where
     pub no-rows : (i : ℕ) → getD (drop (plate .k) (plate .rows)) i 0 ≡ 0
     pub no-entries : (i : ℕ) → getD (drop (suc (plate .n)) (plate .profile)) i 0 ≡ 0
 
-  abbrev pub tested : Check Tested
+  -- all of it, computed
+  abbrev pub tested : Check TestedPlate
   tested =
       by (λ p. record {
         positive = p .0 .0;
@@ -99,7 +101,8 @@ module _ (plate : Plate) where
       (both (each (suc (plate .n)) (λ t. both (equal (getD (plate .profile) t 0) (liveAt (rowsOf plate) t)) (atMost (liveAt (rowsOf plate) t) 12)))
       (both (zeros (drop (plate .k) (plate .rows))) (zeros (drop (suc (plate .n)) (plate .profile))))))))
 
-  pub tested-sound : Tested → Sound plate
+  -- such a plate is sound
+  pub tested-sound : TestedPlate → Sound plate
   tested-sound p = record {
     positive = p .positive;
     short = p .short;
@@ -121,33 +124,6 @@ isPrepared plate = by (λ p. prepared (tested-sound plate p)) (tested plate)
 
 -- ---- a matrix is accepted with a plate
 
--- two codes with the same words have the same plate rows
-rows-same : (C D : ℕ → Type 0) → ((w : ℕ) → C w ↔ D w) → (rows : List ℕ) (f l : ℕ → ℕ) → RowsOf C rows f l → RowsOf D rows f l
-rows-same C D e rows f l p = record {
-  row = λ j k. (let b = p .row j k in record {
-    codeword = e (getD rows j 0) .0 (b .codeword);
-    begins = b .begins;
-    ends = b .ends;
-    soonest = λ w q d. b .soonest w q (e w .1 d);
-    earliest = λ w d. b .earliest w (e w .1 d);
-  });
-  order = p .order;
-  heads = λ w q d. p .heads w q (e w .1 d);
-}
-
--- the plate of a code that the plate's rows generate
-plate-same : (C : ℕ → Type 0) (plate : Plate) → IsPrepared plate → ((w : ℕ) → C w ↔ IsSum (rowsOf plate) w) → PlateOf C (plate .n) plate
-plate-same C plate p e = (let a = p .same .reply .1 in record {
-  length-n = refl;
-  few = a .few;
-  table = a .table;
-  rows = rows-same (IsSum (rowsOf plate)) C (λ w. (e w .1, e w .0)) (rowsOf plate) _ _ (a .rows);
-  unused-rows = a .unused-rows;
-  entries = a .entries;
-  profile = a .profile;
-  unused-entries = a .unused-entries;
-})
-
 module _ (kind : Kind) (rows : List ℕ) (plate : Plate) where
   -- refusals 1 to 4 do not meet it
   passes : IsPrepared plate → length rows ≤ 64 → ((j : ℕ) → j < length rows → getD rows j 0 < 2 ^ plate .n)
@@ -161,11 +137,13 @@ module _ (kind : Kind) (rows : List ℕ) (plate : Plate) where
           let o : 12 < liveAt (rowsOf plate) (w .depth) = subst (λ (x : List ℕ). 12 < liveAt x (w .depth)) e (w .over) in
           omega (arith, sound p .narrow (w .depth) (w .within))
 
+  -- a sound plate whose rows generate the code is what preparing replies
   pub accepted-with : IsPrepared plate → length rows ≤ 64 → ((j : ℕ) → j < length rows → getD rows j 0 < 2 ^ plate .n)
       → ((w : ℕ) → InCode kind (plate .n) rows w ↔ IsSum (rowsOf plate) w) → Prepares (plate .n) kind rows (record { verdict = Accepted; plate = plate })
   accepted-with p few low e =
-      let a = plate-same (InCode kind (plate .n) rows) plate p e in record { reply = (passes p few low a, a) }
+      let a = plate-same (IsSum (rowsOf plate)) (InCode kind (plate .n) rows) (λ w. Iff·symm (e w)) (plate .n) plate (p .same .reply .1) in record { reply = (passes p few low a, a) }
 
+-- the test of a matrix with its plate
 abbrev pub accepted : (n : ℕ) (kind : Kind) (rows : List ℕ) (plate : Plate) → Check (Prepares n kind rows (record { verdict = Accepted; plate = plate }))
 accepted n kind rows plate =
     by (λ p. subst (λ (x : ℕ). Prepares x kind rows (record { verdict = Accepted; plate = plate })) (p .0) (accepted-with kind rows plate (p .1 .0) (p .1 .1 .0) (p .1 .1 .1 .0) (p .1 .1 .1 .1)))

@@ -49,14 +49,17 @@ told Information = refl
 told NoCodeword = refl
 told InputTooLong = refl
 
+-- so two of one number and place are the same
 pub same-refusal : (p q : Refusal) → (number p ≡ number q) × (place p ≡ place q) → p ≡ q
 same-refusal p q e = sym (told p) ∙ ap₂ refusalOf (e .0) (e .1) ∙ told q
 
+-- the test of that
 abbrev pub refusal : (p q : Refusal) → Check (p ≡ q)
 refusal p q = by (same-refusal p q) (both (equal (number p) (number q)) (equal (place p) (place q)))
 
 -- ---- prepare refuses: 1, or 3
 
+-- the row at the place is the first that is over
 abbrev pub rowOver : (n : ℕ) (rows : List ℕ) (q : Refusal) → Check (RowOver n rows q)
 rowOver n rows q =
     by (λ p. record { row = place q; there = p .0; over = p .1 .0; first = p .1 .1 .0; is = p .1 .1 .1 })
@@ -64,6 +67,7 @@ rowOver n rows q =
     (both (atMost (2 ^ n) (getD rows (place q) 0)) (both (each (place q) (λ j. less (getD rows j 0) (2 ^ n))) (refusal q (RowBeyond (place q))))))
 
 module _ (n : ℕ) (kind : Kind) (rows : List ℕ) (q : Refusal) where
+  -- a bad length, or a good one with a row that is over
   pub prepare-refused : badLength n q ⊎ (((1 ≤ n) × (n ≤ 64)) × ((length rows ≤ 64) × RowOver n rows q)) → Prepares n kind rows (refusedWith q)
   prepare-refused (inl b) = record { reply = (inl b, refl) }
   prepare-refused (inr p) = record { reply = (inr ((λ x b. good (b .0)), inr ((λ x b. omega (arith, b .0, p .1 .0)), inl (p .1 .1))), refl) }
@@ -72,6 +76,7 @@ module _ (n : ℕ) (kind : Kind) (rows : List ℕ) (q : Refusal) where
       good (inl e) = omega (arith, e, p .0 .0)
       good (inr h) = omega (arith, h, p .0 .1)
 
+  -- the test of that
   abbrev pub refused : Check (Prepares n kind rows (refusedWith q))
   refused =
       by prepare-refused (either (both (either (equal n 0) (less 64 n)) (refusal q Length))

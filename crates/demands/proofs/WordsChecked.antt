@@ -31,9 +31,11 @@ module _ (plate : Plate) (depth state bit : ℕ) where
   abbrev pub Asked : Type 0
   Asked = IsPrepared plate × ((depth < plate .n) × ((state < 2 ^ liveAt (rowsOf plate) depth) × (bit ≤ 1)))
 
+  -- its test
   abbrev pub asked : Check Asked
   asked = both (isPrepared plate) (both (less depth (plate .n)) (both (less state (2 ^ liveAt (rowsOf plate) depth)) (atMost bit 1)))
 
+  -- neither 5 nor 12
   pub asked-passes : Asked → Passes (branchConditions plate depth state bit)
   asked-passes p = ((λ q c. c .0 (p .0)), ((λ q c. there (c .0)), tt))
     where
@@ -57,6 +59,7 @@ module _ (plate : Plate) (depth state bit : ℕ) where
       (each (length (trellisOf plate .branches depth)) (λ i.
       either (unequal (branchAt (trellisOf plate) depth i .from) state) (unequal (branchAt (trellisOf plate) depth i .out) bit)))
 
+  -- the reply to a branch asked for
   abbrev pub answered : (r : Next) → Check (Branches plate depth state bit r)
   answered (N.State next) = by (λ p. (asked-passes (p .0), p .1)) (both asked (leading next))
   answered N.NoBranch = by (λ p. (asked-passes (p .0), p .1)) (both asked noneLeading)
@@ -67,6 +70,7 @@ module _ (plate : Plate) (depth state bit : ℕ) where
 
 -- ---- encode
 
+-- the codeword, or refusal 13
 abbrev pub encoded : (plate : Plate) (information : ℕ) (r : Encoded) → Check (Encodes plate information r)
 encoded plate information (E.Word word) =
     by (λ p. (((λ q c. c .0 (p .0)), ((λ q c. omega (arith, c .0, p .1 .0)), tt)), p .1 .1))
@@ -76,6 +80,7 @@ encoded plate information (E.Refused q) =
 
 -- ---- read back
 
+-- the information, or refusal 14
 abbrev pub readBack : (plate : Plate) (word : ℕ) (r : ReadBack) → Check (ReadsBack plate word r)
 readBack plate word (R.Information information) =
     by (λ p. (((λ q c. c .0 (p .0)), ((λ q c. c .0 (record { by = information; sum = p .1 .1 })), tt)), p .1 .0, p .1 .1))

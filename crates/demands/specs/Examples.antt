@@ -32,6 +32,7 @@ use Rattle.listings.specs.declared.Written.the-variants as W
 
 -- ---- entries
 
+-- a call with its inputs, and the reply
 pub data Example : Type 0 where
   -- prepare accepts: n, kind and rows; the plate
   accepts : ℕ → Kind → List ℕ → Plate → Example
@@ -187,5 +188,6 @@ words =
 abbrev pub refusals : List Example
 refusals = refuses 8 G (256 ∷ []) (RowBeyond 0) ∷ refuses 0 G [] Length ∷ refuses 65 G [] Length ∷ []
 
+-- all of them
 abbrev pub examples : List Example
 examples = codes ++ sheet ++ branches ++ words ++ refusals

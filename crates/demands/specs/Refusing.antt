@@ -3,6 +3,8 @@ use mathlib.Core.List.{List, [], _∷_}
 use mathlib.Core.Logic.{_↔_}
 use mathlib.Core.Path.{_≡_}
 use Prim.Native.Nat.{ℕ}
+use Rattle.listings.specs.declared.Written.{Written}
+use Rattle.listings.specs.declared.Written.the-variants.{Refused}
 use Rattle.plates.specs.declared.Refusal.{Refusal}
 use Rattle.plates.specs.Refusals.{Refuses, number}
 
@@ -16,3 +18,7 @@ Numbered [] [] = Unit {0}
 Numbered [] (i ∷ is) = ⊥
 Numbered (c ∷ cs) [] = ⊥
 Numbered (c ∷ cs) (i ∷ is) = ((q : Refusal) → c q → number q ≡ i) × Numbered cs is
+
+-- what is said of a call that writes: refused exactly under the conditions, and then the room is as it was
+abbrev pub WriteRefuses : List (Refusal → Type 0) → List ℕ → Written → List ℕ → Type 0
+WriteRefuses conditions room r room′ = RefusesExactly Refused conditions r × ((q : Refusal) → r ≡ Refused q → room′ ≡ room)
