@@ -10,6 +10,7 @@ use Rattle.plates.proofs.SoundIsPrepared.{used-rows}
 use Rattle.plates.specs.Code.{InCode}
 use Rattle.plates.specs.declared.Kind.{Kind}
 use Rattle.plates.specs.declared.Kind.the-variants.{G, H}
+use Rattle.plates.specs.declared.Plate.{Plate}
 use Rattle.plates.specs.declared.Prepared.{Prepared}
 use Rattle.plates.specs.declared.Refusal.{Refusal}
 use Rattle.plates.specs.declared.Refusal.the-variants.{RowBeyond}
@@ -50,6 +51,19 @@ rows-same C D e rows f l p = record {
   });
   order = p .order;
   heads = λ w q d. p .heads w q (e w .1 d);
+}
+
+-- and the same plate
+pub plate-same : (C D : ℕ → Type 0) → ((w : ℕ) → C w ↔ D w) → (n : ℕ) (plate : Plate) → PlateOf C n plate → PlateOf D n plate
+plate-same C D e n plate a = record {
+  length-n = a .length-n;
+  few = a .few;
+  table = a .table;
+  rows = rows-same C D e (rowsOf plate) _ _ (a .rows);
+  unused-rows = a .unused-rows;
+  entries = a .entries;
+  profile = a .profile;
+  unused-entries = a .unused-entries;
 }
 
 -- a matrix, and what preparing it replies where it accepts
@@ -99,13 +113,4 @@ module _ (n : ℕ) (kind : Kind) (rows : List ℕ) (r : Prepared) (p : Prepares 
       pass = (accepted .0 .0, ((λ q b. omega (arith, b .0, used-rows (r .plate) (accepted .1 .few) (accepted .1 .table), accepted .1 .few)), (over, (wide, tt))))
 
       answer : PlateOf (IsSum (rowsOf (r .plate))) n (r .plate)
-      answer = (let a = accepted .1 in record {
-        length-n = a .length-n;
-        few = a .few;
-        table = a .table;
-        rows = rows-same (InCode kind n rows) (IsSum (rowsOf (r .plate))) accepted-code (rowsOf (r .plate)) _ _ (a .rows);
-        unused-rows = a .unused-rows;
-        entries = a .entries;
-        profile = a .profile;
-        unused-entries = a .unused-entries;
-      })
+      answer = plate-same (InCode kind n rows) (IsSum (rowsOf (r .plate))) accepted-code n (r .plate) (accepted .1)

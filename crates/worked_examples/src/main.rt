@@ -1,4 +1,7 @@
-// Cases of preparing that document 01 works out or names, one line for each: what was asked, and what was found.
+// The examples of document 01 that are run and not proved, and more cases of preparing, one line for each: what was asked, and what
+// was found.
+mod blocks;
+
 use plates::Kind;
 use plates::Plate;
 use plates::Prepared;
@@ -198,4 +201,6 @@ fn main() {
     sheet();
     widths();
     limits();
+    blocks::rooms();
+    blocks::ranges();
 }

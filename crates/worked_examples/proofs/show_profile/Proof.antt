@@ -1,8 +1,8 @@
--- `plates_examples::show_profile` is safe, and ends.
+-- `worked_examples::show_profile` is safe, and ends.
 use borrow.Author.Needs.{needs}
 use Prim.Native.Nat.{_-_, _≤_}
-use Rattle.plates_examples.proofs.show_profile.Statement.{statement}
-use Rattle.plates_examples.proofs.show_profile.Tie as tie
+use Rattle.worked_examples.proofs.show_profile.Statement.{statement}
+use Rattle.worked_examples.proofs.show_profile.Tie as tie
 
 abbrev Inv-loop : tie.InvT-loop
 Inv-loop profile t₀ t4 t5 t = t ≤ 9

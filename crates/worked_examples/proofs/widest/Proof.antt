@@ -1,8 +1,8 @@
--- `plates_examples::widest` is safe, and ends.
+-- `worked_examples::widest` is safe, and ends.
 use borrow.Author.Needs.{needs}
 use Prim.Native.Nat.{_-_, _≤_}
-use Rattle.plates_examples.proofs.widest.Statement.{statement}
-use Rattle.plates_examples.proofs.widest.Tie as tie
+use Rattle.worked_examples.proofs.widest.Statement.{statement}
+use Rattle.worked_examples.proofs.widest.Tie as tie
 
 abbrev Inv-loop : tie.InvT-loop
 Inv-loop profile most₀ t₀ most t = t ≤ 65

@@ -1,0 +1,90 @@
+-- Demand 3: no layered graph for the same code in the same order has fewer states at any depth or fewer branches in any section. Decoding
+-- reports one addition for each branch, and for each state past the start one comparison fewer than the branches entering it, as counted
+-- by the steps themselves.
+use lib.IntN.{ℤ}
+use lib.ListN.{length}
+use mathlib.Core.List.{List}
+use mathlib.Core.Path.{ap, refl, subst, sym, _∙_, _≡_}
+use native.Mathlib.Decide.{ℕ-discrete}
+use Prim.Native.Nat.{_+_, _<_, ℕ, _≤_}
+use Rattle.decoding.proofs.BranchesCounted.{additions-are-branches, additions-formula, comparisons-are-entering-less-one, comparisons-formula}
+use Rattle.decoding.specs.Backward.{counted}
+use Rattle.decoding.specs.declared.Answer.{Answer}
+use Rattle.decoding.specs.declared.Counts.{Counts}
+use Rattle.decoding.specs.declared.Decoded.the-variants.{Found}
+use Rattle.decoding.specs.Decode.{Decodes}
+use Rattle.decoding.specs.Totals.{branchTotal, doubledTotal, enteringLessOne, stateTotal}
+use Rattle.plates.specs.Code.{InCode}
+use Rattle.plates.specs.declared.Kind.{Kind}
+use Rattle.plates.specs.declared.Prepared.{Prepared}
+use Rattle.plates.specs.declared.Refusal.the-variants.{SampleCount}
+use Rattle.plates.specs.declared.Verdict.the-variants.{Accepted}
+use Rattle.plates.specs.Prepare.{IsPrepared, Prepares, rowsOf}
+use Rattle.trellises.proofs.AcceptedIsPrepared.{accepted-length, accepted-prepared}
+use Rattle.trellises.proofs.PlateTrellis.{matrix-smallest}
+use Rattle.trellises.specs.Branching.{trellisOf}
+use Rattle.trellises.specs.Graph.{Branch, Graph, Spells}
+use Rattle.trellises.specs.SectionOf.{sectionOf}
+use Rattle.trellises.specs.Smallest.{Different, HasAll}
+
+-- A matrix as G or H, and what preparing it replies where it accepts. The code is the matrix's own
+module _ (n : ℕ) (kind : Kind) (rows : List ℕ) (r : Prepared) (p : Prepares n kind rows r) (e : r .verdict ≡ Accepted) where
+  -- ---- no graph is smaller
+
+  -- any layered graph whose full paths spell the code's words
+  module _ (other : Graph) (s : Spells other n (InCode kind n rows)) where
+    -- has at least as many states at each depth
+    pub no-fewer-states : (t : ℕ) → t ≤ n → trellisOf (r .plate) .states t ≤ other .states t
+    no-fewer-states = matrix-smallest n kind rows r p e .states-least other s
+
+    -- and at least as many branches in each section, counting each of its own once
+    pub no-fewer-branches : (t : ℕ) → t < n → (once : List Branch) → HasAll other t once → length (trellisOf (r .plate) .branches t) ≤ length once
+    no-fewer-branches = matrix-smallest n kind rows r p e .branches-least other s
+
+  -- while those of the trellis are all different
+  pub own-branches-differ : (t : ℕ) → Different (trellisOf (r .plate)) t
+  own-branches-differ = matrix-smallest n kind rows r p e .different
+
+  -- ---- the counts that decoding reports
+
+  module _ (samples metrics metrics′ : List ℤ) (decisions decisions′ : List ℕ) (a : Answer)
+      (d : Decodes (r .plate) samples metrics decisions metrics′ decisions′ (Found a)) where
+    given : IsPrepared (r .plate)
+    given = accepted-prepared n kind rows r p e
+
+    size : length samples ≡ r .plate .n
+    size = go (ℕ-discrete (length samples) (r .plate .n))
+      where
+        go : Dec (length samples ≡ r .plate .n) → length samples ≡ r .plate .n
+        go (yes x) = x
+        go (no x) = absurd (d .0 .1 .0 SampleCount (x, refl))
+
+    -- they are what the steps counted, one section after the other
+    pub counts-are-of-steps : a .counts ≡ counted (sectionOf (rowsOf (r .plate))) samples 0
+    counts-are-of-steps = d .1 .counts
+
+    -- one addition for each branch
+    pub addition-for-each-branch : a .counts .additions ≡ branchTotal (trellisOf (r .plate)) n
+    addition-for-each-branch =
+        ap (λ (k : Counts). k .additions) counts-are-of-steps
+        ∙ additions-are-branches (r .plate) given samples size ∙ ap (branchTotal (trellisOf (r .plate))) (accepted-length n kind rows r p e)
+
+    -- for each state past the start one comparison fewer than the branches entering it
+    pub comparison-for-each-entering-less-one : a .counts .comparisons ≡ enteringLessOne (trellisOf (r .plate)) n
+    comparison-for-each-entering-less-one =
+        ap (λ (k : Counts). k .comparisons) counts-are-of-steps
+        ∙ comparisons-are-entering-less-one (r .plate) given samples size
+        ∙ ap (enteringLessOne (trellisOf (r .plate))) (accepted-length n kind rows r p e)
+
+    -- as the paper's formulas say: additions are the sum of 2 ^ s(t) over t from 0 to n - 1, doubled where a row begins at t
+    pub additions-by-formula : a .counts .additions ≡ doubledTotal (rowsOf (r .plate)) n
+    additions-by-formula =
+        ap (λ (k : Counts). k .additions) counts-are-of-steps
+        ∙ additions-formula (r .plate) given samples size ∙ ap (doubledTotal (rowsOf (r .plate))) (accepted-length n kind rows r p e)
+
+    -- and comparisons are additions less the sum of 2 ^ s(t) for t from 1 to n
+    pub comparisons-by-formula : a .counts .comparisons + stateTotal (rowsOf (r .plate)) n ≡ a .counts .additions
+    comparisons-by-formula =
+        subst (λ (m : ℕ). a .counts .comparisons + stateTotal (rowsOf (r .plate)) m ≡ a .counts .additions) (accepted-length n kind rows r p e)
+        (subst (λ (k : Counts). k .comparisons + stateTotal (rowsOf (r .plate)) (r .plate .n) ≡ k .additions) (sym counts-are-of-steps)
+        (comparisons-formula (r .plate) given samples size))

@@ -1,0 +1,125 @@
+-- Determined: for each public function, two replies that meet its promise, with what each leaves in the rooms lent, are equal.
+use lib.IntN.{ℤ}
+use mathlib.Core.Bool.{Bool}
+use mathlib.Core.List.{List}
+use mathlib.Core.Path.{sym, _∙_, _≡_}
+use Prim.Native.Nat.{ℕ}
+use Rattle.coding.proofs.CodingDetermined.{encode-determined, read-back-determined}
+use Rattle.coding.specs.Coding.{Encodes, ReadsBack}
+use Rattle.coding.specs.declared.Encoded.{Encoded}
+use Rattle.coding.specs.declared.ReadBack.{ReadBack}
+use Rattle.decoding.proofs.DecodeDetermined.{decode-determined}
+use Rattle.decoding.specs.declared.Decoded.{Decoded}
+use Rattle.decoding.specs.Decode.{Decodes}
+use Rattle.listings.proofs.Determined.{write-end-determined, write-plate-determined, write-profile-determined, write-refused-determined, write-word-determined}
+use Rattle.listings.specs.declared.Written.{Written}
+use Rattle.listings.specs.Writing.{WritesEnd, WritesPlate, WritesProfile, WritesRefused, WritesWord}
+use Rattle.plates.proofs.PrepareDetermined.{is-prepared-determined, prepare-determined}
+use Rattle.plates.specs.declared.Kind.{Kind}
+use Rattle.plates.specs.declared.Plate.{Plate}
+use Rattle.plates.specs.declared.Prepared.{Prepared}
+use Rattle.plates.specs.declared.Refusal.{Refusal}
+use Rattle.plates.specs.Prepare.{Prepares, Tests}
+use Rattle.plates.specs.Refusals.{number, place}
+use Rattle.trellises.proofs.BranchDetermined.{branch-determined}
+use Rattle.trellises.specs.Branching.{Branches}
+use Rattle.trellises.specs.declared.Next.{Next}
+use Rattle.trellises.specs.declared.Section.{Section}
+use Rattle.trellises.specs.RowsAmong.{rowsAmong}
+use Rattle.trellises.specs.SectionOf.{held, sectionOf}
+use Rattle.words.proofs.Ends.{first-one-determined, last-one-determined}
+use Rattle.words.specs.Ends.{FirstOne, LastOne}
+use Rattle.words.specs.Parity.{parity}
+use Rattle.words.specs.Word.{bit}
+
+-- ---- words
+
+-- a position of a word
+pub bit-at : (word position r s : ℕ) → r ≡ bit word position → s ≡ bit word position → r ≡ s
+bit-at word position r s x y = x ∙ sym y
+
+-- its first one
+pub first-one : (word r s : ℕ) → FirstOne word r → FirstOne word s → r ≡ s
+first-one = first-one-determined
+
+-- its last one
+pub last-one : (word r s : ℕ) → LastOne word r → LastOne word s → r ≡ s
+last-one = last-one-determined
+
+-- its parity with another
+pub parity-with : (word other r s : ℕ) → r ≡ parity word other → s ≡ parity word other → r ≡ s
+parity-with word other r s x y = x ∙ sym y
+
+-- ---- plates
+
+-- the number of a refusal
+pub refusal-number : (refusal : Refusal) (r s : ℕ) → r ≡ number refusal → s ≡ number refusal → r ≡ s
+refusal-number refusal r s x y = x ∙ sym y
+
+-- its place
+pub refusal-place : (refusal : Refusal) (r s : ℕ) → r ≡ place refusal → s ≡ place refusal → r ≡ s
+refusal-place refusal r s x y = x ∙ sym y
+
+-- preparing a matrix
+pub prepare : (n : ℕ) (kind : Kind) (rows : List ℕ) (r s : Prepared) → Prepares n kind rows r → Prepares n kind rows s → r ≡ s
+prepare = prepare-determined
+
+-- the test of a plate
+pub is-prepared : (plate : Plate) (r s : Bool) → Tests plate r → Tests plate s → r ≡ s
+is-prepared = is-prepared-determined
+
+-- ---- trellises
+
+-- a branch asked for
+pub branch : (plate : Plate) (depth state bit : ℕ) (r s : Next) → Branches plate depth state bit r → Branches plate depth state bit s → r ≡ s
+branch = branch-determined
+
+-- a section of rows
+pub section-of : (rows : List ℕ) (t : ℕ) (r s : Section) → r ≡ held (sectionOf rows t) → s ≡ held (sectionOf rows t) → r ≡ s
+section-of rows t r s x y = x ∙ sym y
+
+-- a section of some of them
+pub section-among : (rows : List ℕ) (which depth : ℕ) (r s : Section)
+    → r ≡ held (sectionOf (rowsAmong rows which) depth) → s ≡ held (sectionOf (rowsAmong rows which) depth) → r ≡ s
+section-among rows which depth r s x y = x ∙ sym y
+
+-- ---- coding
+
+-- encoding information
+pub encode : (plate : Plate) (information : ℕ) (r s : Encoded) → Encodes plate information r → Encodes plate information s → r ≡ s
+encode = encode-determined
+
+-- reading a codeword back
+pub read-back : (plate : Plate) (word : ℕ) (r s : ReadBack) → ReadsBack plate word r → ReadsBack plate word s → r ≡ s
+read-back = read-back-determined
+
+-- ---- decoding
+
+-- decoding, with both rooms
+pub decode : (plate : Plate) (samples metrics : List ℤ) (decisions : List ℕ) (r s : Decoded) (m n : List ℤ) (d e : List ℕ)
+    → Decodes plate samples metrics decisions m d r → Decodes plate samples metrics decisions n e s → (r ≡ s) × (m ≡ n) × (d ≡ e)
+decode = decode-determined
+
+-- ---- listings
+
+module _ (room : List ℕ) (r s : Written) (a b : List ℕ) where
+  -- the line plate
+  pub write-plate : (plate : Plate) → WritesPlate plate room r a → WritesPlate plate room s b → (r ≡ s) × (a ≡ b)
+  write-plate = write-plate-determined
+
+  -- the line profile
+  pub write-profile : (plate : Plate) → WritesProfile plate room r a → WritesProfile plate room s b → (r ≡ s) × (a ≡ b)
+  write-profile = write-profile-determined
+
+  -- the line word
+  pub write-word : (plate : Plate) (word : ℕ) (metric : ℤ) (additions comparisons : ℕ)
+      → WritesWord plate word metric additions comparisons room r a → WritesWord plate word metric additions comparisons room s b → (r ≡ s) × (a ≡ b)
+  write-word = write-word-determined
+
+  -- the line refused
+  pub write-refused : (number place : ℕ) → WritesRefused number place room r a → WritesRefused number place room s b → (r ≡ s) × (a ≡ b)
+  write-refused = write-refused-determined
+
+  -- the line end
+  pub write-end : (blocks : ℕ) → WritesEnd blocks room r a → WritesEnd blocks room s b → (r ≡ s) × (a ≡ b)
+  write-end = write-end-determined

@@ -1,0 +1,12 @@
+pub mod Demand1
+pub mod Demand2
+pub mod Demand3
+pub mod Determined
+pub mod Checking
+pub mod CodeWords
+pub mod PlatesChecked
+pub mod RefusalsChecked
+pub mod WordsChecked
+pub mod BlocksChecked
+pub mod LinesChecked
+pub mod ExamplesRight

@@ -1,0 +1,83 @@
+-- Tests of a refusal: it is told by its number and place, and prepare replies it.
+use lib.Dec.{eqb}
+use lib.ListN.{getD, length}
+use mathlib.Core.Bool.{cond}
+use mathlib.Core.List.{List}
+use mathlib.Core.Logic.{inl, inr, _⊎_}
+use mathlib.Core.Path.{ap₂, refl, sym, _∙_, _≡_}
+use native.Mathlib.Omega.{arith}
+use Prim.Native.Nat.{_<_, _^_, ℕ, _≤_}
+use Rattle.demands.proofs.Checking.{Check, atMost, both, by, each, either, equal, less}
+use Rattle.plates.specs.declared.Kind.{Kind}
+use Rattle.plates.specs.declared.Refusal.{Refusal}
+use Rattle.plates.specs.declared.Refusal.the-variants.{DecisionRoom, Information, InputTooLong, Length, LineRoom, MetricRoom, NoCodeword, NoSuchBranch, NotPrepared, RowBeyond, SampleCount, SampleRange, SheetLine, TooManyRows, TooWide}
+use Rattle.plates.specs.Prepare.{Prepares, RowOver, badLength}
+use Rattle.plates.specs.Refusals.{number, place}
+use Rattle.plates.specs.Replying.{refusedWith}
+
+-- the refusal of a number and place
+abbrev pub refusalOf : ℕ → ℕ → Refusal
+refusalOf i p =
+    cond (eqb i 1) Length
+    (cond (eqb i 2) TooManyRows
+    (cond (eqb i 3) (RowBeyond p)
+    (cond (eqb i 4) TooWide
+    (cond (eqb i 5) NotPrepared
+    (cond (eqb i 6) SampleCount
+    (cond (eqb i 7) (SampleRange p)
+    (cond (eqb i 8) MetricRoom
+    (cond (eqb i 9) DecisionRoom
+    (cond (eqb i 10) (SheetLine p)
+    (cond (eqb i 11) LineRoom
+    (cond (eqb i 12) NoSuchBranch (cond (eqb i 13) Information (cond (eqb i 14) NoCodeword InputTooLong)))))))))))))
+
+-- a refusal is told by its number and place
+pub told : (q : Refusal) → refusalOf (number q) (place q) ≡ q
+told Length = refl
+told TooManyRows = refl
+told (RowBeyond row) = refl
+told TooWide = refl
+told NotPrepared = refl
+told SampleCount = refl
+told (SampleRange position) = refl
+told MetricRoom = refl
+told DecisionRoom = refl
+told (SheetLine line) = refl
+told LineRoom = refl
+told NoSuchBranch = refl
+told Information = refl
+told NoCodeword = refl
+told InputTooLong = refl
+
+-- so two of one number and place are the same
+pub same-refusal : (p q : Refusal) → (number p ≡ number q) × (place p ≡ place q) → p ≡ q
+same-refusal p q e = sym (told p) ∙ ap₂ refusalOf (e .0) (e .1) ∙ told q
+
+-- the test of that
+abbrev pub refusal : (p q : Refusal) → Check (p ≡ q)
+refusal p q = by (same-refusal p q) (both (equal (number p) (number q)) (equal (place p) (place q)))
+
+-- ---- prepare refuses: 1, or 3
+
+-- the row at the place is the first that is over
+abbrev pub rowOver : (n : ℕ) (rows : List ℕ) (q : Refusal) → Check (RowOver n rows q)
+rowOver n rows q =
+    by (λ p. record { row = place q; there = p .0; over = p .1 .0; first = p .1 .1 .0; is = p .1 .1 .1 })
+    (both (less (place q) (length rows))
+    (both (atMost (2 ^ n) (getD rows (place q) 0)) (both (each (place q) (λ j. less (getD rows j 0) (2 ^ n))) (refusal q (RowBeyond (place q))))))
+
+module _ (n : ℕ) (kind : Kind) (rows : List ℕ) (q : Refusal) where
+  -- a bad length, or a good one with a row that is over
+  pub prepare-refused : badLength n q ⊎ (((1 ≤ n) × (n ≤ 64)) × ((length rows ≤ 64) × RowOver n rows q)) → Prepares n kind rows (refusedWith q)
+  prepare-refused (inl b) = record { reply = (inl b, refl) }
+  prepare-refused (inr p) = record { reply = (inr ((λ x b. good (b .0)), inr ((λ x b. omega (arith, b .0, p .1 .0)), inl (p .1 .1))), refl) }
+    where
+      good : (n ≡ 0) ⊎ (64 < n) → ⊥
+      good (inl e) = omega (arith, e, p .0 .0)
+      good (inr h) = omega (arith, h, p .0 .1)
+
+  -- the test of that
+  abbrev pub refused : Check (Prepares n kind rows (refusedWith q))
+  refused =
+      by prepare-refused (either (both (either (equal n 0) (less 64 n)) (refusal q Length))
+      (both (both (atMost 1 n) (atMost n 64)) (both (atMost (length rows) 64) (rowOver n rows q))))

@@ -1,0 +1,193 @@
+-- The examples that the paper marks P, as one table: each entry names a call, its inputs and the reply. One statement says of every entry
+-- that a reply meets the promise of its call exactly if it is the one in the table.
+use lib.IntN.{negℤ, pos, ℤ}
+use lib.ListN.{drop, length, replicate}
+use mathlib.Core.List.{_++_, List, [], _∷_}
+use mathlib.Core.Logic.{_↔_}
+use mathlib.Core.Path.{_≡_}
+use Prim.Native.Nat.{_-_, ℕ, _≤_}
+use Rattle.coding.specs.Coding.{Encodes, ReadsBack}
+use Rattle.coding.specs.declared.Encoded.{Encoded}
+use Rattle.coding.specs.declared.ReadBack.{ReadBack}
+use Rattle.decoding.specs.declared.Answer.{Answer}
+use Rattle.decoding.specs.declared.Decoded.{Decoded}
+use Rattle.decoding.specs.declared.Decoded.the-variants.{Found}
+use Rattle.decoding.specs.Decode.{Decodes, decisionNeed, metricNeed}
+use Rattle.listings.specs.declared.Written.{Written}
+use Rattle.listings.specs.Writing.{WritesEnd, WritesPlate, WritesProfile, WritesWord}
+use Rattle.plates.specs.declared.Kind.{Kind}
+use Rattle.plates.specs.declared.Kind.the-variants.{G, H}
+use Rattle.plates.specs.declared.Plate.{Plate}
+use Rattle.plates.specs.declared.Refusal.{Refusal}
+use Rattle.plates.specs.declared.Refusal.the-variants.{Information, Length, NoCodeword, NoSuchBranch, RowBeyond}
+use Rattle.plates.specs.declared.Verdict.the-variants.{Accepted}
+use Rattle.plates.specs.Prepare.{Prepares}
+use Rattle.plates.specs.Replying.{refusedWith}
+use Rattle.trellises.specs.Branching.{Branches}
+use Rattle.trellises.specs.declared.Next.{Next}
+use Rattle.coding.specs.declared.Encoded.the-variants as E
+use Rattle.coding.specs.declared.ReadBack.the-variants as R
+use Rattle.trellises.specs.declared.Next.the-variants as N
+use Rattle.listings.specs.declared.Written.the-variants as W
+
+-- ---- entries
+
+-- a call with its inputs, and the reply
+pub data Example : Type 0 where
+  -- prepare accepts: n, kind and rows; the plate
+  accepts : ℕ → Kind → List ℕ → Plate → Example
+  -- prepare refuses: n, kind and rows; the refusal
+  refuses : ℕ → Kind → List ℕ → Refusal → Example
+  -- branch: a plate, depth, state and bit; the reply
+  asks : Plate → ℕ → ℕ → ℕ → Next → Example
+  -- encode: a plate and information; the reply
+  encodes : Plate → ℕ → Encoded → Example
+  -- read back: a plate and a word; the reply
+  reads : Plate → ℕ → ReadBack → Example
+  -- decode, with rooms that are long enough: a plate and samples; the word, its metric and the counts
+  decodes : Plate → List ℤ → Answer → Example
+  -- write the line plate, profile, word or end, with a room that is long enough: its values; the bytes
+  plate-line : Plate → List ℕ → Example
+  profile-line : Plate → List ℕ → Example
+  word-line : Plate → Answer → List ℕ → Example
+  end-line : ℕ → List ℕ → Example
+
+-- ---- the statement
+
+-- what meets the promise is this, and nothing else
+abbrev pub Exactly : {A : Type 0} → (A → Type 0) → A → Type 0
+Exactly {A} Promise reply = (r : A) → Promise r ↔ (r ≡ reply)
+
+-- a line is written into any room that is long enough: its length is returned, and the bytes after it are unchanged
+abbrev pub Writing : (List ℕ → Written → List ℕ → Type 0) → List ℕ → Type 0
+Writing Promise line = (room : List ℕ) → length line ≤ length room
+    → Exactly (λ (x : Written × List ℕ). Promise room (x .0) (x .1)) (W.Length (length line), line ++ drop (length line) room)
+
+-- a decode, with any rooms that are long enough: the answer is found, and the needed room is zero after it
+abbrev pub Decoding : Plate → List ℤ → Answer → Type 0
+Decoding plate samples a = (metrics : List ℤ) (decisions : List ℕ) → metricNeed plate ≤ length metrics → decisionNeed plate ≤ length decisions
+    → Exactly (λ (x : Decoded × List ℤ × List ℕ). Decodes plate samples metrics decisions (x .1) (x .2) (x .0))
+    (Found a, replicate (metricNeed plate) (pos 0) ++ drop (metricNeed plate) metrics, replicate (decisionNeed plate) 0 ++ drop (decisionNeed plate) decisions)
+
+-- what an entry says
+abbrev pub Right : Example → Type 0
+Right (accepts n kind rows plate) = Exactly (Prepares n kind rows) (record { verdict = Accepted; plate = plate })
+Right (refuses n kind rows q) = Exactly (Prepares n kind rows) (refusedWith q)
+Right (asks plate depth state bit reply) = Exactly (Branches plate depth state bit) reply
+Right (encodes plate information reply) = Exactly (Encodes plate information) reply
+Right (reads plate word reply) = Exactly (ReadsBack plate word) reply
+Right (decodes plate samples a) = Decoding plate samples a
+Right (plate-line plate line) = Writing (WritesPlate plate) line
+Right (profile-line plate line) = Writing (WritesProfile plate) line
+Right (word-line plate a line) = Writing (WritesWord plate (a .word) (a .metric) (a .counts .additions) (a .counts .comparisons)) line
+Right (end-line blocks line) = Writing (WritesEnd blocks) line
+
+-- every entry is right
+abbrev pub AllRight : List Example → Type 0
+AllRight [] = Unit {0}
+AllRight (e ∷ es) = Right e × AllRight es
+
+-- ---- the table
+
+-- a plate of length n with these rows and profile, and zero in the unused places
+abbrev pub plateWith : ℕ → List ℕ → List ℕ → Plate
+plateWith n rows profile = record {
+  n = n;
+  k = length rows;
+  rows = rows ++ replicate (64 - length rows) 0;
+  profile = profile ++ replicate (65 - length profile) 0;
+}
+
+-- a word, its metric, additions and comparisons
+abbrev pub answer : ℕ → ℤ → ℕ → ℕ → Answer
+answer word metric additions comparisons = record { word = word; metric = metric; counts = record { additions = additions; comparisons = comparisons } }
+
+-- a number below zero
+abbrev pub minus : ℕ → ℤ
+minus m = negℤ (pos m)
+
+-- n=1, G, no rows: the zero word alone
+abbrev pub zeroPlate1 : Plate
+zeroPlate1 = plateWith 1 [] (0 ∷ 0 ∷ [])
+
+-- n=1, H, no rows: every word
+abbrev pub fullPlate1 : Plate
+fullPlate1 = plateWith 1 (1 ∷ []) (0 ∷ 0 ∷ [])
+
+-- n=3, H 111: rows 110 and 011
+abbrev pub evenPlate3 : Plate
+evenPlate3 = plateWith 3 (3 ∷ 6 ∷ []) (0 ∷ 1 ∷ 1 ∷ 0 ∷ [])
+
+-- n=3, G 111
+abbrev pub repeatPlate3 : Plate
+repeatPlate3 = plateWith 3 (7 ∷ []) (0 ∷ 1 ∷ 1 ∷ 0 ∷ [])
+
+-- the sheet's rows 11110000, 01011010, 00111100, 00001111
+abbrev pub sheetRows : List ℕ
+sheetRows = 15 ∷ 90 ∷ 60 ∷ 240 ∷ []
+
+-- its plate
+abbrev pub sheetPlate : Plate
+sheetPlate = plateWith 8 sheetRows (0 ∷ 1 ∷ 2 ∷ 3 ∷ 2 ∷ 3 ∷ 2 ∷ 1 ∷ 0 ∷ [])
+
+-- its block -3 -2 4 -1 5 6 -1 7
+abbrev pub sheetBlock : List ℤ
+sheetBlock = minus 3 ∷ minus 2 ∷ pos 4 ∷ minus 1 ∷ pos 5 ∷ pos 6 ∷ minus 1 ∷ pos 7 ∷ []
+
+-- word 11110000, 19, 44, 11
+abbrev pub sheetAnswer : Answer
+sheetAnswer = answer 15 (pos 19) 44 11
+
+-- the codes and their decoded blocks
+abbrev pub codes : List Example
+codes =
+    accepts 1 G [] zeroPlate1
+    ∷ decodes zeroPlate1 (minus 5 ∷ []) (answer 0 (minus 5) 1 0)
+    ∷ accepts 1 H [] fullPlate1
+    ∷ decodes fullPlate1 (minus 5 ∷ []) (answer 1 (pos 5) 2 1)
+    ∷ accepts 3 H (7 ∷ []) evenPlate3
+    ∷ decodes evenPlate3 (minus 1 ∷ minus 1 ∷ minus 1 ∷ []) (answer 6 (pos 1) 8 3)
+    ∷ accepts 3 G (7 ∷ []) repeatPlate3
+    ∷ decodes repeatPlate3 (pos 2 ∷ minus 1 ∷ minus 1 ∷ []) (answer 0 (pos 0) 6 1)
+    ∷ []
+
+-- the sheet, its plate as G and as H, and its listing: plate 8 4 3, profile 0 1 2 3 2 3 2 1 0, word 11110000 19 44 11, end 1
+abbrev pub sheet : List Example
+sheet =
+    accepts 8 G sheetRows sheetPlate
+    ∷ accepts 8 H sheetRows sheetPlate
+    ∷ decodes sheetPlate sheetBlock sheetAnswer
+    ∷ plate-line sheetPlate (112 ∷ 108 ∷ 97 ∷ 116 ∷ 101 ∷ 9 ∷ 56 ∷ 9 ∷ 52 ∷ 9 ∷ 51 ∷ 10 ∷ [])
+    ∷ profile-line sheetPlate
+    (112 ∷ 114 ∷ 111 ∷ 102 ∷ 105 ∷ 108 ∷ 101 ∷ 9 ∷ 48 ∷ 9 ∷ 49 ∷ 9 ∷ 50 ∷ 9 ∷ 51 ∷ 9 ∷ 50 ∷ 9 ∷ 51 ∷ 9 ∷ 50 ∷ 9 ∷ 49 ∷ 9 ∷ 48 ∷ 10 ∷ [])
+    ∷ word-line sheetPlate sheetAnswer
+    (119 ∷ 111 ∷ 114 ∷ 100 ∷ 9 ∷ 49 ∷ 49 ∷ 49 ∷ 49 ∷ 48 ∷ 48 ∷ 48 ∷ 48 ∷ 9 ∷ 49 ∷ 57 ∷ 9 ∷ 52 ∷ 52 ∷ 9 ∷ 49 ∷ 49 ∷ 10 ∷ [])
+    ∷ end-line 1 (101 ∷ 110 ∷ 100 ∷ 9 ∷ 49 ∷ 10 ∷ [])
+    ∷ []
+
+-- its branches
+abbrev pub branches : List Example
+branches =
+    asks sheetPlate 4 1 0 (N.State 5)
+    ∷ asks sheetPlate 4 1 1 (N.State 1)
+    ∷ asks sheetPlate 3 1 1 (N.State 0)
+    ∷ asks sheetPlate 3 1 0 N.NoBranch
+    ∷ asks sheetPlate 3 6 0 (N.State 3)
+    ∷ asks sheetPlate 4 4 0 (N.Refused NoSuchBranch)
+    ∷ []
+
+-- information 9 encodes to 11111111, 16 is refusal 13, and 11010010 read back is 14
+abbrev pub words : List Example
+words =
+    encodes sheetPlate 9 (E.Word 255)
+    ∷ encodes sheetPlate 16 (E.Refused Information)
+    ∷ reads sheetPlate 75 (R.Refused NoCodeword)
+    ∷ []
+
+-- n=8, a row of 256: refusal 3, place 0; n=0 and n=65: 1
+abbrev pub refusals : List Example
+refusals = refuses 8 G (256 ∷ []) (RowBeyond 0) ∷ refuses 0 G [] Length ∷ refuses 65 G [] Length ∷ []
+
+-- all of them
+abbrev pub examples : List Example
+examples = codes ++ sheet ++ branches ++ words ++ refusals

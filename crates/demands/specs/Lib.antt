@@ -1,0 +1,3 @@
+pub mod Refusing
+pub mod Greatest
+pub mod Examples

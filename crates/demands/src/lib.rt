@@ -1,0 +1,1 @@
+// The demands on the library restated and proved; no code.
