@@ -69,7 +69,7 @@ module _ (s : List ℕ) (at r : ℕ) (h : at ≤ length s) (u : Until lineFeed s
   text = take (r - at) (drop at s)
 
   -- the place of the line after
-  next-is : nextLine s at ≡ r + 1
+  pub next-is : nextLine s at ≡ r + 1
   next-is = rw (from-more lineFeed s at r h u, part-length lineFeed s at r h u) (omega arith)
 
   module _ (n : r ≡ length s → ⊥) where

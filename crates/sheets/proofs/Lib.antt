@@ -16,3 +16,6 @@ pub mod Bodies
 pub mod Wholes
 pub mod Determined
 pub mod Ranges
+pub mod Following
+pub mod Positions
+pub mod Worked

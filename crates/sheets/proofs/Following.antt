@@ -1,0 +1,176 @@
+-- The block lines of a sheet are where reading one after the other leads, so that they can be produced one by one.
+use Prim.Native.Nat.{ℕ, zero, suc, _+_, _-_, _≤_, _<_}
+use borrow.Author.Tests.{leb-true, leb-false}
+use lib.Dec.{eqb, leb}
+use lib.IntN.{ℤ}
+use lib.ListN.{length, take, drop, getD, length-drop}
+use lib.Seq.{drop-nil, drop-drop}
+use mathlib.Core.Bool.{Bool, true, false, cond}
+use mathlib.Core.List.{List, [], _∷_}
+use mathlib.Core.Logic.{_⊎_, ⊎-elim, inl, inr}
+use mathlib.Core.Path.{_≡_, refl, sym, _∙_, ap}
+use native.Mathlib.Nat.{zero-add, eq-or-lt-of-le}
+use native.Mathlib.Omega.{arith}
+use Rattle.plates.specs.declared.Verdict.the-variants as J
+use Rattle.sheets.specs.Text.{lineFeed, till, lines, linesFrom, begins, Until}
+use Rattle.sheets.specs.Blocks.{BlockFound, block, noBlock, blockFront, blocksOf, blockAt, nextLine, blockPlace, Ended}
+use Rattle.sheets.specs.Lines.{endingOf}
+use Rattle.sheets.specs.Sheet.{Contents, contents, endingAfter, lineVerdict, lineBad, startOf, says, reading}
+use Rattle.sheets.specs.declared.line.Fault.the-variants.{Missing}
+use Rattle.sheets.specs.declared.body.Ending.{Ending}
+use Rattle.sheets.specs.declared.body.Ending.the-variants.{Fine, NoEnd, After}
+use Rattle.sheets.proofs.Parts.{from-start, from-none, from-more, from-last, part-length}
+use Rattle.sheets.proofs.Passing.{line-split}
+use Rattle.sheets.proofs.Endings.{line-closed}
+use Rattle.sheets.proofs.BlockPlaces.{next-is}
+use Rattle.sheets.proofs.BlockRuns.{blocks-more, blocks-none}
+use Rattle.sheets.proofs.Ranges.{accepted, Accepts, all-pass}
+
+-- ---- where a line ends
+
+till-case : (t : Bool) (k m : ℕ) → k ≤ m → cond t 0 (suc k) ≤ suc m
+till-case true k m h = omega arith
+till-case false k m h = omega arith
+
+till-small : (b : ℕ) (s : List ℕ) → till b s ≤ length s
+till-small b [] = omega arith
+till-small b (x ∷ xs) = till-case (eqb x b) (till b xs) (length xs) (till-small b xs)
+
+until-there : (b : ℕ) (s : List ℕ) (at : ℕ) → at ≤ length s → Until b s at (at + till b (drop at s))
+until-there b s at h =
+    let t = rw length-drop at (till-small b (drop at s)) in
+    record { is = refl; low = omega arith; high = omega arith }
+
+-- ---- one block line after another
+
+no-block : {A : Type 0} {vs : List ℤ} → noBlock ≡ block vs → A
+no-block e = let z : _≡_ {A = ℕ} 0 1 = cc in absurd (omega arith)
+
+module _ (s : List ℕ) (at : ℕ) where
+  -- a block line is ended
+  pub block-ended : (vs : List ℤ) → blockAt s at ≡ block vs → Ended s at (nextLine s at)
+  block-ended vs e = by (leb at (length s)) refl
+   where
+    by : (t : Bool) → leb at (length s) ≡ t → Ended s at (nextLine s at)
+    by true q =
+        let h = leb-true at (length s) q in
+        let r = at + till lineFeed (drop at s) in
+        let u = until-there lineFeed s at h in
+        rw (next-is s at r h u) (line-closed s at r u (λ z. no-block (rw (from-last lineFeed s at r h u z) at e)))
+    by false q = no-block (rw (from-none lineFeed s at (leb-false at (length s) q)) at e)
+
+  -- a block line, and those after it
+  pub block-first : (vs : List ℤ) → blockAt s at ≡ block vs → blocksOf (linesFrom s at) ≡ vs ∷ blocksOf (linesFrom s (nextLine s at))
+  block-first vs e = blocks-more (linesFrom s at) vs (line-split (block-ended vs e)) e
+
+  -- no block line there, and so no more
+  pub block-none : blockAt s at ≡ noBlock → blocksOf (linesFrom s at) ≡ []
+  block-none e = blocks-none (linesFrom s at) e
+
+-- the k-th block line from a place on is where reading k block lines leads
+abbrev There : List ℕ → ℕ → ℕ → Type 0
+There s at k = k < length (blocksOf (linesFrom s at)) → blockAt s (blockPlace s at k) ≡ block (getD (blocksOf (linesFrom s at)) k [])
+
+module _ (s : List ℕ) (at : ℕ) where
+  there-first : (b : BlockFound) → blockAt s at ≡ b → There s at 0
+  there-first (block vs) e h = rw (block-first s at vs e) e
+  there-first noBlock e h = absurd (omega (arith, ap length (block-none s at e)))
+
+  there-next : (k : ℕ) (b : BlockFound) → blockAt s at ≡ b → There s (nextLine s at) k → There s at (suc k)
+  there-next k (block vs) e t h = rw (block-first s at vs e) (t (omega (arith, ap length (block-first s at vs e))))
+  there-next k noBlock e t h = absurd (omega (arith, ap length (block-none s at e)))
+
+pub block-follows : (s : List ℕ) (at k : ℕ) → There s at k
+block-follows s at zero = there-first s at (blockAt s at) refl
+block-follows s at (suc k) = there-next s at k (blockAt s at) refl (block-follows s (nextLine s at) k)
+
+-- after the last there is none
+abbrev Last : List ℕ → ℕ → ℕ → Type 0
+Last s at k = length (blocksOf (linesFrom s at)) ≡ k → blockAt s (blockPlace s at k) ≡ noBlock
+
+module _ (s : List ℕ) (at : ℕ) where
+  last-here : (b : BlockFound) → blockAt s at ≡ b → Last s at 0
+  last-here (block vs) e h = absurd (omega (arith, ap length (block-first s at vs e)))
+  last-here noBlock e h = e
+
+  last-later : (k : ℕ) (b : BlockFound) → blockAt s at ≡ b → Last s (nextLine s at) k → Last s at (suc k)
+  last-later k (block vs) e t h = t (omega (arith, ap length (block-first s at vs e)))
+  last-later k noBlock e t h = absurd (omega (arith, ap length (block-none s at e)))
+
+pub block-last : (s : List ℕ) (at k : ℕ) → Last s at k
+block-last s at zero = last-here s at (blockAt s at) refl
+block-last s at (suc k) = last-later s at k (blockAt s at) refl (block-last s (nextLine s at) k)
+
+-- ---- the first block line of a sheet
+
+-- the lines from line k on are those from the place where it begins
+abbrev From : List ℕ → ℕ → ℕ → Type 0
+From s at k = (drop k (linesFrom s at) ≡ [] → ⊥) → linesFrom s (at + begins (linesFrom s at) k) ≡ drop k (linesFrom s at)
+
+module _ (s : List ℕ) (at : ℕ) (h : at ≤ length s) where
+  abbrev end : ℕ
+  end = at + till lineFeed (drop at s)
+
+  ends : Until lineFeed s at end
+  ends = until-there lineFeed s at h
+
+  more : linesFrom s at ≡ take (end - at) (drop at s) ∷ linesFrom s (end + 1)
+  more = from-more lineFeed s at end h ends
+
+  from-next : (k : ℕ) → (end + 1 ≤ length s → From s (end + 1) k) → From s at (suc k)
+  from-next k f n =
+      let p : at + (length (take (end - at) (drop at s)) + 1 + begins (linesFrom s (end + 1)) k) ≡ end + 1 + begins (linesFrom s (end + 1)) k =
+        omega (arith, part-length lineFeed s at end h ends) in
+      rw more (ap (linesFrom s) p ∙ f inside (λ z. n (rw more z)))
+   where
+    inside : end + 1 ≤ length s
+    inside = ⊎-elim (λ q. absurd (n (rw (more, from-none lineFeed s (end + 1) (omega (arith, q)), drop-nil k)))) (λ l. omega (arith, l)) (eq-or-lt-of-le (ends .high))
+
+from-line : (s : List ℕ) (at k : ℕ) → at ≤ length s → From s at k
+from-line s at zero h = λ n. ap (linesFrom s) (omega arith)
+from-line s at (suc k) h = from-next s at h k (λ l. from-line s (at + till lineFeed (drop at s) + 1) k l)
+
+-- the same from the first line on
+from-first : (s : List ℕ) (k : ℕ) → (drop k (lines s) ≡ [] → ⊥) → linesFrom s (begins (lines s) k) ≡ drop k (lines s)
+from-first s k n =
+    rw (← (zero-add (begins (lines s) k)), ← (from-start lineFeed s)) (from-line s 0 k (omega arith) (λ e. n (rw (from-start lineFeed s) at e)))
+
+drop-one : (k : ℕ) (ls : List (List ℕ)) → drop k (drop 1 ls) ≡ drop (suc k) ls
+drop-one k [] = drop-nil k
+drop-one k (l ∷ ls) = refl
+
+fine-case : (line : ℕ) (d : Ending) → lineVerdict line d ≡ J.Accepted → d ≡ Fine
+fine-case line Fine e = refl
+fine-case line (NoEnd f) e = let z : _≡_ {A = ℕ} 0 1 = cc in absurd (omega arith)
+fine-case line (After f) e = let z : _≡_ {A = ℕ} 0 1 = cc in absurd (omega arith)
+
+-- there is a line after the rows
+line-left : (s : List ℕ) → Accepts s → drop (suc (length ((contents s) .rows))) (lines s) ≡ [] → ⊥
+line-left s a e =
+    let c = contents s in
+    let f = fine-case (length (c .rows) + length (c .blocks) + 2) (endingAfter c (drop 1 (lines s))) (a .ended) in
+    let g = rw (drop-one (length (c .rows)) (lines s), e, drop-nil (length (c .blocks))) at f in
+    never g
+ where
+  never : NoEnd Missing ≡ Fine → ⊥
+  never q = let z : _≡_ {A = ℕ} 0 1 = cc in omega arith
+
+start-case : (s : List ℕ) → Accepts s → blocksOf (linesFrom s (startOf s (contents s))) ≡ (contents s) .blocks
+unfolding contents
+start-case s a =
+    ap blocksOf (from-first s (suc (length ((contents s) .rows))) (line-left s a) ∙ sym (drop-one (length ((contents s) .rows)) (lines s)))
+
+-- the blocks of a sheet are the block lines from its start on
+pub blocks-from-start : (s : List ℕ) (c : Contents) → reading s ≡ says c → blocksOf (linesFrom s (startOf s c)) ≡ c .blocks
+blocks-from-start s c e = let a = accepted s c e in rw (← (a .1)) (start-case s (all-pass s (a .0)))
+
+-- block line k of a sheet is where reading k block lines from its start leads
+pub sheet-block : (s : List ℕ) (c : Contents) → reading s ≡ says c → (k : ℕ) → k < length (c .blocks)
+    → blockAt s (blockPlace s (startOf s c) k) ≡ block (getD (c .blocks) k [])
+sheet-block s c e k h =
+    let b = blocks-from-start s c e in
+    rw (← b) (block-follows s (startOf s c) k (rw b h))
+
+-- and after the last of them there is no block line
+pub sheet-blocks-end : (s : List ℕ) (c : Contents) → reading s ≡ says c → blockAt s (blockPlace s (startOf s c) (length (c .blocks))) ≡ noBlock
+sheet-blocks-end s c e = block-last s (startOf s c) (length (c .blocks)) (ap length (blocks-from-start s c e))

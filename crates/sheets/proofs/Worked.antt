@@ -1,0 +1,99 @@
+-- Sheets on paper, read by the definitions: the paper's sheet, and sheets that meet several refusals, of which the first in order is given.
+use Prim.Native.Nat.{ℕ, zero, suc}
+use lib.IntN.{ℤ, pos, negsuc}
+use mathlib.Core.List.{List, [], _∷_, _++_}
+use mathlib.Core.Path.{_≡_, refl}
+use Rattle.plates.specs.declared.Kind.the-variants.{G}
+use Rattle.plates.specs.declared.Refusal.the-variants.{Length, TooManyRows, SheetLine}
+use Rattle.sheets.specs.Words.{cover, row, block, end, first, last}
+use Rattle.sheets.specs.Covers.{coverFields}
+use Rattle.sheets.specs.Sheet.{contents, verdict, says, refused, reading, startOf}
+use Rattle.sheets.specs.declared.Order.the-variants.{First, Last}
+
+-- ---- the lines
+
+abbrev coverLine : List ℕ → List ℕ → List ℕ → List ℕ
+coverLine n kind order = cover ++ 9 ∷ n ++ 9 ∷ kind ++ 9 ∷ order ++ 10 ∷ []
+
+abbrev rowLine : List ℕ → List ℕ
+rowLine f = row ++ 9 ∷ f ++ 10 ∷ []
+
+abbrev endLine : List ℕ
+endLine = end ++ 10 ∷ []
+
+-- 11110000, 01011010, 00111100, 00001111
+abbrev rowLines : List ℕ
+rowLines =
+    rowLine (49 ∷ 49 ∷ 49 ∷ 49 ∷ 48 ∷ 48 ∷ 48 ∷ 48 ∷ [])
+    ++ rowLine (48 ∷ 49 ∷ 48 ∷ 49 ∷ 49 ∷ 48 ∷ 49 ∷ 48 ∷ [])
+    ++ rowLine (48 ∷ 48 ∷ 49 ∷ 49 ∷ 49 ∷ 49 ∷ 48 ∷ 48 ∷ [])
+    ++ rowLine (48 ∷ 48 ∷ 48 ∷ 48 ∷ 49 ∷ 49 ∷ 49 ∷ 49 ∷ [])
+
+-- -3 -2 4 -1 5 6 -1 7
+abbrev blockLine : List ℕ
+blockLine = block ++ 9 ∷ 45 ∷ 51 ∷ 9 ∷ 45 ∷ 50 ∷ 9 ∷ 52 ∷ 9 ∷ 45 ∷ 49 ∷ 9 ∷ 53 ∷ 9 ∷ 54 ∷ 9 ∷ 45 ∷ 49 ∷ 9 ∷ 55 ∷ 10 ∷ []
+
+abbrev samples : List ℤ
+samples = negsuc 2 ∷ negsuc 1 ∷ pos 4 ∷ negsuc 0 ∷ pos 5 ∷ pos 6 ∷ negsuc 0 ∷ pos 7 ∷ []
+
+abbrev sheet : List ℕ → List ℕ
+sheet order = coverLine (56 ∷ []) (71 ∷ []) order ++ rowLines ++ blockLine ++ endLine
+
+-- n = 1, and k rows
+abbrev rowsOnly : ℕ → List ℕ
+rowsOnly zero = []
+rowsOnly (suc k) = rowLine (49 ∷ []) ++ rowsOnly k
+
+-- ---- the paper's sheet
+
+with-first : reading (sheet first) ≡ says (record { n = 8; kind = G; order = First; rows = 15 ∷ 90 ∷ 60 ∷ 240 ∷ []; blocks = samples ∷ [] })
+unfolding verdict contents coverFields
+with-first = refl
+
+-- with last its rows are turned, and its samples are not
+with-last : reading (sheet last) ≡ says (record { n = 8; kind = G; order = Last; rows = 240 ∷ 90 ∷ 60 ∷ 15 ∷ []; blocks = samples ∷ [] })
+unfolding verdict contents coverFields
+with-last = refl
+
+block-place : startOf (sheet first) (contents (sheet first)) ≡ 68
+unfolding contents coverFields
+block-place = refl
+
+-- ---- refusals in their order
+
+empty-input : reading [] ≡ refused (SheetLine 1)
+unfolding verdict contents
+empty-input = refl
+
+-- the form of the cover, K for G or H, comes before n is 0
+form-before-length : reading (coverLine (48 ∷ []) (75 ∷ []) first ++ endLine) ≡ refused (SheetLine 1)
+unfolding verdict contents coverFields
+form-before-length = refl
+
+-- n is 0 comes before the missing end
+length-before-line : reading (coverLine (48 ∷ []) (71 ∷ []) first) ≡ refused Length
+unfolding verdict contents coverFields
+length-before-line = refl
+
+missing-end : reading (coverLine (49 ∷ []) (71 ∷ []) first) ≡ refused (SheetLine 2)
+unfolding verdict contents coverFields
+missing-end = refl
+
+-- a row after a block is out of its turn
+row-after-block : reading (coverLine (56 ∷ []) (71 ∷ []) first ++ blockLine ++ rowLines ++ endLine) ≡ refused (SheetLine 3)
+unfolding verdict contents coverFields
+row-after-block = refl
+
+-- something after end
+after-the-end : reading (sheet first ++ 10 ∷ []) ≡ refused (SheetLine 8)
+unfolding verdict contents coverFields
+after-the-end = refl
+
+-- a bad line comes before too many rows
+line-before-rows : reading (coverLine (49 ∷ []) (71 ∷ []) first ++ rowsOnly 65) ≡ refused (SheetLine 67)
+unfolding verdict contents coverFields
+line-before-rows = refl
+
+too-many-rows : reading (coverLine (49 ∷ []) (71 ∷ []) first ++ rowsOnly 65 ++ endLine) ≡ refused TooManyRows
+unfolding verdict contents coverFields
+too-many-rows = refl
