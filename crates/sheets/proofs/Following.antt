@@ -50,14 +50,14 @@ module _ (s : List ℕ) (at : ℕ) where
   -- a block line is ended
   pub block-ended : (vs : List ℤ) → blockAt s at ≡ block vs → Ended s at (nextLine s at)
   block-ended vs e = by (leb at (length s)) refl
-   where
-    by : (t : Bool) → leb at (length s) ≡ t → Ended s at (nextLine s at)
-    by true q =
-        let h = leb-true at (length s) q in
-        let r = at + till lineFeed (drop at s) in
-        let u = until-there lineFeed s at h in
-        rw (next-is s at r h u) (line-closed s at r u (λ z. no-block (rw (from-last lineFeed s at r h u z) at e)))
-    by false q = no-block (rw (from-none lineFeed s at (leb-false at (length s) q)) at e)
+    where
+      by : (t : Bool) → leb at (length s) ≡ t → Ended s at (nextLine s at)
+      by true q =
+          let h = leb-true at (length s) q in
+          let r = at + till lineFeed (drop at s) in
+          let u = until-there lineFeed s at h in
+          rw (next-is s at r h u) (line-closed s at r u (λ z. no-block (rw (from-last lineFeed s at r h u z) at e)))
+      by false q = no-block (rw (from-none lineFeed s at (leb-false at (length s) q)) at e)
 
   -- a block line, and those after it
   pub block-first : (vs : List ℤ) → blockAt s at ≡ block vs → blocksOf (linesFrom s at) ≡ vs ∷ blocksOf (linesFrom s (nextLine s at))
@@ -120,11 +120,11 @@ module _ (s : List ℕ) (at : ℕ) (h : at ≤ length s) where
   from-next : (k : ℕ) → (end + 1 ≤ length s → From s (end + 1) k) → From s at (suc k)
   from-next k f n =
       let p : at + (length (take (end - at) (drop at s)) + 1 + begins (linesFrom s (end + 1)) k) ≡ end + 1 + begins (linesFrom s (end + 1)) k =
-        omega (arith, part-length lineFeed s at end h ends) in
+      omega (arith, part-length lineFeed s at end h ends) in
       rw more (ap (linesFrom s) p ∙ f inside (λ z. n (rw more z)))
-   where
-    inside : end + 1 ≤ length s
-    inside = ⊎-elim (λ q. absurd (n (rw (more, from-none lineFeed s (end + 1) (omega (arith, q)), drop-nil k)))) (λ l. omega (arith, l)) (eq-or-lt-of-le (ends .high))
+    where
+      inside : end + 1 ≤ length s
+      inside = ⊎-elim (λ q. absurd (n (rw (more, from-none lineFeed s (end + 1) (omega (arith, q)), drop-nil k)))) (λ l. omega (arith, l)) (eq-or-lt-of-le (ends .high))
 
 from-line : (s : List ℕ) (at k : ℕ) → at ≤ length s → From s at k
 from-line s at zero h = λ n. ap (linesFrom s) (omega arith)
@@ -151,9 +151,9 @@ line-left s a e =
     let f = fine-case (length (c .rows) + length (c .blocks) + 2) (endingAfter c (drop 1 (lines s))) (a .ended) in
     let g = rw (drop-one (length (c .rows)) (lines s), e, drop-nil (length (c .blocks))) at f in
     never g
- where
-  never : NoEnd Missing ≡ Fine → ⊥
-  never q = let z : _≡_ {A = ℕ} 0 1 = cc in omega arith
+  where
+    never : NoEnd Missing ≡ Fine → ⊥
+    never q = let z : _≡_ {A = ℕ} 0 1 = cc in omega arith
 
 start-case : (s : List ℕ) → Accepts s → blocksOf (linesFrom s (startOf s (contents s))) ≡ (contents s) .blocks
 unfolding contents
