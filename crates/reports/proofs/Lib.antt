@@ -1,0 +1,4 @@
+pub mod WrittenSteps
+pub mod LongBlocks
+pub mod BlockSteps
+pub mod Openings

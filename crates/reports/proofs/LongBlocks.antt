@@ -1,0 +1,74 @@
+-- The samples of a block as they are decoded: those that were read, or none where there were more than 64.
+use Prim.Native.Nat.{ℕ, _≤_, _<_, zero, suc}
+use lib.Dec.{ltb}
+use borrow.Author.Tests.{ltb-true, ltb-false}
+use lib.IntN.{ℤ}
+use lib.ListN.{length, take}
+use mathlib.Core.Bool.{Bool, true, false, cond}
+use mathlib.Core.List.{List, [], _∷_}
+use mathlib.Core.Logic.{inl, inr}
+use mathlib.Core.Path.{_≡_, refl, ap, sym}
+use native.Mathlib.Omega.{arith}
+use Rattle.plates.specs.declared.Plate.{Plate}
+use Rattle.plates.specs.declared.Refusal.{Refusal}
+use Rattle.plates.specs.declared.Refusal.the-variants.{Length, NotPrepared, SampleCount}
+use Rattle.plates.specs.Prepare.{IsPrepared, notPrepared}
+use Rattle.plates.specs.Refusals.{Passes, Refuses}
+use Rattle.decoding.specs.declared.Decoded.{Decoded}
+use Rattle.decoding.specs.declared.Decoded.the-variants.{Found, Refused}
+use Rattle.decoding.specs.Decode.{Decodes, decodeConditions, sampleCount}
+use Rattle.sheets.specs.Room.{laid}
+use Rattle.reports.specs.Steps.{decodable}
+
+module _ {A : Type 0} where
+  -- values laid into a room that is long enough stand at its start
+  pub laid-start : (vs room : List A) → length vs ≤ length room → take (length vs) (laid vs room) ≡ vs
+  laid-start [] room h = refl
+  laid-start (v ∷ vs) [] h = absurd (omega arith)
+  laid-start (v ∷ vs) (x ∷ room) h = ap (λ (r : List A). v ∷ r) (laid-start vs room (omega arith))
+
+  pub laid-length : (vs room : List A) → length (laid vs room) ≡ length room
+  laid-length [] room = refl
+  laid-length (v ∷ vs) [] = refl
+  laid-length (v ∷ vs) (x ∷ room) = ap suc (laid-length vs room)
+
+-- a prepared plate has n from 1 to 64
+pub prepared-length : (plate : Plate) → IsPrepared plate → (1 ≤ plate .n) × (plate .n ≤ 64)
+prepared-length plate p =
+    let none = p .same .reply .0 .0 in
+    let some : plate .n ≡ 0 → ⊥ = λ e. none Length (inl e, refl) in
+    let few : 64 < plate .n → ⊥ = λ h. none Length (inr h, refl) in
+    (omega (arith, some), omega (arith, few))
+
+module _ (plate : Plate) (samples metrics : List ℤ) (decisions : List ℕ) (long : 64 < length samples) where
+  -- a prepared plate has another number of samples, whether none or more than 64
+  none-fits : ((p : Refusal) → notPrepared plate p → ⊥) → (plate .n ≡ 0 → ⊥) × (length samples ≡ plate .n → ⊥)
+  none-fits passes = (
+    (λ e. passes NotPrepared ((λ p. omega (arith, prepared-length plate p .0)), refl)),
+    (λ e. passes NotPrepared ((λ p. omega (arith, prepared-length plate p .1)), refl)),
+  )
+
+  no-count : ((p : Refusal) → notPrepared plate p → ⊥) → ((p : Refusal) → sampleCount plate [] p → ⊥) → ⊥
+  no-count passes count = count SampleCount ((λ e. none-fits passes .0 (sym e)), refl)
+
+  -- decoding refuses no samples as it refuses too many
+  pub none-decoded : (metrics′ : List ℤ) (decisions′ : List ℕ) (r : Decoded) → Decodes plate [] metrics decisions metrics′ decisions′ r
+      → Decodes plate samples metrics decisions metrics′ decisions′ r
+  none-decoded m d (Found a) x = absurd (no-count (x .0 .0) (x .0 .1 .0))
+  none-decoded m d (Refused q) x = (refuses (x .0), x .1, x .2)
+    where
+      refuses : Refuses (decodeConditions plate [] metrics decisions) q → Refuses (decodeConditions plate samples metrics decisions) q
+      refuses (inl n) = inl n
+      refuses (inr (n, inl s)) = inr (n, inl ((λ e. none-fits n .1 e), s .1))
+      refuses (inr (n, inr s)) = absurd (no-count n (s .0))
+
+module _ (plate : Plate) (vs zeros metrics : List ℤ) (decisions : List ℕ) (size : length zeros ≡ 64) (metrics′ : List ℤ) (decisions′ : List ℕ) (r : Decoded) where
+  -- what was decoded of the places is what the block's samples decode to
+  pub places-decoded : Decodes plate (take (decodable (length vs)) (laid vs zeros)) metrics decisions metrics′ decisions′ r
+      → Decodes plate vs metrics decisions metrics′ decisions′ r
+  places-decoded = by (ltb 64 (length vs)) refl
+    where
+      by : (t : Bool) → ltb 64 (length vs) ≡ t → Decodes plate (take (cond t 0 (length vs)) (laid vs zeros)) metrics decisions metrics′ decisions′ r
+          → Decodes plate vs metrics decisions metrics′ decisions′ r
+      by true e x = none-decoded plate vs metrics decisions (ltb-true 64 (length vs) e) metrics′ decisions′ r x
+      by false e x = rw (laid-start vs zeros (omega (arith, ltb-false 64 (length vs) e, size))) at x

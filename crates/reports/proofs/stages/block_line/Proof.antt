@@ -1,0 +1,65 @@
+-- `stages::block_line` meets its contract.
+use borrow.Author.Needs.{needs}
+use mathlib.Core.Path.{_∙_, refl, sym}
+use lib.ListN.{replicate}
+use lib.IntN.{pos}
+use Rattle.sheets.specs.Blocks.{blockAt, nextLine}
+use Rattle.reports.proofs.WrittenSteps.{only-writes}
+use Rattle.reports.proofs.BlockSteps.{block-step, end-step, places-size}
+use Rattle.reports.proofs.stages.block_line.Statement.{statement}
+use Rattle.reports.proofs.stages.block_line.Tie as tie
+
+read-block-requires : tie.Need-read-block-requires
+read-block-requires c κs = search needs
+
+enum-known-reply : tie.Need-enum-known-reply
+enum-known-reply c = search needs
+
+samples-line-requires : tie.Need-samples-line-requires
+samples-line-requires c κs =
+    let a = c .before .before .before .before .before .before .before .before .before .before .before .before .args in
+    rw (c .before .before .before .before .before .before .before .read-block .ensures .samples) (places-size (replicate 64 (pos 0)) refl (blockAt (a .input .now) (a .report .at)))
+
+enum-told : tie.Need-enum-told
+enum-told c = search needs
+
+end-line-requires : tie.Need-end-line-requires
+end-line-requires c κs = search needs
+
+same-length : tie.Need-same-length
+same-length c = search needs
+
+same-length-2 : tie.Need-same-length-2
+same-length-2 c = search needs
+
+same-length-3 : tie.Need-same-length-3
+same-length-3 c = search needs
+
+returns : tie.Need-returns
+returns c =
+    let a = c .before .before .before .before .before .before .before .before .before .before .before .before .before .before .before .before .before .before .args in
+    block-step (replicate 64 (pos 0)) refl (blockAt (a .input .now) (a .report .at)) (nextLine (a .input .now) (a .report .at)) _ _ _ (sym (c .before .before .before .before .before .before .before .before .before .before .before .reply .given .1) ∙ c .before .before .before .before .before .before .before .before .before .before .before .before .before .read-block .ensures .reply) (c .before .before .before .before .before .before .before .before .before .before .before .before .before .read-block .ensures .samples) (c .before .before .before .before .before .samples-line .ensures)
+
+same-length-4 : tie.Need-same-length-4
+same-length-4 c = search needs
+
+returns-2 : tie.Need-returns-2
+returns-2 c =
+    let a = c .before .before .before .before .before .before .before .before .before .before .before .args in
+    end-step (replicate 64 (pos 0)) refl (blockAt (a .input .now) (a .report .at)) (nextLine (a .input .now) (a .report .at)) (sym (c .before .before .before .before .enum-told .given .1) ∙ c .before .before .before .before .before .before .read-block .ensures .reply) (only-writes (c .before .before .end-line .ensures))
+
+pub block-line-spec : {M : Type 1} → statement M
+block-line-spec =
+    tie.close
+    (tie.spec
+    read-block-requires
+    enum-known-reply
+    samples-line-requires
+    enum-told
+    end-line-requires
+    same-length
+    same-length-2
+    same-length-3
+    returns
+    same-length-4
+    returns-2)

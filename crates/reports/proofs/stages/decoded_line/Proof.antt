@@ -1,0 +1,41 @@
+-- `stages::decoded_line` meets its contract.
+use borrow.Author.Needs.{needs}
+use Rattle.reports.proofs.stages.decoded_line.Statement.{statement}
+use Rattle.reports.proofs.stages.decoded_line.Tie as tie
+
+enum-known-decoded : tie.Need-enum-known-decoded
+enum-known-decoded c = search needs
+
+word-line-requires : tie.Need-word-line-requires
+word-line-requires c κs = search needs
+
+enum-known-decoded-2 : tie.Need-enum-known-decoded-2
+enum-known-decoded-2 c = search needs
+
+refused-block-requires : tie.Need-refused-block-requires
+refused-block-requires c κs = search needs
+
+same-length : tie.Need-same-length
+same-length c = search needs
+
+returns : tie.Need-returns
+returns c = rw (c .before .before .before .before .before .decoded .given .1) (c .before .before .word-line .ensures)
+
+same-length-2 : tie.Need-same-length-2
+same-length-2 c = search needs
+
+returns-2 : tie.Need-returns-2
+returns-2 c = rw (c .before .before .before .before .before .decoded2 .given .1) (c .before .before .refused-block .ensures)
+
+pub decoded-line-spec : {M : Type 1} → statement M
+decoded-line-spec =
+    tie.close
+    (tie.spec
+    enum-known-decoded
+    word-line-requires
+    enum-known-decoded-2
+    refused-block-requires
+    same-length
+    returns
+    same-length-2
+    returns-2)

@@ -1,0 +1,60 @@
+-- `stages::samples_line` meets its contract.
+use borrow.Author.Needs.{needs}
+use mathlib.Core.Path.{sym}
+use lib.Seq.{length-take-le}
+use native.Mathlib.Omega.{arith}
+use Rattle.reports.proofs.BlockSteps.{long-room, short-room}
+use Rattle.reports.proofs.stages.samples_line.Statement.{statement}
+use Rattle.reports.proofs.stages.samples_line.Tie as tie
+
+refused-step-requires : tie.Need-refused-step-requires
+refused-step-requires c κs = search needs
+
+returns : tie.Need-returns
+returns c = short-room (c .before .if1 .taken) (c .refused-step .ensures)
+
+at-stage-requires : tie.Need-at-stage-requires
+at-stage-requires c κs = search needs
+
+used-requires : tie.Need-used-requires
+used-requires c κs = search needs
+
+slice-aggregate-decode : tie.Need-slice-aggregate-decode
+slice-aggregate-decode c =
+    sym (length-take-le _ _ (omega (arith, c .before .before .used .ensures .1, c .before .before .before .before .before .before .before .before .pre)))
+
+decode-requires : tie.Need-decode-requires
+decode-requires c κs = search needs
+
+decoded-line-requires : tie.Need-decoded-line-requires
+decoded-line-requires c κs = search needs
+
+same-length : tie.Need-same-length
+same-length c = search needs
+
+same-length-2 : tie.Need-same-length-2
+same-length-2 c = search needs
+
+same-length-3 : tie.Need-same-length-3
+same-length-3 c = search needs
+
+returns-2 : tie.Need-returns-2
+returns-2 c =
+    rw (c .before .before .before .before .before .before .before .before .before .before .before .before .used .ensures .0) at
+    (long-room (c .before .before .before .before .before .before .before .decode .result) (c .before .before .before .before .before .before .before .before .before .before .before .before .before .before .before .if1 .left) (c .before .before .before .before .before .before .before .before .before .before .before .before .before .before .at-stage .ensures) (c .before .before .before .before .before .before .before .decode .ensures) (c .before .before .decoded-line .ensures))
+
+pub samples-line-spec : {M : Type 1} → statement M
+samples-line-spec =
+    tie.close
+    (tie.spec
+    refused-step-requires
+    returns
+    at-stage-requires
+    used-requires
+    slice-aggregate-decode
+    decode-requires
+    decoded-line-requires
+    same-length
+    same-length-2
+    same-length-3
+    returns-2)

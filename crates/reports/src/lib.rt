@@ -1,0 +1,119 @@
+// From a sheet to its listing, line by line: a report is opened on the input, and gives its lines in turn.
+ghost use mathlib.Core.Path.{_≡_};
+ghost use Prim.Native.Nat.{_≤_};
+ghost use lib.ListN.{length, take};
+ghost use Rattle.reports.specs.Steps.{Opens, OpensSheet, Steps, lends, refusedReport};
+use plates::Plate;
+use plates::Refusal;
+use plates::Verdict;
+use sheets::Sheet;
+use sheets::SheetReply;
+
+mod stages;
+
+// What comes next in a report: the line of a refusal, the plate's, the profile's, those of the blocks from a place on and then the end
+// line, or nothing.
+pub enum Stage {
+    Refused(Refusal),
+    PlateLine,
+    ProfileLine,
+    BlockLines,
+    Done,
+}
+
+// A report: what comes next, the prepared plate, the place of the next block line (or of end), and the number of the sheet's block lines.
+pub struct Report {
+    pub stage: Stage,
+    pub plate: Plate,
+    pub at: usize,
+    pub blocks: usize,
+}
+
+// What a step gave: a line of so many bytes at the start of the room, or nothing since nothing is left, or why what was lent is refused.
+pub enum Outcome {
+    Line(usize),
+    Nothing,
+    Refused(Refusal),
+}
+
+// The outcome, and the report after it: where there is no line, the report as it was.
+pub struct Step {
+    pub outcome: Outcome,
+    pub next: Report,
+}
+
+// The report that says a refusal, and nothing more.
+fn refused(refusal: Refusal) -> Report
+    ensures { λ r. ⌜ r ≡ refusedReport refusal ⌝ }
+{
+    Report {
+        stage: Stage::Refused(refusal),
+        plate: Plate {
+            n: 0,
+            k: 0,
+            rows: [0; 64],
+            profile: [0; 65],
+        },
+        at: 0,
+        blocks: 0,
+    }
+}
+
+// The report of a sheet, whose rows stand at the start of the table.
+fn of_sheet(sheet: Sheet, table: &[u64; 64]) -> Report
+    requires { ⌜ sheet .rows ≤ length (now table) ⌝ }
+    ensures { λ r. ⌜ OpensSheet (sheet .n) (sheet .kind) (take (sheet .rows) (now (table .entry))) (sheet .start) (sheet .blocks) r ⌝ }
+{
+    let rows = &table[..];
+    let count = sheet.rows;
+    let kind = sheet.kind;
+    let prepared = plates::prepare(sheet.n, kind, &rows[..count]);
+    let verdict = prepared.verdict;
+    match verdict {
+        Verdict::Refused(refusal) => refused(refusal),
+        Verdict::Accepted => {
+            let plate = prepared.plate;
+            Report {
+                stage: Stage::PlateLine,
+                plate,
+                at: sheet.start,
+                blocks: sheet.blocks,
+            }
+        }
+    }
+}
+
+// The report of an input, before its first line.
+pub fn open(input: &[u8]) -> Report
+    ensures { λ r. ⌜ Opens (now (input .entry)) r ⌝ }
+{
+    let mut table = [0; 64];
+    let reply = sheets::read_sheet(input, &mut table);
+    match reply {
+        SheetReply::Read(sheet) => of_sheet(sheet, &table),
+        SheetReply::Refused(refusal) => refused(refusal),
+    }
+}
+
+// The next line of a report into the room, and the report after it. The working rooms are used where a block is decoded.
+pub fn next_line(
+    report: Report,
+    input: &[u8],
+    metrics: &mut [i32],
+    decisions: &mut [u64],
+    room: &mut [u8],
+) -> Step
+    ensures { λ r. ⌜ Steps report (now (input .entry)) (lends (now (metrics .entry)) (now (decisions .entry)) (now (room .entry))) r (lends (now (metrics .exit)) (now (decisions .exit)) (now (room .exit))) ⌝ }
+{
+    let stage = report.stage;
+    match stage {
+        Stage::Refused(refusal) => stages::refusal_line(report, refusal, room),
+        Stage::PlateLine => stages::plate_line(report, room),
+        Stage::ProfileLine => stages::profile_line(report, room),
+        Stage::BlockLines => stages::block_line(report, input, metrics, decisions, room),
+        Stage::Done => Step {
+            outcome: Outcome::Nothing,
+            next: report,
+        },
+    }
+}

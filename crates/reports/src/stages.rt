@@ -1,0 +1,225 @@
+// The line of each stage of a report.
+ghost use mathlib.Core.Path.{_≡_};
+ghost use Prim.Native.Nat.{_≤_};
+ghost use lib.ListN.{length, take};
+ghost use Rattle.plates.specs.Refusals.{number, place};
+ghost use Rattle.listings.specs.Writing.{WritesEnd, WritesOf, WritesPlate, WritesProfile, WritesRefused};
+ghost use Rattle.reports.specs.Report.{lineOfAnswer};
+ghost use Rattle.reports.specs.Steps.{BlocksStep, DecodedStep, RefusedStep, RoomStep, WritesStep, decodable, lends, ofBlock, refusedStep, stepBy, to, toBlocks, toNothing, toProfile};
+ghost use Rattle.sheets.specs.Blocks.{blockAt, nextLine};
+use crate::Outcome;
+use crate::Report;
+use crate::Stage;
+use crate::Step;
+use decoding::Answer;
+use decoding::Decoded;
+use listings::Written;
+use plates::Refusal;
+use sheets::BlockReply;
+
+// ---- reports and steps
+
+// The same report, at another stage and place.
+fn at_stage(report: Report, stage: Stage, at: usize) -> Report
+    ensures { λ r. ⌜ r ≡ to stage at report ⌝ }
+{
+    let plate = report.plate;
+    Report {
+        stage,
+        plate,
+        at,
+        blocks: report.blocks,
+    }
+}
+
+// The step by what writing its line replied.
+fn step_by(written: Written, before: Report, after: Report) -> Step
+    ensures { λ r. ⌜ r ≡ stepBy written before after ⌝ }
+{
+    match written {
+        Written::Length(size) => Step {
+            outcome: Outcome::Line(size),
+            next: after,
+        },
+        Written::Refused(refusal) => Step {
+            outcome: Outcome::Refused(refusal),
+            next: before,
+        },
+    }
+}
+
+// A refusal of what was lent.
+fn refused_step(refusal: Refusal, report: Report) -> Step
+    ensures { λ r. ⌜ r ≡ refusedStep refusal report ⌝ }
+{
+    Step {
+        outcome: Outcome::Refused(refusal),
+        next: report,
+    }
+}
+
+// ---- lines
+
+// The line of a refusal, with the report after it.
+fn refused_line(before: Report, after: Report, refusal: Refusal, room: &mut [u8]) -> Step
+    ensures { λ r. ⌜ WritesStep (WritesRefused (number refusal) (place refusal) (now (room .entry))) before after r (now (room .exit)) ⌝ }
+{
+    let number = plates::refusal_number(refusal);
+    let place = plates::refusal_place(refusal) as u64;
+    step_by(listings::write_refused(number, place, room), before, after)
+}
+
+// The refusal of the input.
+pub fn refusal_line(report: Report, refusal: Refusal, room: &mut [u8]) -> Step
+    ensures { λ r. ⌜ WritesStep (WritesRefused (number refusal) (place refusal) (now (room .entry))) report (toNothing report) r (now (room .exit)) ⌝ }
+{
+    let after = at_stage(report, Stage::Done, report.at);
+    refused_line(report, after, refusal, room)
+}
+
+// The plate line.
+pub fn plate_line(report: Report, room: &mut [u8]) -> Step
+    ensures { λ r. ⌜ WritesStep (WritesPlate (report .plate) (now (room .entry))) report (toProfile report) r (now (room .exit)) ⌝ }
+{
+    let after = at_stage(report, Stage::ProfileLine, report.at);
+    let plate = report.plate;
+    step_by(listings::write_plate(plate, room), report, after)
+}
+
+// The profile line.
+pub fn profile_line(report: Report, room: &mut [u8]) -> Step
+    ensures { λ r. ⌜ WritesStep (WritesProfile (report .plate) (now (room .entry))) report (toBlocks (report .at) report) r (now (room .exit)) ⌝ }
+{
+    let after = at_stage(report, Stage::BlockLines, report.at);
+    let plate = report.plate;
+    step_by(listings::write_profile(plate, room), report, after)
+}
+
+// The end line.
+fn end_line(report: Report, room: &mut [u8]) -> Step
+    ensures { λ r. ⌜ WritesStep (WritesEnd (report .blocks) (now (room .entry))) report (toNothing report) r (now (room .exit)) ⌝ }
+{
+    let after = at_stage(report, Stage::Done, report.at);
+    step_by(
+        listings::write_end(report.blocks as u64, room),
+        report,
+        after,
+    )
+}
+
+// ---- blocks
+
+// The line of an answer.
+fn word_line(before: Report, after: Report, answer: Answer, room: &mut [u8]) -> Step
+    ensures { λ r. ⌜ WritesStep (WritesOf (before .plate) (lineOfAnswer (before .plate) answer) (now (room .entry))) before after r (now (room .exit)) ⌝ }
+{
+    let plate = before.plate;
+    let counts = answer.counts;
+    step_by(
+        listings::write_word(
+            plate,
+            answer.word,
+            answer.metric,
+            counts.additions,
+            counts.comparisons,
+            room,
+        ),
+        before,
+        after,
+    )
+}
+
+// Whether a refusal is the block's, and printed.
+fn is_of_block(refusal: Refusal) -> bool
+    ensures { λ r. ⌜ r ≡ ofBlock refusal ⌝ }
+{
+    match refusal {
+        Refusal::SampleCount => true,
+        Refusal::SampleRange(_) => true,
+        Refusal::Length => false,
+        Refusal::TooManyRows => false,
+        Refusal::RowBeyond(_) => false,
+        Refusal::TooWide => false,
+        Refusal::NotPrepared => false,
+        Refusal::MetricRoom => false,
+        Refusal::DecisionRoom => false,
+        Refusal::SheetLine(_) => false,
+        Refusal::LineRoom => false,
+        Refusal::NoSuchBranch => false,
+        Refusal::Information => false,
+        Refusal::NoCodeword => false,
+        Refusal::InputTooLong => false,
+    }
+}
+
+// A block whose decoding is refused.
+fn refused_block(before: Report, after: Report, refusal: Refusal, room: &mut [u8]) -> Step
+    ensures { λ r. ⌜ RefusedStep (ofBlock refusal) refusal before after (now (room .entry)) r (now (room .exit)) ⌝ }
+{
+    if is_of_block(refusal) {
+        return refused_line(before, after, refusal, room);
+    }
+    refused_step(refusal, before)
+}
+
+// The line of what decoding replied.
+fn decoded_line(before: Report, after: Report, decoded: Decoded, room: &mut [u8]) -> Step
+    ensures { λ r. ⌜ DecodedStep decoded before after (now (room .entry)) r (now (room .exit)) ⌝ }
+{
+    match decoded {
+        Decoded::Found(answer) => word_line(before, after, answer, room),
+        Decoded::Refused(refusal) => refused_block(before, after, refusal, room),
+    }
+}
+
+// How many of the 64 places for samples are decoded.
+fn used(count: usize) -> usize
+    ensures { λ r. ⌜ r ≡ decodable count ⌝ }
+    ensures { λ r. ⌜ r ≤ 64 ⌝ }
+{
+    if 64 < count { 0 } else { count }
+}
+
+// The line of a block of `count` samples, after which the next line begins at `next`.
+fn samples_line(
+    report: Report,
+    next: usize,
+    count: usize,
+    samples: &[i16; 64],
+    metrics: &mut [i32],
+    decisions: &mut [u64],
+    room: &mut [u8],
+) -> Step
+    requires { ⌜ length (now samples) ≡ 64 ⌝ }
+    ensures { λ r. ⌜ RoomStep (take (decodable count) (now (samples .entry))) report (toBlocks next report) (lends (now (metrics .entry)) (now (decisions .entry)) (now (room .entry))) r (lends (now (metrics .exit)) (now (decisions .exit)) (now (room .exit))) ⌝ }
+{
+    if room.len() < 256 {
+        return refused_step(Refusal::LineRoom, report);
+    }
+    let after = at_stage(report, Stage::BlockLines, next);
+    let plate = report.plate;
+    let taken = used(count);
+    let values = &samples[..];
+    let decoded = decoding::decode(plate, &values[..taken], metrics, decisions);
+    decoded_line(report, after, decoded, room)
+}
+
+// The line of the block that begins at the report's place, or the end line.
+pub fn block_line(
+    report: Report,
+    input: &[u8],
+    metrics: &mut [i32],
+    decisions: &mut [u64],
+    room: &mut [u8],
+) -> Step
+    ensures { λ r. ⌜ BlocksStep (blockAt (now (input .entry)) (report .at)) (nextLine (now (input .entry)) (report .at)) report (lends (now (metrics .entry)) (now (decisions .entry)) (now (room .entry))) r (lends (now (metrics .exit)) (now (decisions .exit)) (now (room .exit))) ⌝ }
+{
+    let mut values = [0; 64];
+    let reply = sheets::read_block(input, report.at, &mut values);
+    match reply {
+        BlockReply::Read { samples, next } => {
+            samples_line(report, next, samples, &values, metrics, decisions, room)
+        }
+        BlockReply::NoBlock => end_line(report, room),
+    }
+}
