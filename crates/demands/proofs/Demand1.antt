@@ -40,7 +40,6 @@ use Rattle.trellises.specs.declared.Next.the-variants as N
 use Rattle.coding.specs.declared.Encoded.the-variants as E
 use Rattle.coding.specs.declared.ReadBack.the-variants as R
 use Rattle.decoding.specs.declared.Decoded.the-variants as D
-use Rattle.listings.specs.declared.Written.the-variants as W
 
 -- the number of a condition's refusal
 its-number : {Holds : Type 0} {refusal : Refusal} (q : Refusal) → Holds × (q ≡ refusal) → number q ≡ number refusal
