@@ -12,8 +12,8 @@
  *   refuse with place 0 only.
  * - A word has position i at the bit of weight 2^i. A positive sample favours bit 0.
  */
-#ifndef YENDRUFAL_H
-#define YENDRUFAL_H
+#ifndef YENDRUFAL_INCLUDED
+#define YENDRUFAL_INCLUDED
 
 #include <stddef.h>
 #include <stdint.h>
@@ -43,8 +43,8 @@ extern "C" {
 #define YENDRUFAL_SHAPE 101         /* a run is too short for its fixed use, or `kind` is over 1 */
 
 /* How the rows of a matrix are meant. */
-#define YENDRUFAL_G 0 /* generator: the code is all sums of rows */
-#define YENDRUFAL_H 1 /* parity check: the code is all words even with every row */
+#define YENDRUFAL_KIND_G 0 /* generator: the code is all sums of rows */
+#define YENDRUFAL_KIND_H 1 /* parity check: the code is all words even with every row */
 
 /* A plate is a flat run of 64-bit numbers: n, k, 64 rows, 65 profile entries; unused places are 0. */
 #define YENDRUFAL_PLATE_WORDS 131

@@ -59,7 +59,11 @@ pub fn decode(flat: &[u64], samples: &[i16], metrics: usize, decisions: usize, r
 }
 
 pub fn write_plate(flat: &[u64], line: usize, rooms: Rooms) -> Call {
-    let runs = vec![lent_plate(flat, rooms), Run::room_bytes("line", line), Run::room_words("written", rooms.single)];
+    let runs = vec![
+        lent_plate(flat, rooms),
+        Run::room_bytes("line", line),
+        Run::room_words("written", rooms.single),
+    ];
     Call { name: Name::WritePlate, numbers: vec![], runs }
 }
 

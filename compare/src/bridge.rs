@@ -56,10 +56,18 @@ pub fn answered(call: &mut Call, mut bytes: &[u8]) -> u64 {
     for run in &mut call.runs {
         let mut cells = &bytes[16..];
         let size = match &mut run.cells {
-            Cells::Bytes(old) => old.iter_mut().map(|cell| *cell = u8::from_le_bytes(take(&mut cells))).count(),
-            Cells::Samples(old) => 2 * old.iter_mut().map(|cell| *cell = i16::from_le_bytes(take(&mut cells))).count(),
-            Cells::Metrics(old) => 4 * old.iter_mut().map(|cell| *cell = i32::from_le_bytes(take(&mut cells))).count(),
-            Cells::Words(old) => 8 * old.iter_mut().map(|cell| *cell = u64::from_le_bytes(take(&mut cells))).count(),
+            Cells::Bytes(old) => {
+                old.iter_mut().map(|cell| *cell = u8::from_le_bytes(take(&mut cells))).count()
+            }
+            Cells::Samples(old) => {
+                2 * old.iter_mut().map(|cell| *cell = i16::from_le_bytes(take(&mut cells))).count()
+            }
+            Cells::Metrics(old) => {
+                4 * old.iter_mut().map(|cell| *cell = i32::from_le_bytes(take(&mut cells))).count()
+            }
+            Cells::Words(old) => {
+                8 * old.iter_mut().map(|cell| *cell = u64::from_le_bytes(take(&mut cells))).count()
+            }
         };
         bytes = &bytes[16 + size.next_multiple_of(8)..];
     }

@@ -26,9 +26,8 @@ fn last_one(word: u64) -> Option<usize> {
 pub fn plate_rows(code: &BTreeSet<u64>, n: usize) -> Vec<u64> {
     let row = |head: usize| {
         let begin = |word: &&u64| first_one(**word) == Some(head);
-        let better = |a: &u64, b: &u64| {
-            last_one(*a) < last_one(*b) || last_one(*a) == last_one(*b) && earlier(*a, *b)
-        };
+        let better =
+            |a: &u64, b: &u64| last_one(*a) < last_one(*b) || last_one(*a) == last_one(*b) && earlier(*a, *b);
         code.iter().filter(begin).copied().reduce(|best, word| if better(&word, &best) { word } else { best })
     };
     (0..n).filter_map(row).collect()

@@ -142,7 +142,9 @@ impl fmt::Display for Run {
     fn fmt(&self, f: &mut fmt::Formatter) -> fmt::Result {
         write!(f, "{} ", self.name)?;
         match &self.cells {
-            Cells::Bytes(cells) => write!(f, "[{}] {:?}", inner(cells).len(), String::from_utf8_lossy(inner(cells))),
+            Cells::Bytes(cells) => {
+                write!(f, "[{}] {:?}", inner(cells).len(), String::from_utf8_lossy(inner(cells)))
+            }
             Cells::Samples(cells) => write!(f, "[{}] {:?}", inner(cells).len(), inner(cells)),
             Cells::Metrics(cells) => write!(f, "[{}] {:?}", inner(cells).len(), inner(cells)),
             Cells::Words(cells) => write!(f, "[{}] {:x?}", inner(cells).len(), inner(cells)),

@@ -124,7 +124,8 @@ impl Comparison {
         self.finish();
         for kind in &self.order {
             let of_kind = self.agreed.iter().filter(|((k, _), _)| k == kind);
-            let by_call: Vec<String> = of_kind.clone().map(|((_, name), count)| format!("{name:?} {count}")).collect();
+            let by_call: Vec<String> =
+                of_kind.clone().map(|((_, name), count)| format!("{name:?} {count}")).collect();
             let sum: u64 = of_kind.map(|(_, count)| count).sum();
             println!("{kind}: {sum} agree ({})", by_call.join(", "));
         }

@@ -9,7 +9,15 @@ use crate::words::ones_before;
 /// The changes made to one number.
 fn changes(random: &mut Random, old: u64) -> Vec<u64> {
     let flipped = old ^ 1 << random.below(64);
-    let mut new = vec![old ^ 1, old.wrapping_add(1), old.wrapping_sub(1), flipped, old | 1 << 63, old ^ 256, old ^ 1 << 32];
+    let mut new = vec![
+        old ^ 1,
+        old.wrapping_add(1),
+        old.wrapping_sub(1),
+        flipped,
+        old | 1 << 63,
+        old ^ 256,
+        old ^ 1 << 32,
+    ];
     new.extend([0, u64::MAX, random.next()]);
     new.retain(|&value| value != old);
     new

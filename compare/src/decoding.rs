@@ -102,7 +102,12 @@ pub fn counts(plate: &Plate) -> (u64, u64) {
 }
 
 /// Refusals 6 to 9, in this order, for samples and rooms of these lengths.
-pub fn refused(plate: &Plate, samples: &[i16], metric_count: usize, decision_count: usize) -> Result<(), Refusal> {
+pub fn refused(
+    plate: &Plate,
+    samples: &[i16],
+    metric_count: usize,
+    decision_count: usize,
+) -> Result<(), Refusal> {
     if samples.len() != plate.n {
         return refuse(6, 0);
     }

@@ -17,7 +17,8 @@ pub fn answer(call: &mut Call) -> u64 {
     let r = &mut call.runs[..];
     match call.name {
         Name::Prepare => {
-            let ((rows, a), (plate, b), (place, c)) = (lent!(r[0], words), lent!(r[1], words), lent!(r[2], words));
+            let ((rows, a), (plate, b), (place, c)) =
+                (lent!(r[0], words), lent!(r[1], words), lent!(r[2], words));
             unsafe { yendrufal_prepare(n[0], n[1], rows, a, plate, b, place, c) }
         }
         Name::Branch | Name::Encode | Name::ReadBack => {
@@ -48,7 +49,9 @@ fn decode(call: &mut Call) -> u64 {
     let ((word, e), (metric, f)) = (lent!(r[4], words), lent!(r[5], metrics));
     let ((counts, g), (place, h)) = (lent!(r[6], words), lent!(r[7], words));
     unsafe {
-        yendrufal_decode(plate, a, samples, b, metrics, c, decisions, d, word, e, metric, f, counts, g, place, h)
+        yendrufal_decode(
+            plate, a, samples, b, metrics, c, decisions, d, word, e, metric, f, counts, g, place, h,
+        )
     }
 }
 

@@ -19,7 +19,8 @@ fn branches(comparison: &mut Comparison, random: &mut Random, plate: &Plate, fla
         let depth = random.below(plate.n);
         let digits = plate.profile[depth] + usize::from(random.one_in(8));
         let state = random.word(digits);
-        let depth = if random.one_in(16) { random.pick(&[plate.n as u64, 64, 65, u64::MAX]) } else { depth as u64 };
+        let depth =
+            if random.one_in(16) { random.pick(&[plate.n as u64, 64, 65, u64::MAX]) } else { depth as u64 };
         let state = if random.one_in(16) { random.next() } else { state };
         let bit = if random.one_in(16) { random.pick(&[2, 3, 1 << 32, u64::MAX]) } else { random.next() % 2 };
         comparison.agree(asked::branch(flat, depth, state, bit, FIXED));
@@ -62,7 +63,8 @@ fn questions(comparison: &mut Comparison, random: &mut Random, flat: &[u64]) {
     blocks(comparison, random, &plate, flat);
     comparison.agree(asked::write_plate(flat, 256, FIXED));
     comparison.agree(asked::write_profile(flat, 256, FIXED));
-    let values = (random.next(), random.next() as i32, random.next() >> random.below(64), random.next() % 10_000);
+    let values =
+        (random.next(), random.next() as i32, random.next() >> random.below(64), random.next() % 10_000);
     comparison.agree(asked::write_word(flat, values, 256, FIXED));
 }
 

@@ -71,19 +71,19 @@ impl Model {
             (Name::Prepare, [rows, plate, place]) => answer_prepare(&numbers, rows, plate, place),
             (Name::Branch, [plate, next]) => self.answer_branch(&numbers, plate, next),
             (Name::Encode, [plate, word]) => {
-                let found = self.plate(plate.words()).and_then(|p| encode(&p, numbers[0]));
-                reply_into(found, word.words())
+                reply_into(self.plate(plate.words()).and_then(|p| encode(&p, numbers[0])), word.words())
             }
-            (Name::ReadBack, [plate, information]) => {
-                let found = self.plate(plate.words()).and_then(|p| read_back(&p, numbers[0]));
-                reply_into(found, information.words())
+            (Name::ReadBack, [plate, word]) => {
+                reply_into(self.plate(plate.words()).and_then(|p| read_back(&p, numbers[0])), word.words())
             }
             (Name::Decode, runs) => self.answer_decode(runs),
             (Name::WriteRefused, [line, written]) => {
                 let refusal = Refusal { number: numbers[0], place: numbers[1] };
                 put_line(Ok(refused_line(refusal)), line.bytes(), written.words())
             }
-            (Name::WriteEnd, [line, written]) => put_line(Ok(end_line(numbers[0])), line.bytes(), written.words()),
+            (Name::WriteEnd, [line, written]) => {
+                put_line(Ok(end_line(numbers[0])), line.bytes(), written.words())
+            }
             (Name::Listing, runs) => answer_listing(runs),
             (name, [plate, line, written]) => {
                 let text = self.plate(plate.words()).map(|p| line_of_plate(name, &p, &numbers));
@@ -175,9 +175,7 @@ fn line_of_plate(name: Name, plate: &Plate, numbers: &[u64]) -> String {
 }
 
 fn answer_listing(runs: &mut [Run]) -> u64 {
-    let [sheet, metrics, decisions, listing, written] = runs else {
-        unreachable!("listing has five runs")
-    };
+    let [sheet, metrics, decisions, listing, written] = runs else { unreachable!("listing has five runs") };
     let (text, decoded_with) = sheet::listing(sheet.bytes());
     if let Some(plate) = decoded_with {
         clear_rooms(&plate, metrics.metrics(), decisions.words());

@@ -55,7 +55,9 @@ fn windows(random: &mut Random, n: usize, width: usize) -> Vec<u64> {
 
 /// Pairs of ones around the middle, one inside the other.
 fn nested(random: &mut Random, n: usize, width: usize) -> Vec<u64> {
-    let pair = |i: usize| 1 << i | 1 << (n - 1 - i) | random.next() & random.next() & ones_before(n - 1 - i) & !ones_before(i);
+    let pair = |i: usize| {
+        1 << i | 1 << (n - 1 - i) | random.next() & random.next() & ones_before(n - 1 - i) & !ones_before(i)
+    };
     (0..width.min(n / 2)).map(pair).collect()
 }
 
@@ -75,7 +77,8 @@ fn disguised(random: &mut Random, mut rows: Vec<u64>) -> Vec<u64> {
         }
     }
     while rows.len() < 64 && random.one_in(2) {
-        let sum = if rows.is_empty() { 0 } else { rows[random.below(rows.len())] ^ rows[random.below(rows.len())] };
+        let sum =
+            if rows.is_empty() { 0 } else { rows[random.below(rows.len())] ^ rows[random.below(rows.len())] };
         rows.insert(random.below(rows.len() + 1), sum);
     }
     rows
@@ -84,7 +87,7 @@ fn disguised(random: &mut Random, mut rows: Vec<u64>) -> Vec<u64> {
 /// A matrix that is in order: only refusal 4 can meet it.
 pub fn matrix(random: &mut Random) -> Matrix {
     let n = if random.one_in(3) { 64 - random.below(3) } else { 1 + random.below(64) };
-    let width = random.below(14);
+    let width = random.below(15);
     let rows = match random.below(6) {
         0..=2 => windows(random, n, width),
         3 => nested(random, n, width),

@@ -45,11 +45,16 @@ fn bad_samples(comparison: &mut Comparison, random: &mut Random, plate: &Plate) 
         block.push(value);
         comparison.agree(asked::decode(&flat, &block, 0, 0, FIXED));
     }
-    for count in [0, plate.n - 1, plate.n + 1, 65, 200] {
-        comparison.agree(asked::decode(&flat, &samples(random, count), metrics, decisions, FIXED));
-    }
-    for value in [127, -127, 0, 1, -1] {
-        comparison.agree(asked::decode(&flat, &vec![value; plate.n], metrics, decisions, FIXED));
+}
+
+/// Too few and too many samples, and blocks of one value only.
+fn plain_samples(comparison: &mut Comparison, plate: &Plate) {
+    let flat = plate.flat();
+    for count in [0, plate.n - 1, plate.n, plate.n + 1, 65, 200] {
+        for value in [127, -127, 0, 1, -1] {
+            let (metrics, decisions) = (plate.metrics_needed(), plate.decisions_needed());
+            comparison.agree(asked::decode(&flat, &vec![value; count], metrics, decisions, FIXED));
+        }
     }
 }
 
@@ -125,7 +130,14 @@ fn shapes(comparison: &mut Comparison, plate: &Plate) {
         comparison.agree(asked::write_word(&flat, (0, 0, 0, 0), 256, rooms));
         comparison.agree(asked::write_refused(1, 0, 256, rooms));
         comparison.agree(asked::write_end(1, 256, rooms));
-        for (n, kind, rows) in [(8, 0, &[3, 5][..]), (8, 1, &[3, 5]), (8, 2, &[]), (0, u64::MAX, &[]), (0, 0, &[]), (8, 1, &[1, 256])] {
+        for (n, kind, rows) in [
+            (8, 0, &[3, 5][..]),
+            (8, 1, &[3, 5]),
+            (8, 2, &[]),
+            (0, u64::MAX, &[]),
+            (0, 0, &[]),
+            (8, 1, &[1, 256]),
+        ] {
             comparison.agree(asked::prepare(n, kind, rows, rooms));
         }
     }
@@ -137,6 +149,7 @@ pub fn run(comparison: &mut Comparison, random: &mut Random) {
     for plate in plates() {
         working_rooms(comparison, random, &plate);
         bad_samples(comparison, random, &plate);
+        plain_samples(comparison, &plate);
         bad_arguments(comparison, &plate);
         lines(comparison, &plate);
         if plate.widest() < 3 {

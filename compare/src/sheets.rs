@@ -133,7 +133,9 @@ pub fn run(comparison: &mut Comparison, random: &mut Random, count: usize) {
     AWKWARD.iter().for_each(|text| list(comparison, text.as_bytes()));
     long_sheets().iter().for_each(|sheet| list(comparison, sheet));
     let good = AWKWARD[7].as_bytes();
-    for (metrics, decisions, room) in [(8191, 4096, 66_560), (8192, 4095, 66_560), (8192, 4096, 66_559), (9000, 5000, 70_000)] {
+    for (metrics, decisions, room) in
+        [(8191, 4096, 66_560), (8192, 4095, 66_560), (8192, 4096, 66_559), (9000, 5000, 70_000)]
+    {
         comparison.agree(asked::listing(good, metrics, decisions, room, FIXED));
         comparison.agree(asked::listing(&[], metrics, decisions, room, FIXED));
     }

@@ -7,13 +7,16 @@ use std::collections::HashSet;
 
 /// All lists of `count` digits below `base`.
 pub fn all_lists(base: u64, count: usize) -> impl Iterator<Item = Vec<u64>> {
-    (0..base.pow(count as u32)).map(move |code| (0..count).map(|i| code / base.pow(i as u32) % base).collect())
+    (0..base.pow(count as u32))
+        .map(move |code| (0..count).map(|i| code / base.pow(i as u32) % base).collect())
 }
 
 /// All matrices with n up to `most_n` and up to `most_rows` rows: n, kind, rows.
 pub fn all_matrices(most_n: u64, most_rows: usize) -> impl Iterator<Item = (u64, u64, Vec<u64>)> {
     let sizes = (1..=most_n).flat_map(move |n| (0..=most_rows).map(move |count| (n, count)));
-    sizes.flat_map(|(n, count)| (0..2).flat_map(move |kind| all_lists(1 << n, count).map(move |rows| (n, kind, rows))))
+    sizes.flat_map(|(n, count)| {
+        (0..2).flat_map(move |kind| all_lists(1 << n, count).map(move |rows| (n, kind, rows)))
+    })
 }
 
 /// All sample lists of -1, 0 and 1.

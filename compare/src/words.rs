@@ -26,6 +26,12 @@ pub fn printed(word: u64, n: usize) -> String {
 
 /// Adds the sample where the bit is 0 and subtracts it where the bit is 1.
 pub fn metric(word: u64, samples: &[i16]) -> i32 {
-    let signed = |(i, &y): (usize, &i16)| if bit(word, i) == 0 { i32::from(y) } else { -i32::from(y) };
+    let signed = |(i, &y): (usize, &i16)| {
+        if bit(word, i) == 0 {
+            i32::from(y)
+        } else {
+            -i32::from(y)
+        }
+    };
     samples.iter().enumerate().map(signed).sum()
 }

@@ -11,7 +11,9 @@ pub type Answer<'a> = &'a mut dyn FnMut(Call) -> (u64, Call);
 
 const SHEET: &str = "cover\t8\tG\tfirst\nrow\t11110000\nrow\t01011010\nrow\t00111100\nrow\t00001111\n\
                      block\t-3\t-2\t4\t-1\t5\t6\t-1\t7\nend\n";
-const LISTING: &str = "plate\t8\t4\t3\nprofile\t0\t1\t2\t3\t2\t3\t2\t1\t0\nword\t11110000\t19\t44\t11\nend\t1\n";
+const LISTING: &str =
+    "plate\t8\t4\t3\nprofile\t0\t1\t2\t3\t2\t3\t2\t1\t0\nword\t11110000\t19\t44\t11\nend\t1\n";
+const ROWS: [&str; 4] = ["11110000", "01011010", "00111100", "00001111"];
 const SAMPLES: [i16; 8] = [-3, -2, 4, -1, 5, 6, -1, 7];
 
 /// A word as the paper prints it.
@@ -71,8 +73,7 @@ impl Checked<'_> {
     fn the_sheet(&mut self) {
         self.lists(SHEET.as_bytes(), LISTING.as_bytes());
         self.lists(SHEET.replace('G', "H").as_bytes(), LISTING.as_bytes());
-        let rows = ["11110000", "01011010", "00111100", "00001111"].map(word);
-        let plate = self.plate(8, 0, &rows);
+        let plate = self.plate(8, 0, &ROWS.map(word));
         assert_eq!(plate[66..75], [0, 1, 2, 3, 2, 3, 2, 1, 0]);
         self.decodes(&plate, &SAMPLES, "11110000", 19, [44, 11]);
         for (depth, state, bit, next) in [(4, 1, 0, 5), (4, 1, 1, 1), (3, 1, 1, 0), (3, 6, 0, 3)] {
@@ -83,6 +84,11 @@ impl Checked<'_> {
         self.expect(asked::encode(&plate, 9, FIXED), 0, Some((1, 0, word("11111111"))));
         self.expect(asked::encode(&plate, 16, FIXED), 13, None);
         self.expect(asked::read_back(&plate, word("11010010"), FIXED), 14, None);
+    }
+
+    /// The sheet's code with rooms and samples at their bounds.
+    fn the_sheet_at_bounds(&mut self) {
+        let plate = self.plate(8, 0, &ROWS.map(word));
         for (metrics, decisions, reply) in [(15, 8, 8), (16, 7, 9), (16, 8, 0)] {
             self.expect(asked::decode(&plate, &SAMPLES, metrics, decisions, FIXED), reply, None);
         }
@@ -110,6 +116,7 @@ pub fn examples(answer: Answer) -> usize {
     let mut checked = Checked { answer, count: 0 };
     checked.small_codes();
     checked.the_sheet();
+    checked.the_sheet_at_bounds();
     checked.matrices_at_bounds();
     checked.count
 }
