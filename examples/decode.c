@@ -25,7 +25,7 @@ static int refused(const char *call, uint64_t reply, uint64_t place) {
 }
 
 int main(void) {
-    uint64_t word, counts[2], place;
+    uint64_t word, counts[2], place = 0;
     int32_t metric;
 
     /* Once for each code. Every pointer is followed by the number of its cells. */

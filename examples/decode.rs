@@ -20,7 +20,11 @@ fn prepare(n: u64, rows: &[u64]) -> Result<[u64; 131], (u64, u64)> {
     let reply = unsafe {
         yendrufal_prepare(n, 0, rows.as_ptr(), rows.len(), plate.as_mut_ptr(), plate.len(), &mut place, 1)
     };
-    if reply == 0 { Ok(plate) } else { Err((reply, place)) }
+    if reply == 0 {
+        Ok(plate)
+    } else {
+        Err((reply, place))
+    }
 }
 
 /// Word, metric and the two counts, or the number and place of the refusal. The rooms are enough for
@@ -34,7 +38,11 @@ fn decode(plate: &[u64; 131], samples: &[i16]) -> Result<(u64, i32, [u64; 2]), (
             metrics.as_mut_ptr(), metrics.len(), decisions.as_mut_ptr(), decisions.len(),
             &mut word, 1, &mut metric, 1, counts.as_mut_ptr(), counts.len(), &mut place, 1)
     };
-    if reply == 0 { Ok((word, metric, counts)) } else { Err((reply, place)) }
+    if reply == 0 {
+        Ok((word, metric, counts))
+    } else {
+        Err((reply, place))
+    }
 }
 
 fn main() {
