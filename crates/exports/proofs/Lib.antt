@@ -1,0 +1,2 @@
+pub mod CellsCopied
+pub mod PlateStands
