@@ -1,2 +1,4 @@
 pub mod CellsCopied
 pub mod PlateStands
+pub mod PromisesCarried
+pub mod CallsMade

@@ -30,7 +30,7 @@ entries-of-prepared words long p t h = go (decLt (plateOf words .n) t)
 
 -- where an entry is over a byte, any plate of length 0 stands for the run
 pub stands-empty : (words : List ℕ) (plate : Plate) → 131 ≤ length words → (EntriesFit words → ⊥) → plate .n ≡ 0 → StandsFor words plate
-stands-empty words plate long over e = inr (empty-not-prepared e, λ p. over (entries-of-prepared words long p))
+stands-empty words plate long over e = record { either = inr (empty-not-prepared e, λ p. over (entries-of-prepared words long p)) }
 
 -- ---- into a run
 

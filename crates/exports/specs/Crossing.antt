@@ -2,6 +2,7 @@
 use lib.IntN.{ℤ}
 use lib.ListN.{drop, set}
 use mathlib.Core.List.{_++_, List}
+use mathlib.Core.Path.{_≡_}
 use Prim.Native.Nat.{ℕ}
 use Rattle.coding.specs.declared.Encoded.{Encoded}
 use Rattle.coding.specs.declared.ReadBack.{ReadBack}
@@ -100,3 +101,8 @@ writtenAs cell room (W.Refused q) = record { code = number q; cells = (room, cel
 
 abbrev pub written : List ℕ → Writing → Crossing (List ℕ × List ℕ)
 written cell w = writtenAs cell (w .room) (w .reply)
+
+-- a reply crosses so, with the length in its cell
+abbrev pub LengthPut : Written → List ℕ → ℕ → List ℕ → Type 0
+LengthPut reply cell r cell′ =
+    (room : List ℕ) → _≡_ {A = Crossing (List ℕ × List ℕ)} (record { code = r; cells = (room, cell′) }) (writtenAs cell room reply)

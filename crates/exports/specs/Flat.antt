@@ -36,5 +36,5 @@ pub record FitTested (words : List ℕ) (r : Bool) : Type 0 where
   pub no-is : r ≡ false → EntriesFit words → ⊥
 
 -- a plate stands for a run of words: it is the run's own, or neither is prepared
-abbrev pub StandsFor : List ℕ → Plate → Type 0
-StandsFor words plate = (plate ≡ plateOf words) ⊎ ((IsPrepared plate → ⊥) × (IsPrepared (plateOf words) → ⊥))
+pub record StandsFor (words : List ℕ) (plate : Plate) : Type 0 where
+  pub either : (plate ≡ plateOf words) ⊎ ((IsPrepared plate → ⊥) × (IsPrepared (plateOf words) → ⊥))

@@ -1,10 +1,12 @@
+-- `exports::refused_at` meets its contract.
 use borrow.Author.Needs.{needs}
+use mathlib.Core.Path.{ap}
+use lib.ListN.{set}
+use Prim.Native.Nat.{ℕ}
 use Rattle.exports.proofs.refused_at.Statement.{statement}
 use Rattle.exports.proofs.refused_at.Tie as tie
 use Rattle.exports.proofs.refused_at.Reads as reads
 use Rattle.exports.proofs.refused_at.Lts as lts
-use Rattle.plates.proofs.refusal_number.Reads as refusal-number-reads
-use Rattle.plates.proofs.refusal_place.Reads as refusal-place-reads
 
 refusal-place-requires : tie.Need-refusal-place-requires
 refusal-place-requires c κs = search needs
@@ -19,7 +21,7 @@ same-length : tie.Need-same-length
 same-length c = search needs
 
 returns : tie.Need-returns
-returns c = search needs
+returns c = record { number-is = c .refusal-number .ensures; place-is = ap (λ (x : ℕ). set (c .before .before .before .args .at .now) 0 x) (c .before .refusal-place .ensures) }
 
 pub refused-at-spec : {M : Type 1} → statement M
 refused-at-spec =

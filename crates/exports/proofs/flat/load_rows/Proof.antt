@@ -43,13 +43,13 @@ loop-less : tie.Need-loop-less Inv-loop μ-loop
 loop-less c = search needs
 
 loop-again : tie.Need-loop-again Inv-loop μ-loop
-loop-again c = 
+loop-again c =
     let start = c .before .before .before in
     let l = c .before .before .loop in
     (omega arith, simp length-set (l .inv .1), loaded-on (start .args .words .now) 2 64 (omega arith) _ _ (l .j) (start .pre .0) (omega arith) (l .inv .2))
 
 returns : tie.Need-returns Inv-loop μ-loop
-returns c = 
+returns c =
     let start = c .before .before in
     let l = c .before .loop in
     loaded-end (start .args .words .now) 2 64 (omega arith) _ _ (l .j) (start .pre .0) (l .inv .0) (c .loop-test .left) (l .inv .2)

@@ -15,7 +15,7 @@ fitting-plate-requires : tie.Need-fitting-plate-requires
 fitting-plate-requires c κs = (c .before .before .before .pre, c .before .entries-fit .ensures .yes-is (c .if1 .taken))
 
 returns : tie.Need-returns
-returns c = inl (c .fitting-plate .ensures)
+returns c = record { either = inl (c .fitting-plate .ensures) }
 
 returns-2 : tie.Need-returns-2
 returns-2 c = stands-empty (c .before .before .before .args .words .now) _ (c .before .before .before .pre) (c .before .entries-fit .ensures .no-is (c .if1 .left)) refl

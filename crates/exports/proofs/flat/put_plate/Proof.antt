@@ -23,7 +23,7 @@ returns c =
     let rows = c .before .before .before .before .before .before .before .before in
     let head = rows .before .before .before .before .before .before in
     let start = head .before .before .before in
-    put-whole (start .args .words .now) (start .args .plate) (start .pre .0) (start .pre .1) _ _ _ (head .put-head .ensures) (rows .put-rows .ensures) (c .before .before .put-profile .ensures)
+    put-whole (start .args .words .now) (start .args .t2) (start .pre .0) (start .pre .1) _ _ _ (head .put-head .ensures) (rows .put-rows .ensures) (c .before .before .put-profile .ensures)
 
 pub put-plate-spec : {M : Type 1} → statement M
 put-plate-spec =

@@ -42,7 +42,7 @@ loop-less : tie.Need-loop-less Inv-loop μ-loop
 loop-less c = search needs
 
 loop-again : tie.Need-loop-again Inv-loop μ-loop
-loop-again c = 
+loop-again c =
     let start = c .before .before .before .before .before in
     let l = c .before .before .before .loop in
     (omega arith, simp length-set (l .inv .1), pasted-on (start .args .words .now) _ (start .args .profile .now) 66 (l .t) _ (omega arith) (omega arith) (c .wide .ensures) (l .inv .2))
@@ -51,7 +51,7 @@ same-length : tie.Need-same-length Inv-loop μ-loop
 same-length c = c .before .loop .inv .1
 
 returns : tie.Need-returns Inv-loop μ-loop
-returns c = 
+returns c =
     let start = c .before .before .before in
     let l = c .before .loop in
     pasted-end (start .args .words .now) _ (start .args .profile .now) 66 (l .t) 65 (l .inv .0) (c .loop-test .left) (l .inv .2)

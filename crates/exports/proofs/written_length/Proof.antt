@@ -1,0 +1,39 @@
+use borrow.Author.Needs.{needs}
+use Rattle.exports.proofs.written_length.Statement.{statement}
+use Rattle.exports.proofs.written_length.Tie as tie
+use Rattle.exports.proofs.written_length.Reads as reads
+use Rattle.exports.proofs.written_length.Lts as lts
+use Rattle.plates.proofs.refusal_number.Reads as refusal-number-reads
+
+enum-known-reply : tie.Need-enum-known-reply
+enum-known-reply c = search needs
+
+slice-write-size : tie.Need-slice-write-size
+slice-write-size c = search needs
+
+enum-known-reply-2 : tie.Need-enum-known-reply-2
+enum-known-reply-2 c = search needs
+
+refusal-number-requires : tie.Need-refusal-number-requires
+refusal-number-requires c κs = search needs
+
+same-length : tie.Need-same-length
+same-length c = search needs
+
+returns : tie.Need-returns
+returns c = search needs
+
+returns-2 : tie.Need-returns-2
+returns-2 c = search needs
+
+pub written-length-spec : {M : Type 1} → statement M
+written-length-spec =
+    tie.close
+    (tie.spec
+    enum-known-reply
+    slice-write-size
+    enum-known-reply-2
+    refusal-number-requires
+    same-length
+    returns
+    returns-2)
