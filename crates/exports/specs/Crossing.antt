@@ -6,6 +6,7 @@ use mathlib.Core.Path.{_≡_}
 use Prim.Native.Nat.{ℕ}
 use Rattle.coding.specs.declared.Encoded.{Encoded}
 use Rattle.coding.specs.declared.ReadBack.{ReadBack}
+use Rattle.decoding.specs.declared.Answer.{Answer}
 use Rattle.decoding.specs.declared.Decoded.{Decoded}
 use Rattle.exports.specs.Calls.{Crossing, done, noBranch}
 use Rattle.exports.specs.Flat.{flat}
@@ -106,3 +107,9 @@ written cell w = writtenAs cell (w .room) (w .reply)
 abbrev pub LengthPut : Written → List ℕ → ℕ → List ℕ → Type 0
 LengthPut reply cell r cell′ =
     (room : List ℕ) → _≡_ {A = Crossing (List ℕ × List ℕ)} (record { code = r; cells = (room, cell′) }) (writtenAs cell room reply)
+
+-- an answer stands in its cells
+pub record AnswerPut (a : Answer) (word : List ℕ) (metric : List ℤ) (counts : List ℕ) (word′ : List ℕ) (metric′ : List ℤ) (counts′ : List ℕ) : Type 0 where
+  pub word-is : word′ ≡ set word 0 (a .word)
+  pub metric-is : metric′ ≡ set metric 0 (a .metric)
+  pub counts-are : counts′ ≡ set (set counts 0 (a .counts .additions)) 1 (a .counts .comparisons)

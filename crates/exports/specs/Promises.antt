@@ -1,7 +1,9 @@
 -- The promises of the ten calls: the fixed shape, the promise of the call below, and how its reply crosses.
 use lib.IntN.{ℤ}
 use lib.ListN.{length}
+use mathlib.Core.Bool.{Bool, false, true}
 use mathlib.Core.List.{List}
+use mathlib.Core.Path.{_≡_}
 use Prim.Native.Nat.{suc, zero, ℕ, _≤_}
 use Rattle.coding.specs.Coding.{Encodes, ReadsBack}
 use Rattle.decoding.specs.Decode.{Decodes}
@@ -14,9 +16,7 @@ use Rattle.plates.specs.declared.Kind.{Kind}
 use Rattle.plates.specs.declared.Kind.the-variants.{G, H}
 use Rattle.plates.specs.declared.Plate.{Plate}
 use Rattle.plates.specs.Prepare.{Prepares}
-use Rattle.plates.specs.Refusals.{number, place}
 use Rattle.trellises.specs.Branching.{Branches}
-use Rattle.words.specs.Word.{bit}
 
 -- a run is long enough for a plate
 abbrev pub PlateLong : List ℕ → Type 0
@@ -53,10 +53,24 @@ CallsReadBack words word cell r cell′ =
 abbrev pub DecodesTo : Plate → List ℤ → DecodeCells → Decoding → Type 0
 DecodesTo plate samples lent d = Decodes plate samples (lent .metrics) (lent .decisions) (d .metrics) (d .decisions) (d .reply)
 
+-- the cells that are lent to decode, one by one
+abbrev pub decodeCells : List ℤ → List ℕ → List ℕ → List ℤ → List ℕ → List ℕ → DecodeCells
+decodeCells metrics decisions word metric counts at =
+    record { metrics = metrics; decisions = decisions; word = word; metric = metric; counts = counts; at = at }
+
+-- how long the plate's run, the cells for the word, the metric and the counts, and that of the place must be
+abbrev pub DecodeShape : ℕ → ℕ → ℕ → ℕ → ℕ → Type 0
+DecodeShape plate word metric counts at = (131 ≤ plate) × (1 ≤ word) × (1 ≤ metric) × (2 ≤ counts) × (1 ≤ at)
+
+-- what the test of these lengths replies
+pub record ShapeTested (plate word metric counts at : ℕ) (r : Bool) : Type 0 where
+  pub yes-is : r ≡ true → DecodeShape plate word metric counts at
+  pub no-is : r ≡ false → DecodeShape plate word metric counts at → ⊥
+
 -- decode: fixed are the plate's run, the cells for the answer and that of the place
 abbrev pub CallsDecode : List ℕ → List ℤ → DecodeCells → ℕ → DecodeCells → Type 0
 CallsDecode words samples lent r lent′ =
-    Calls (PlateLong words × HasCell (lent .word) × (1 ≤ length (lent .metric)) × (2 ≤ length (lent .counts)) × HasCell (lent .at)) lent
+    Calls (DecodeShape (length words) (length (lent .word)) (length (lent .metric)) (length (lent .counts)) (length (lent .at))) lent
     (DecodesTo (plateOf words) samples lent) (decoded lent) (record { code = r; cells = lent′ })
 
 -- a call that writes a line: fixed is a cell for the length, and the plate's run where there is one

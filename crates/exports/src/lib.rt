@@ -5,8 +5,8 @@ ghost use Prim.Native.Nat.{_≤_};
 ghost use lib.ListN.{length, set};
 ghost use Rattle.plates.specs.Refusals.{number, place};
 ghost use Rattle.exports.specs.Calls.{RefusedAt};
-ghost use Rattle.exports.specs.Crossing.{LengthPut};
-ghost use Rattle.exports.specs.Promises.{CallsBranch, CallsDecode, CallsEncode, CallsPrepare, CallsReadBack, CallsWriteEnd, CallsWritePlate, CallsWriteProfile, CallsWriteRefused, CallsWriteWord, kindOf};
+ghost use Rattle.exports.specs.Crossing.{AnswerPut, LengthPut};
+ghost use Rattle.exports.specs.Promises.{CallsBranch, CallsDecode, CallsEncode, CallsPrepare, CallsReadBack, CallsWriteEnd, CallsWritePlate, CallsWriteProfile, CallsWriteRefused, CallsWriteWord, ShapeTested, decodeCells, kindOf};
 use coding::Encoded;
 use coding::ReadBack;
 use decoding::Answer;
@@ -140,6 +140,71 @@ pub extern "C" fn yendrufal_read_back(plate: &[u64], word: u64, information: &mu
             0
         }
         ReadBack::Refused(refusal) => plates::refusal_number(refusal),
+    }
+}
+
+// Whether the runs that are lent to decode are long enough for their fixed use.
+fn decode_shaped(plate: usize, word: usize, metric: usize, counts: usize, at: usize) -> bool
+    ensures { λ r. ⌜ ShapeTested plate word metric counts at r ⌝ }
+{
+    if plate < 131 {
+        return false;
+    }
+    if word < 1 {
+        return false;
+    }
+    if metric < 1 {
+        return false;
+    }
+    if counts < 2 {
+        return false;
+    }
+    1 <= at
+}
+
+// The answer of decoding into its cells.
+fn put_answer(answer: Answer, word: &mut [u64], metric: &mut [i32], counts: &mut [u64])
+    requires { ⌜ (1 ≤ length (now word)) × (1 ≤ length (now metric)) × (2 ≤ length (now counts)) ⌝ }
+    ensures { λ _. ⌜ AnswerPut answer (now (word .entry)) (now (metric .entry)) (now (counts .entry)) (now (word .exit)) (now (metric .exit)) (now (counts .exit)) ⌝ }
+{
+    let best = answer.metric;
+    let counted = answer.counts;
+    word[0] = answer.word;
+    metric[0] = best;
+    counts[0] = counted.additions;
+    counts[1] = counted.comparisons;
+}
+
+// The codeword of greatest metric.
+#[no_mangle]
+pub extern "C" fn yendrufal_decode(
+    plate: &[u64],
+    samples: &[i16],
+    metrics: &mut [i32],
+    decisions: &mut [u64],
+    word: &mut [u64],
+    metric: &mut [i32],
+    counts: &mut [u64],
+    at: &mut [u64],
+) -> u64
+    ensures { λ r. ⌜ CallsDecode (now (plate .entry)) (now (samples .entry)) (decodeCells (now (metrics .entry)) (now (decisions .entry)) (now (word .entry)) (now (metric .entry)) (now (counts .entry)) (now (at .entry))) r (decodeCells (now (metrics .exit)) (now (decisions .exit)) (now (word .exit)) (now (metric .exit)) (now (counts .exit)) (now (at .exit))) ⌝ }
+{
+    if !decode_shaped(
+        plate.len(),
+        word.len(),
+        metric.len(),
+        counts.len(),
+        at.len(),
+    ) {
+        return MISSHAPEN;
+    }
+    match decoding::decode(flat::plate_of(plate), samples, metrics, decisions) {
+        Decoded::Found(answer) => {
+            put_answer(answer, word, metric, counts);
+            at[0] = 0;
+            0
+        }
+        Decoded::Refused(refusal) => refused_at(refusal, at),
     }
 }
 

@@ -37,12 +37,12 @@ same-length : tie.Need-same-length
 same-length c = search needs
 
 returns-3 : tie.Need-returns-3
-returns-3 c = 
+returns-3 c =
     let done = c .before .before .before in
     replied (search needs) (done .encode .result) _ (encode-carried (done .before .plate-of .ensures) (done .before .before .before .before .before .before .args .information) (done .encode .result) (done .encode .ensures)) (c .before .found .given .1) refl
 
 returns-4 : tie.Need-returns-4
-returns-4 c = 
+returns-4 c =
     let done = c .before .before .before .before in
     replied (search needs) (done .encode .result) _ (encode-carried (done .before .plate-of .ensures) (done .before .before .before .before .before .before .args .information) (done .encode .result) (done .encode .ensures)) (c .before .before .refusal .given .1) (same-code (c .refusal-number .ensures))
 

@@ -1,17 +1,19 @@
+-- `exports::yendrufal_read_back` meets its promise.
 use borrow.Author.Needs.{needs}
+use Rattle.exports.proofs.CallsMade.{misshaped, replied, same-code}
+use mathlib.Core.Path.{_∙_, ap, refl, subst, sym}
+use native.Mathlib.Omega.{arith}
+use Rattle.exports.proofs.PromisesCarried.{read-back-carried}
 use Rattle.exports.proofs.yendrufal_read_back.Statement.{statement}
 use Rattle.exports.proofs.yendrufal_read_back.Tie as tie
 use Rattle.exports.proofs.yendrufal_read_back.Reads as reads
 use Rattle.exports.proofs.yendrufal_read_back.Lts as lts
-use Rattle.coding.proofs.read_back.Reads as read-back-reads
-use Rattle.exports.proofs.flat.plate_of.Reads as plate-of-reads
-use Rattle.plates.proofs.refusal_number.Reads as refusal-number-reads
 
 returns : tie.Need-returns
-returns c = search needs
+returns c = misshaped (λ s. omega (arith, s .0))
 
 returns-2 : tie.Need-returns-2
-returns-2 c = search needs
+returns-2 c = misshaped (λ s. omega (arith, s .1))
 
 plate-of-requires : tie.Need-plate-of-requires
 plate-of-requires c κs = search needs
@@ -35,10 +37,14 @@ same-length : tie.Need-same-length
 same-length c = search needs
 
 returns-3 : tie.Need-returns-3
-returns-3 c = search needs
+returns-3 c =
+    let done = c .before .before .before in
+    replied (search needs) (done .read-back .result) _ (read-back-carried (done .before .plate-of .ensures) (done .before .before .before .before .before .before .args .word) (done .read-back .result) (done .read-back .ensures)) (c .before .found .given .1) refl
 
 returns-4 : tie.Need-returns-4
-returns-4 c = search needs
+returns-4 c =
+    let done = c .before .before .before .before in
+    replied (search needs) (done .read-back .result) _ (read-back-carried (done .before .plate-of .ensures) (done .before .before .before .before .before .before .args .word) (done .read-back .result) (done .read-back .ensures)) (c .before .before .refusal .given .1) (same-code (c .refusal-number .ensures))
 
 pub yendrufal-read-back-spec : {M : Type 1} → statement M
 yendrufal-read-back-spec =

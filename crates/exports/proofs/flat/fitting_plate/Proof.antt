@@ -22,7 +22,7 @@ load-profile-requires : tie.Need-load-profile-requires
 load-profile-requires c κs = search needs
 
 returns : tie.Need-returns
-returns c = 
+returns c =
     let w = c .before .before .before .before .before .before .before .args .words .now in
     ap₂ (λ (r p : List ℕ). record { n = getD w 0 0; k = getD w 1 0; rows = r; profile = p }) (c .before .before .load-rows .ensures) (c .load-profile .ensures)
 

@@ -19,7 +19,7 @@ same-length : tie.Need-same-length
 same-length c = search needs
 
 returns : tie.Need-returns
-returns c = 
+returns c =
     let rows = c .before .before .before .before .before .before .before .before in
     let head = rows .before .before .before .before .before .before in
     let start = head .before .before .before in
