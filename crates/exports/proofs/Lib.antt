@@ -2,3 +2,4 @@ pub mod CellsCopied
 pub mod PlateStands
 pub mod PromisesCarried
 pub mod CallsMade
+pub mod DecodeCrossed

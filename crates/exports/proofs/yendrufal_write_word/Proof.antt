@@ -8,6 +8,9 @@ use Rattle.exports.specs.Flat.{plateOf}
 use Rattle.listings.specs.Lines.{wordLine}
 use Rattle.listings.specs.Writing.{WritesWord, entriesOf}
 use Rattle.plates.specs.declared.Plate.{Plate}
+use mir.Facts.{toZ-ofZ}
+use mir.Syntax.{w32}
+use mir.Val.{ofZ, toZ}
 use Rattle.exports.proofs.yendrufal_write_word.Statement.{statement}
 use Rattle.exports.proofs.yendrufal_write_word.Tie as tie
 use Rattle.exports.proofs.yendrufal_write_word.Reads as reads
@@ -38,7 +41,7 @@ returns-3 : tie.Need-returns-3
 returns-3 c =
     let done = c .before .before .before .before .before .before in
     let start = done .before .before .before .before .before .before .before .before in
-    wrote (WritesWord (plateOf (start .args .plate .now)) (start .args .word) (start .args .metric) (start .args .additions) (start .args .comparisons)) _ _ _ _ _ (done .write-word .result) (search needs) (write-carried (done .before .before .plate-of .ensures) (λ (p : Plate). wordLine (p .n) (start .args .word) (start .args .metric) (start .args .additions) (start .args .comparisons)) _ _ (done .write-word .result) (done .write-word .ensures)) (c .before .before .written-length .ensures)
+    wrote (WritesWord (plateOf (start .args .plate .now)) (start .args .word) (start .args .metric) (start .args .additions) (start .args .comparisons)) _ _ _ _ _ (done .write-word .result) (search needs) (rw (toZ-ofZ (start .fits .metric)) at (write-carried (done .before .before .plate-of .ensures) (λ (p : Plate). wordLine (p .n) (start .args .word) (toZ w32 (ofZ w32 (start .args .metric))) (start .args .additions) (start .args .comparisons)) _ _ (done .write-word .result) (done .write-word .ensures))) (c .before .before .written-length .ensures)
 
 pub yendrufal-write-word-spec : {M : Type 1} → statement M
 yendrufal-write-word-spec =
