@@ -3,3 +3,4 @@ pub mod PlateStands
 pub mod PromisesCarried
 pub mod CallsMade
 pub mod DecodeCrossed
+pub mod CallsDetermined

@@ -1,22 +1,13 @@
 // The C interface: the calls of the crates below over numbers and slices, as include/yendrufal.h has them. A plate crosses as a flat
 // run of words. No call asks anything of its caller: a run that is too short for its fixed use is answered by 101.
-ghost use mathlib.Core.Path.{_≡_};
-ghost use Prim.Native.Nat.{_≤_};
-ghost use lib.ListN.{length, set};
-ghost use Rattle.plates.specs.Refusals.{number, place};
-ghost use Rattle.exports.specs.Calls.{RefusedAt};
-ghost use Rattle.exports.specs.Crossing.{AnswerPut, LengthPut};
-ghost use Rattle.exports.specs.Promises.{CallsBranch, CallsDecode, CallsEncode, CallsPrepare, CallsReadBack, CallsWriteEnd, CallsWritePlate, CallsWriteProfile, CallsWriteRefused, CallsWriteWord, ShapeTested, decodeCells, kindOf};
+ghost use Rattle.exports.specs.Promises.{CallsBranch, CallsDecode, CallsEncode, CallsPrepare, CallsReadBack, CallsWriteEnd, CallsWritePlate, CallsWriteProfile, CallsWriteRefused, CallsWriteWord, decodeCells};
 use coding::Encoded;
 use coding::ReadBack;
-use decoding::Answer;
 use decoding::Decoded;
-use listings::Written;
-use plates::Kind;
-use plates::Refusal;
 use plates::Verdict;
 use trellises::Next;
 
+mod cells;
 mod flat;
 
 // The reply where a run is too short for its fixed use, or the kind is neither G nor H.
@@ -24,25 +15,6 @@ const MISSHAPEN: u64 = 101;
 
 // The reply where a state has no branch with the bit that was asked for.
 const NO_BRANCH: u64 = 100;
-
-// The number of a refusal, with its place in the first cell.
-fn refused_at(refusal: Refusal, at: &mut [u64]) -> u64
-    requires { ⌜ 1 ≤ length (now at) ⌝ }
-    ensures { λ r. ⌜ RefusedAt refusal (now (at .entry)) r (now (at .exit)) ⌝ }
-{
-    at[0] = plates::refusal_place(refusal) as u64;
-    plates::refusal_number(refusal)
-}
-
-// How a matrix is meant: 0 is G and 1 is H.
-fn kind_of(kind: u64) -> Kind
-    ensures { λ r. ⌜ r ≡ kindOf kind ⌝ }
-{
-    if kind == 0 {
-        return Kind::G;
-    }
-    Kind::H
-}
 
 // Turns a matrix into a plate.
 #[no_mangle]
@@ -64,7 +36,7 @@ pub extern "C" fn yendrufal_prepare(
     if at.len() < 1 {
         return MISSHAPEN;
     }
-    let made = plates::prepare(n as usize, kind_of(kind), rows);
+    let made = plates::prepare(n as usize, cells::kind_of(kind), rows);
     let verdict = made.verdict;
     match verdict {
         Verdict::Accepted => {
@@ -72,7 +44,7 @@ pub extern "C" fn yendrufal_prepare(
             at[0] = 0;
             0
         }
-        Verdict::Refused(refusal) => refused_at(refusal, at),
+        Verdict::Refused(refusal) => cells::refused_at(refusal, at),
     }
 }
 
@@ -143,38 +115,6 @@ pub extern "C" fn yendrufal_read_back(plate: &[u64], word: u64, information: &mu
     }
 }
 
-// Whether the runs that are lent to decode are long enough for their fixed use.
-fn decode_shaped(plate: usize, word: usize, metric: usize, counts: usize, at: usize) -> bool
-    ensures { λ r. ⌜ ShapeTested plate word metric counts at r ⌝ }
-{
-    if plate < 131 {
-        return false;
-    }
-    if word < 1 {
-        return false;
-    }
-    if metric < 1 {
-        return false;
-    }
-    if counts < 2 {
-        return false;
-    }
-    1 <= at
-}
-
-// The answer of decoding into its cells.
-fn put_answer(answer: Answer, word: &mut [u64], metric: &mut [i32], counts: &mut [u64])
-    requires { ⌜ (1 ≤ length (now word)) × (1 ≤ length (now metric)) × (2 ≤ length (now counts)) ⌝ }
-    ensures { λ _. ⌜ AnswerPut answer (now (word .entry)) (now (metric .entry)) (now (counts .entry)) (now (word .exit)) (now (metric .exit)) (now (counts .exit)) ⌝ }
-{
-    let best = answer.metric;
-    let counted = answer.counts;
-    word[0] = answer.word;
-    metric[0] = best;
-    counts[0] = counted.additions;
-    counts[1] = counted.comparisons;
-}
-
 // The codeword of greatest metric.
 #[no_mangle]
 pub extern "C" fn yendrufal_decode(
@@ -189,7 +129,7 @@ pub extern "C" fn yendrufal_decode(
 ) -> u64
     ensures { λ r. ⌜ CallsDecode (now (plate .entry)) (now (samples .entry)) (decodeCells (now (metrics .entry)) (now (decisions .entry)) (now (word .entry)) (now (metric .entry)) (now (counts .entry)) (now (at .entry))) r (decodeCells (now (metrics .exit)) (now (decisions .exit)) (now (word .exit)) (now (metric .exit)) (now (counts .exit)) (now (at .exit))) ⌝ }
 {
-    if !decode_shaped(
+    if !cells::decode_shaped(
         plate.len(),
         word.len(),
         metric.len(),
@@ -200,25 +140,11 @@ pub extern "C" fn yendrufal_decode(
     }
     match decoding::decode(flat::plate_of(plate), samples, metrics, decisions) {
         Decoded::Found(answer) => {
-            put_answer(answer, word, metric, counts);
+            cells::put_answer(answer, word, metric, counts);
             at[0] = 0;
             0
         }
-        Decoded::Refused(refusal) => refused_at(refusal, at),
-    }
-}
-
-// The length of a line that was written, in the first cell, or why it was refused.
-fn written_length(reply: Written, size: &mut [u64]) -> u64
-    requires { ⌜ 1 ≤ length (now size) ⌝ }
-    ensures { λ r. ⌜ LengthPut reply (now (size .entry)) r (now (size .exit)) ⌝ }
-{
-    match reply {
-        Written::Length(bytes) => {
-            size[0] = bytes as u64;
-            0
-        }
-        Written::Refused(refusal) => plates::refusal_number(refusal),
+        Decoded::Refused(refusal) => cells::refused_at(refusal, at),
     }
 }
 
@@ -233,7 +159,7 @@ pub extern "C" fn yendrufal_write_plate(plate: &[u64], line: &mut [u8], written:
     if written.len() < 1 {
         return MISSHAPEN;
     }
-    written_length(listings::write_plate(flat::plate_of(plate), line), written)
+    cells::written_length(listings::write_plate(flat::plate_of(plate), line), written)
 }
 
 // The line `profile`.
@@ -251,7 +177,7 @@ pub extern "C" fn yendrufal_write_profile(
     if written.len() < 1 {
         return MISSHAPEN;
     }
-    written_length(
+    cells::written_length(
         listings::write_profile(flat::plate_of(plate), line),
         written,
     )
@@ -276,7 +202,7 @@ pub extern "C" fn yendrufal_write_word(
     if written.len() < 1 {
         return MISSHAPEN;
     }
-    written_length(
+    cells::written_length(
         listings::write_word(
             flat::plate_of(plate),
             word,
@@ -302,7 +228,7 @@ pub extern "C" fn yendrufal_write_refused(
     if written.len() < 1 {
         return MISSHAPEN;
     }
-    written_length(listings::write_refused(number, place, line), written)
+    cells::written_length(listings::write_refused(number, place, line), written)
 }
 
 // The line `end`.
@@ -313,5 +239,5 @@ pub extern "C" fn yendrufal_write_end(count: u64, line: &mut [u8], written: &mut
     if written.len() < 1 {
         return MISSHAPEN;
     }
-    written_length(listings::write_end(count, line), written)
+    cells::written_length(listings::write_end(count, line), written)
 }

@@ -1,13 +1,13 @@
--- `exports::decode_shaped` meets its contract.
+-- `exports::cells::decode_shaped` meets its contract.
 use borrow.Author.Needs.{needs}
 use borrow.Author.Tests.{leb-false}
 use mathlib.Core.Path.{_≡_}
 use native.Mathlib.Omega.{arith}
 use Prim.Native.Nat.{ℕ}
-use Rattle.exports.proofs.decode_shaped.Statement.{statement}
-use Rattle.exports.proofs.decode_shaped.Tie as tie
-use Rattle.exports.proofs.decode_shaped.Reads as reads
-use Rattle.exports.proofs.decode_shaped.Lts as lts
+use Rattle.exports.proofs.cells.decode_shaped.Statement.{statement}
+use Rattle.exports.proofs.cells.decode_shaped.Tie as tie
+use Rattle.exports.proofs.cells.decode_shaped.Reads as reads
+use Rattle.exports.proofs.cells.decode_shaped.Lts as lts
 
 returns : tie.Need-returns
 returns c = record { yes-is = λ e. let z : _≡_ {A = ℕ} 0 1 = cc in absurd (omega arith); no-is = λ e s. omega (arith, s .0) }

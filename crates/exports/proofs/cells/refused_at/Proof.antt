@@ -1,12 +1,12 @@
--- `exports::refused_at` meets its contract.
+-- `exports::cells::refused_at` meets its contract.
 use borrow.Author.Needs.{needs}
 use mathlib.Core.Path.{ap}
 use lib.ListN.{set}
 use Prim.Native.Nat.{ℕ}
-use Rattle.exports.proofs.refused_at.Statement.{statement}
-use Rattle.exports.proofs.refused_at.Tie as tie
-use Rattle.exports.proofs.refused_at.Reads as reads
-use Rattle.exports.proofs.refused_at.Lts as lts
+use Rattle.exports.proofs.cells.refused_at.Statement.{statement}
+use Rattle.exports.proofs.cells.refused_at.Tie as tie
+use Rattle.exports.proofs.cells.refused_at.Reads as reads
+use Rattle.exports.proofs.cells.refused_at.Lts as lts
 
 refusal-place-requires : tie.Need-refusal-place-requires
 refusal-place-requires c κs = search needs
