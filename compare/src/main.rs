@@ -97,7 +97,9 @@ fn compare(library: Library, sheets: Option<&Path>, times: usize, seed: u64) {
     rooms::run(&mut comparison, &mut random);
     matrices::run(&mut comparison, &mut random, 3000 * times);
     damage::run(&mut comparison, &mut random, 20 * times);
-    sheets::run(&mut comparison, &mut random, 600 * times);
+    if comparison::LISTING {
+        sheets::run(&mut comparison, &mut random, 600 * times);
+    }
     comparison.report();
 }
 
