@@ -1,0 +1,121 @@
+//! Times the library against decoders in C and Rust and against exhaustive search: the same plates and
+//! samples, one after the other in one run. README.md beside this folder says how to build and run it.
+
+mod codes;
+mod contestants;
+#[allow(dead_code)]
+#[path = "../../compare/src/library.rs"]
+mod library;
+mod sections;
+mod steps;
+mod timing;
+
+use codes::{codes, Code};
+use contestants::{by_library, exhaustive, DECODERS};
+use std::hint::black_box;
+use timing::{best, clock};
+
+const ROUNDS: usize = 30;
+const BLOCKS: usize = 16;
+const SEARCHED: u64 = 16; // the greatest k for which all codewords are searched
+
+/// The library's plate of a code.
+fn prepare(code: &Code) -> Vec<u64> {
+    let (mut plate, mut place) = (vec![0; 131], 0);
+    let (rows, count) = (code.rows.as_ptr(), code.rows.len());
+    let reply = unsafe {
+        library::yendrufal_prepare(code.n as u64, 0, rows, count, plate.as_mut_ptr(), 131, &mut place, 1)
+    };
+    assert_eq!(reply, 0);
+    plate
+}
+
+/// The library's test of a plate: a branch with bit 2 is refused once the plate has passed it.
+fn plate_test(plate: &[u64]) {
+    let mut next = 0;
+    let reply = unsafe { library::yendrufal_branch(plate.as_ptr(), plate.len(), 0, 0, 2, &mut next, 1) };
+    assert_eq!(reply, 12);
+}
+
+/// Blocks of samples below a size, the same in every run.
+fn blocks(n: usize, count: usize, size: u64) -> Vec<Vec<i16>> {
+    let mut state = 88_172_645_463_325_252u64;
+    let mut sample = |_| {
+        state ^= state << 13;
+        state ^= state >> 7;
+        state ^= state << 17;
+        (state % (2 * size + 1)) as i16 - size as i16
+    };
+    (0..count).map(|_| (0..n).map(&mut sample).collect()).collect()
+}
+
+/// All decoders must give the same answers, ties included, before any is timed.
+fn agree(plate: &[u64], n: usize) {
+    let (metrics, decisions) = (&mut vec![0; 8192], &mut vec![0; 4096]);
+    for block in blocks(n, 8, 127).iter().chain(&blocks(n, 8, 1)) {
+        let first = by_library(plate, block, metrics, decisions);
+        for (name, decoder) in DECODERS {
+            assert_eq!(decoder(plate, block, metrics, decisions), first, "{name}");
+        }
+        assert!(plate[1] > 12 || exhaustive(plate, block) == first);
+    }
+}
+
+/// The branches of a plate's trellis.
+fn branches(plate: &[u64]) -> u64 {
+    let rows = &plate[2..2 + plate[1] as usize];
+    let begins = |t| rows.iter().any(|row| u64::from(row.trailing_zeros()) == t);
+    (0..plate[0]).map(|t| 1 << (plate[66 + t as usize] + u64::from(begins(t)))).sum()
+}
+
+fn row(name: &str, nanoseconds: f64, library: f64, cycles: Option<f64>) {
+    let ratio = nanoseconds / library;
+    let cycles = cycles.map_or(String::new(), |cycles| format!("{cycles:8.2} cycles a branch"));
+    println!("  {name:26}{nanoseconds:12.0} ns a block  {ratio:9.2} x library  {cycles}");
+}
+
+/// The least nanoseconds a block of each decoder, taken in turn round by round.
+fn time_decoders(plate: &[u64], blocks: &[Vec<i16>], times: usize) -> [f64; DECODERS.len()] {
+    let (mut metrics, mut decisions) = (vec![0; 8192], vec![0; 4096]);
+    let mut least = [f64::MAX; DECODERS.len()];
+    for _ in 0..ROUNDS {
+        for (least, (_, decoder)) in least.iter_mut().zip(DECODERS) {
+            let time = best(1, || {
+                for block in blocks.iter().cycle().take(times * BLOCKS) {
+                    black_box(decoder(plate, black_box(block), &mut metrics, &mut decisions));
+                }
+            });
+            *least = least.min(time / (times * BLOCKS) as f64);
+        }
+    }
+    least
+}
+
+fn time_code(code: &Code, clock: f64) {
+    let plate = prepare(code);
+    let (widest, branches) = (sections::widest(&plate), branches(&plate));
+    println!("{}: k {}, m {widest}, {branches} branches", code.name, plate[1]);
+    agree(&plate, code.n);
+    let blocks = blocks(code.n, BLOCKS, 127);
+    let least = time_decoders(&plate, &blocks, (20_000 / branches as usize).max(1));
+    for ((name, _), time) in DECODERS.iter().zip(least) {
+        row(name, time, least[0], Some(time * clock / branches as f64));
+    }
+    if plate[1] <= SEARCHED {
+        let search = || _ = black_box(exhaustive(&plate, black_box(&blocks[0])));
+        row("exhaustive search, Rust -O", best(3, search), least[0], None);
+    }
+    let prepared = best(ROUNDS, || (0..100).for_each(|_| _ = black_box(prepare(code)))) / 100.0;
+    let tested = best(ROUNDS, || (0..100).for_each(|_| plate_test(black_box(&plate)))) / 100.0;
+    println!("  library's prepare {prepared:.0} ns a call, plate test {tested:.0} ns a call\n");
+}
+
+fn main() {
+    let clock = clock();
+    println!("core clock {clock:.2} GHz (sums that wait for each other, one a cycle)");
+    println!("times are the least of {ROUNDS} rounds, the decoders taken in turn");
+    println!("rooms: cleared before every block; each decoder leaves what it used zero, within its time");
+    println!("the library also tests plate and samples and counts branches, within its time\n");
+    let wanted = std::env::args().nth(1).unwrap_or_default();
+    codes().iter().filter(|code| code.name.contains(&wanted)).for_each(|code| time_code(code, clock));
+}

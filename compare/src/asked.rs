@@ -1,0 +1,99 @@
+//! Makers of calls. `Rooms` says how long the lent runs are, so that any of them can be too short.
+
+use crate::call::{Call, Name, Run};
+
+/// Lengths of lent runs, other than the working rooms: by default what each use fixes.
+#[derive(Clone, Copy)]
+pub struct Rooms {
+    pub plate: usize,
+    pub single: usize,
+    pub counts: usize,
+    pub place: usize,
+}
+
+pub const FIXED: Rooms = Rooms { plate: 131, single: 1, counts: 2, place: 1 };
+
+/// A plate as it is lent: cut or lengthened to the wanted number of cells.
+fn lent_plate(flat: &[u64], rooms: Rooms) -> Run {
+    let mut words = flat.to_vec();
+    words.resize(rooms.plate, 0);
+    Run::of_words("plate", &words)
+}
+
+pub fn prepare(n: u64, kind: u64, rows: &[u64], rooms: Rooms) -> Call {
+    let runs = vec![
+        Run::of_words("rows", rows),
+        Run::room_words("plate", rooms.plate),
+        Run::room_words("place", rooms.place),
+    ];
+    Call { name: Name::Prepare, numbers: vec![n, kind], runs }
+}
+
+pub fn branch(flat: &[u64], depth: u64, state: u64, bit: u64, rooms: Rooms) -> Call {
+    let runs = vec![lent_plate(flat, rooms), Run::room_words("next", rooms.single)];
+    Call { name: Name::Branch, numbers: vec![depth, state, bit], runs }
+}
+
+pub fn encode(flat: &[u64], information: u64, rooms: Rooms) -> Call {
+    let runs = vec![lent_plate(flat, rooms), Run::room_words("word", rooms.single)];
+    Call { name: Name::Encode, numbers: vec![information], runs }
+}
+
+pub fn read_back(flat: &[u64], word: u64, rooms: Rooms) -> Call {
+    let runs = vec![lent_plate(flat, rooms), Run::room_words("information", rooms.single)];
+    Call { name: Name::ReadBack, numbers: vec![word], runs }
+}
+
+pub fn decode(flat: &[u64], samples: &[i16], metrics: usize, decisions: usize, rooms: Rooms) -> Call {
+    let runs = vec![
+        lent_plate(flat, rooms),
+        Run::of_samples("samples", samples),
+        Run::room_metrics("metrics", metrics),
+        Run::room_words("decisions", decisions),
+        Run::room_words("word", rooms.single),
+        Run::room_metrics("metric", rooms.single),
+        Run::room_words("counts", rooms.counts),
+        Run::room_words("place", rooms.place),
+    ];
+    Call { name: Name::Decode, numbers: vec![], runs }
+}
+
+pub fn write_plate(flat: &[u64], line: usize, rooms: Rooms) -> Call {
+    let runs = vec![
+        lent_plate(flat, rooms),
+        Run::room_bytes("line", line),
+        Run::room_words("written", rooms.single),
+    ];
+    Call { name: Name::WritePlate, numbers: vec![], runs }
+}
+
+pub fn write_profile(flat: &[u64], line: usize, rooms: Rooms) -> Call {
+    Call { name: Name::WriteProfile, ..write_plate(flat, line, rooms) }
+}
+
+/// `values`: the word, the metric, the additions and the comparisons.
+pub fn write_word(flat: &[u64], values: (u64, i32, u64, u64), line: usize, rooms: Rooms) -> Call {
+    let (word, metric, additions, comparisons) = values;
+    let numbers = vec![word, metric as i64 as u64, additions, comparisons];
+    Call { name: Name::WriteWord, numbers, ..write_plate(flat, line, rooms) }
+}
+
+pub fn write_refused(number: u64, place: u64, line: usize, rooms: Rooms) -> Call {
+    let runs = vec![Run::room_bytes("line", line), Run::room_words("written", rooms.single)];
+    Call { name: Name::WriteRefused, numbers: vec![number, place], runs }
+}
+
+pub fn write_end(count: u64, line: usize, rooms: Rooms) -> Call {
+    Call { name: Name::WriteEnd, numbers: vec![count], ..write_refused(0, 0, line, rooms) }
+}
+
+pub fn listing(sheet: &[u8], metrics: usize, decisions: usize, listing: usize, rooms: Rooms) -> Call {
+    let runs = vec![
+        Run::of_bytes("sheet", sheet),
+        Run::room_metrics("metrics", metrics),
+        Run::room_words("decisions", decisions),
+        Run::room_bytes("listing", listing),
+        Run::room_words("written", rooms.single),
+    ];
+    Call { name: Name::Listing, numbers: vec![], runs }
+}

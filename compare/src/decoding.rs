@@ -1,0 +1,132 @@
+//! Decoding by search: every codeword where they are few, else a forward pass that carries whole
+//! beginnings of codewords.
+
+use crate::coding::encode;
+use crate::linear::Basis;
+use crate::plate::{refuse, Plate, Refusal};
+use crate::words::{earlier, metric, ones_before};
+use std::collections::HashMap;
+use std::hash::{BuildHasherDefault, Hasher};
+
+#[derive(Clone, Copy, Debug, PartialEq, Eq)]
+pub struct Decoded {
+    pub word: u64,
+    pub metric: i32,
+    pub additions: u64,
+    pub comparisons: u64,
+}
+
+/// A cheap hash for syndromes; the library's own hash would take most of the time.
+#[derive(Default)]
+struct Mixed(u64);
+
+impl Hasher for Mixed {
+    fn write(&mut self, _: &[u8]) {
+        unreachable!("only words are hashed")
+    }
+
+    fn write_u64(&mut self, word: u64) {
+        let product = word.wrapping_mul(0x9e37_79b9_7f4a_7c15);
+        self.0 = product ^ product >> 32;
+    }
+
+    fn finish(&self) -> u64 {
+        self.0
+    }
+}
+
+/// For each syndrome of a beginning its best metric and the earliest beginning of that metric.
+type Beginnings = HashMap<u64, (i32, u64), BuildHasherDefault<Mixed>>;
+
+/// Whether the first of two (metric, word) is to be preferred.
+fn preferred(a: (i32, u64), b: (i32, u64)) -> bool {
+    a.0 > b.0 || a.0 == b.0 && earlier(a.1, b.1)
+}
+
+/// The best of all codewords, one by one.
+pub fn of_all_codewords(plate: &Plate, samples: &[i16]) -> (i32, u64) {
+    let mut best = (metric(0, samples), 0);
+    for information in 1..=ones_before(plate.k()) {
+        let word = encode(plate, information).unwrap();
+        let found = (metric(word, samples), word);
+        if preferred(found, best) {
+            best = found;
+        }
+    }
+    best
+}
+
+/// One position more on every beginning, those kept that some codeword continues.
+fn lengthened(begun: &Beginnings, position: usize, sample: i16, column: u64, rest: &Basis) -> Beginnings {
+    let mut longer = Beginnings::with_capacity_and_hasher(2 * begun.len(), Default::default());
+    for (&syndrome, &(value, word)) in begun {
+        let with_zero = (syndrome, (value + i32::from(sample), word));
+        let with_one = (syndrome ^ column, (value - i32::from(sample), word | 1 << position));
+        for (syndrome, found) in [with_zero, with_one] {
+            if rest.express(syndrome).is_none() {
+                continue;
+            }
+            let kept = longer.entry(syndrome).or_insert(found);
+            if preferred(found, *kept) {
+                *kept = found;
+            }
+        }
+    }
+    longer
+}
+
+/// The best codeword by a forward pass. Beginnings with equal syndromes go on alike, so of each such
+/// class only the best beginning, and of equals the earliest, can begin the answer.
+pub fn by_forward_pass(plate: &Plate, samples: &[i16]) -> (i32, u64) {
+    let mut rests = vec![Basis::new()];
+    for &column in plate.columns.iter().rev() {
+        let mut longer = rests.last().unwrap().clone();
+        longer.insert(column, 0);
+        rests.push(longer);
+    }
+    let mut begun = Beginnings::default();
+    begun.insert(0, (0, 0));
+    for (t, &sample) in samples.iter().enumerate() {
+        begun = lengthened(&begun, t, sample, plate.columns[t], &rests[plate.n - t - 1]);
+    }
+    begun[&0]
+}
+
+/// The paper's two formulas over the profile: additions and comparisons.
+pub fn counts(plate: &Plate) -> (u64, u64) {
+    let begins = |t: usize| plate.rows.iter().any(|row| row.trailing_zeros() as usize == t);
+    let states = |t: usize| 1u64 << plate.profile[t];
+    let additions = (0..plate.n).map(|t| if begins(t) { 2 * states(t) } else { states(t) }).sum();
+    let entered: u64 = (1..=plate.n).map(states).sum();
+    (additions, additions - entered)
+}
+
+/// Refusals 6 to 9, in this order, for samples and rooms of these lengths.
+pub fn refused(
+    plate: &Plate,
+    samples: &[i16],
+    metric_count: usize,
+    decision_count: usize,
+) -> Result<(), Refusal> {
+    if samples.len() != plate.n {
+        return refuse(6, 0);
+    }
+    if let Some(place) = samples.iter().position(|&y| !(-127..=127).contains(&y)) {
+        return refuse(7, place);
+    }
+    if metric_count < plate.metrics_needed() {
+        return refuse(8, 0);
+    }
+    if decision_count < plate.decisions_needed() {
+        return refuse(9, 0);
+    }
+    Ok(())
+}
+
+/// The answer for `n` permitted samples.
+pub fn decode(plate: &Plate, samples: &[i16]) -> Decoded {
+    let few = plate.k() <= 8;
+    let (metric, word) = if few { of_all_codewords(plate, samples) } else { by_forward_pass(plate, samples) };
+    let (additions, comparisons) = counts(plate);
+    Decoded { word, metric, additions, comparisons }
+}

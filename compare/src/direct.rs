@@ -1,0 +1,67 @@
+//! The library linked into this program: a call's runs are lent to it as they are.
+
+use crate::call::{Call, Name};
+use crate::library::*;
+
+/// A run as pointer and length, by the kind of its cells.
+macro_rules! lent {
+    ($run:expr, $cells:ident) => {{
+        let cells = $run.$cells();
+        (cells.as_mut_ptr(), cells.len())
+    }};
+}
+
+/// The library's reply to a call; the runs are changed in place.
+pub fn answer(call: &mut Call) -> u64 {
+    let n = call.numbers.clone();
+    let r = &mut call.runs[..];
+    match call.name {
+        Name::Prepare => {
+            let ((rows, a), (plate, b), (place, c)) =
+                (lent!(r[0], words), lent!(r[1], words), lent!(r[2], words));
+            unsafe { yendrufal_prepare(n[0], n[1], rows, a, plate, b, place, c) }
+        }
+        Name::Branch | Name::Encode | Name::ReadBack => {
+            let ((plate, a), (cell, b)) = (lent!(r[0], words), lent!(r[1], words));
+            match call.name {
+                Name::Branch => unsafe { yendrufal_branch(plate, a, n[0], n[1], n[2], cell, b) },
+                Name::Encode => unsafe { yendrufal_encode(plate, a, n[0], cell, b) },
+                _ => unsafe { yendrufal_read_back(plate, a, n[0], cell, b) },
+            }
+        }
+        Name::Decode => decode(call),
+        Name::WriteRefused | Name::WriteEnd => {
+            let ((line, a), (written, b)) = (lent!(r[0], bytes), lent!(r[1], words));
+            match call.name {
+                Name::WriteRefused => unsafe { yendrufal_write_refused(n[0], n[1], line, a, written, b) },
+                _ => unsafe { yendrufal_write_end(n[0], line, a, written, b) },
+            }
+        }
+        Name::WritePlate | Name::WriteProfile | Name::WriteWord => write_of_plate(call),
+        Name::Listing => unreachable!("the library has no listing yet"),
+    }
+}
+
+fn decode(call: &mut Call) -> u64 {
+    let r = &mut call.runs[..];
+    let ((plate, a), (samples, b)) = (lent!(r[0], words), lent!(r[1], samples));
+    let ((metrics, c), (decisions, d)) = (lent!(r[2], metrics), lent!(r[3], words));
+    let ((word, e), (metric, f)) = (lent!(r[4], words), lent!(r[5], metrics));
+    let ((counts, g), (place, h)) = (lent!(r[6], words), lent!(r[7], words));
+    unsafe {
+        yendrufal_decode(
+            plate, a, samples, b, metrics, c, decisions, d, word, e, metric, f, counts, g, place, h,
+        )
+    }
+}
+
+fn write_of_plate(call: &mut Call) -> u64 {
+    let n = call.numbers.clone();
+    let r = &mut call.runs[..];
+    let ((plate, a), (line, b), (written, c)) = (lent!(r[0], words), lent!(r[1], bytes), lent!(r[2], words));
+    match call.name {
+        Name::WritePlate => unsafe { yendrufal_write_plate(plate, a, line, b, written, c) },
+        Name::WriteProfile => unsafe { yendrufal_write_profile(plate, a, line, b, written, c) },
+        _ => unsafe { yendrufal_write_word(plate, a, n[0], n[1] as i32, n[2], n[3], line, b, written, c) },
+    }
+}

@@ -1,0 +1,113 @@
+//! Compares the library, over its C interface, with an independent model of the paper on many inputs.
+//! README.md beside this folder says how to build and run it.
+
+mod asked;
+mod bridge;
+mod brute;
+mod call;
+mod coding;
+mod comparison;
+mod damage;
+mod decoding;
+#[cfg(linked)]
+mod direct;
+mod itself;
+#[cfg(linked)]
+mod library;
+mod linear;
+mod listing;
+mod matrices;
+mod model;
+mod plate;
+mod random;
+mod rooms;
+mod sheet;
+mod sheets;
+mod small;
+mod trellis;
+mod words;
+mod worked;
+
+use bridge::Bridge;
+use comparison::{Comparison, Library};
+use random::Random;
+use std::path::{Path, PathBuf};
+use std::process::exit;
+
+const USAGE: &str = "usage: compare [--self] [--sheets FOLDER] [--times N] [--seed N] [--through COMMAND ..]
+  --self            hold the model to the definitions and worked examples; asks no library
+  --sheets FOLDER   also every NAME.sheet of a folder against its NAME.listing
+  --times N         N times as many random inputs
+  --seed N          other random inputs
+  --through ..      ask the library through a bridge that this command starts (last on the line)";
+
+struct Wanted {
+    itself: bool,
+    sheets: Option<PathBuf>,
+    times: usize,
+    seed: u64,
+    through: Vec<String>,
+}
+
+fn usage() -> ! {
+    eprintln!("{USAGE}");
+    exit(2)
+}
+
+fn wanted() -> Wanted {
+    let mut wanted = Wanted { itself: false, sheets: None, times: 1, seed: 1, through: Vec::new() };
+    let mut words = std::env::args().skip(1);
+    while let Some(word) = words.next() {
+        match word.as_str() {
+            "--self" => wanted.itself = true,
+            "--sheets" => wanted.sheets = Some(words.next().unwrap_or_else(|| usage()).into()),
+            "--times" => wanted.times = words.next().and_then(|n| n.parse().ok()).unwrap_or_else(|| usage()),
+            "--seed" => wanted.seed = words.next().and_then(|n| n.parse().ok()).unwrap_or_else(|| usage()),
+            "--through" => wanted.through = words.by_ref().collect(),
+            _ => usage(),
+        }
+    }
+    wanted
+}
+
+/// The library as this program was built or told to reach it.
+fn library(through: &[String]) -> Library {
+    if !through.is_empty() {
+        return Library::Bridged(Bridge::start(through));
+    }
+    #[cfg(linked)]
+    return Library::Linked;
+    #[cfg(not(linked))]
+    {
+        eprintln!("built without the library: --self or --through\n{USAGE}");
+        exit(2)
+    }
+}
+
+fn compare(library: Library, sheets: Option<&Path>, times: usize, seed: u64) {
+    let mut comparison = Comparison::new(library);
+    let mut random = Random::new(seed);
+    comparison.begin("worked examples");
+    worked::examples(&mut |call| comparison.agree(call));
+    if let Some(folder) = sheets {
+        comparison.begin("outside sheets");
+        worked::outside_sheets(folder, &mut |call| comparison.agree(call));
+    }
+    small::run(&mut comparison);
+    rooms::run(&mut comparison, &mut random);
+    matrices::run(&mut comparison, &mut random, 3000 * times);
+    damage::run(&mut comparison, &mut random, 20 * times);
+    if comparison::LISTING {
+        sheets::run(&mut comparison, &mut random, 600 * times);
+    }
+    comparison.report();
+}
+
+fn main() {
+    let wanted = wanted();
+    if wanted.itself {
+        itself::run(wanted.sheets.as_deref());
+    } else {
+        compare(library(&wanted.through), wanted.sheets.as_deref(), wanted.times, wanted.seed);
+    }
+}

@@ -1,0 +1,159 @@
+//! Short, exact and long rooms, extreme samples, and bad arguments in every order of refusals.
+
+use crate::asked::{self, Rooms, FIXED};
+use crate::comparison::Comparison;
+use crate::listing::{end_line, plate_line, profile_line, refused_line, word_line};
+use crate::plate::{prepare, Kind, Plate, Refusal};
+use crate::random::{samples, Random};
+use crate::words::ones_before;
+
+/// One plate of each width 0 to 12.
+fn plates() -> impl Iterator<Item = Plate> {
+    let rows = |width: usize| (0..width).map(|i| 1 << i | 1 << (i + width)).collect::<Vec<u64>>();
+    (0..=12).map(move |width| prepare(2 * width as u64 + 1, Kind::G, &rows(width)).unwrap())
+}
+
+/// Lengths about the one that is needed.
+fn about(needed: usize) -> [usize; 5] {
+    [0, needed - 1, needed, needed + 1, needed + 9]
+}
+
+fn working_rooms(comparison: &mut Comparison, random: &mut Random, plate: &Plate) {
+    let flat = plate.flat();
+    for metrics in about(plate.metrics_needed()) {
+        for decisions in about(plate.decisions_needed()) {
+            let block = samples(random, plate.n);
+            comparison.agree(asked::decode(&flat, &block, metrics, decisions, FIXED));
+        }
+    }
+}
+
+/// Samples at and beyond their bounds, in number and in size, with good rooms and with none.
+fn bad_samples(comparison: &mut Comparison, random: &mut Random, plate: &Plate) {
+    let flat = plate.flat();
+    let (metrics, decisions) = (plate.metrics_needed(), plate.decisions_needed());
+    for value in [127, -127, 128, -128, 129, 255, 256, -256, i16::MAX, i16::MIN] {
+        let mut block = samples(random, plate.n);
+        let place = random.below(plate.n);
+        block[place] = value;
+        if random.one_in(2) {
+            block[place..].fill(value);
+        }
+        comparison.agree(asked::decode(&flat, &block, metrics, decisions, FIXED));
+        comparison.agree(asked::decode(&flat, &block, 0, decisions, FIXED));
+        comparison.agree(asked::decode(&flat, &block, metrics, 0, FIXED));
+        block.push(value);
+        comparison.agree(asked::decode(&flat, &block, 0, 0, FIXED));
+    }
+}
+
+/// Too few and too many samples, and blocks of one value only.
+fn plain_samples(comparison: &mut Comparison, plate: &Plate) {
+    let flat = plate.flat();
+    for count in [0, plate.n - 1, plate.n, plate.n + 1, 65, 200] {
+        for value in [127, -127, 0, 1, -1] {
+            let (metrics, decisions) = (plate.metrics_needed(), plate.decisions_needed());
+            comparison.agree(asked::decode(&flat, &vec![value; count], metrics, decisions, FIXED));
+        }
+    }
+}
+
+/// Each argument of the calls at its bounds.
+fn bad_arguments(comparison: &mut Comparison, plate: &Plate) {
+    let (flat, n, k) = (plate.flat(), plate.n, plate.k());
+    for depth in (0..=n as u64 + 1).chain([1 << 32, 1 << 63, u64::MAX]) {
+        let states = plate.profile.get(depth as usize).map_or(1, |&s| 1 << s);
+        for state in [0, states - 1, states, states + 1, 1 << 32, 1 << 63, u64::MAX] {
+            for bit in [0, 1, 2, 3, 256, 1 << 32, u64::MAX] {
+                comparison.agree(asked::branch(&flat, depth, state, bit, FIXED));
+            }
+        }
+    }
+    for position in 0..64 {
+        comparison.agree(asked::encode(&flat, 1 << position, FIXED));
+        comparison.agree(asked::read_back(&flat, 1 << position, FIXED));
+        comparison.agree(asked::read_back(&flat, plate.rows.first().unwrap_or(&0) ^ 1 << position, FIXED));
+    }
+    for ones in [ones_before(k), u64::MAX, !ones_before(k)] {
+        comparison.agree(asked::encode(&flat, ones, FIXED));
+        comparison.agree(asked::read_back(&flat, ones, FIXED));
+    }
+}
+
+/// Lines into rooms of every length up to some bytes more than they need.
+fn lines(comparison: &mut Comparison, plate: &Plate) {
+    let flat = plate.flat();
+    for room in 0..plate_line(plate).len() + 4 {
+        comparison.agree(asked::write_plate(&flat, room, FIXED));
+    }
+    for room in 0..profile_line(plate).len() + 4 {
+        comparison.agree(asked::write_profile(&flat, room, FIXED));
+    }
+    let most = u64::MAX;
+    let many = [(0, 0, 0, 0), (most, i32::MIN, most, most), (!0 << 7, i32::MAX, 10, 9), (5, -10, 99, 100)];
+    for (word, metric, additions, comparisons) in many {
+        for room in 0..word_line(plate, word, metric, additions, comparisons).len() + 4 {
+            comparison.agree(asked::write_word(&flat, (word, metric, additions, comparisons), room, FIXED));
+        }
+    }
+}
+
+/// Lines without a plate, over numbers of every length.
+fn plain_lines(comparison: &mut Comparison) {
+    let tens = (0..20).map(|i| 10u64.pow(i));
+    for value in tens.flat_map(|ten| [ten - 1, ten, ten + 1]).chain([u64::MAX - 1, u64::MAX]) {
+        for room in 0..end_line(value).len() + 4 {
+            comparison.agree(asked::write_end(value, room, FIXED));
+        }
+        for (number, place) in [(value, 0), (0, value), (value, u64::MAX - value)] {
+            for room in 0..refused_line(Refusal { number, place }).len() + 4 {
+                comparison.agree(asked::write_refused(number, place, room, FIXED));
+            }
+        }
+    }
+}
+
+/// Every run of fixed use at lengths about its own; matrices of no kind.
+fn shapes(comparison: &mut Comparison, plate: &Plate) {
+    let (flat, block) = (plate.flat(), vec![1; plate.n]);
+    let (metrics, decisions) = (plate.metrics_needed(), plate.decisions_needed());
+    for code in 0..5 * 3 * 4 * 3 {
+        let length = [131, 0, 130, 132, 140][code % 5];
+        let rooms = Rooms { plate: length, single: code / 5 % 3, counts: code / 15 % 4, place: code / 60 };
+        comparison.agree(asked::branch(&flat, 0, 0, 0, rooms));
+        comparison.agree(asked::encode(&flat, 1, rooms));
+        comparison.agree(asked::read_back(&flat, 0, rooms));
+        comparison.agree(asked::decode(&flat, &block, metrics, decisions, rooms));
+        comparison.agree(asked::decode(&flat, &[300], 0, 0, rooms));
+        comparison.agree(asked::write_plate(&flat, 256, rooms));
+        comparison.agree(asked::write_profile(&flat, 256, rooms));
+        comparison.agree(asked::write_word(&flat, (0, 0, 0, 0), 256, rooms));
+        comparison.agree(asked::write_refused(1, 0, 256, rooms));
+        comparison.agree(asked::write_end(1, 256, rooms));
+        for (n, kind, rows) in [
+            (8, 0, &[3, 5][..]),
+            (8, 1, &[3, 5]),
+            (8, 2, &[]),
+            (0, u64::MAX, &[]),
+            (0, 0, &[]),
+            (8, 1, &[1, 256]),
+        ] {
+            comparison.agree(asked::prepare(n, kind, rows, rooms));
+        }
+    }
+}
+
+pub fn run(comparison: &mut Comparison, random: &mut Random) {
+    comparison.begin("rooms, samples and arguments at their bounds");
+    plain_lines(comparison);
+    for plate in plates() {
+        working_rooms(comparison, random, &plate);
+        bad_samples(comparison, random, &plate);
+        plain_samples(comparison, &plate);
+        bad_arguments(comparison, &plate);
+        lines(comparison, &plate);
+        if plate.widest() < 3 {
+            shapes(comparison, &plate);
+        }
+    }
+}

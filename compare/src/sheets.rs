@@ -1,0 +1,153 @@
+//! Random, damaged and awkward sheets.
+
+use crate::asked::{self, FIXED};
+use crate::comparison::Comparison;
+use crate::model::{DECISIONS_MOST, LISTING_MOST, METRICS_MOST};
+use crate::random::{matrix, samples, Random};
+use crate::sheet::SHEET_MOST;
+use crate::words::printed;
+
+/// Sheets that stand just inside or outside of the grammar.
+const AWKWARD: [&str; 44] = [
+    "",
+    "\n",
+    "cover",
+    "cover\n",
+    "cover\t1\tG\tfirst",
+    "cover\t1\tG\tfirst\n",
+    "cover\t1\tG\tfirst\nend",
+    "cover\t1\tG\tfirst\nend\n",
+    "cover\t1\tG\tfirst\nend\n\n",
+    "cover\t1\tG\tfirst\nend\nend\n",
+    "cover\t1\tG\tfirst\nend\nx",
+    "cover\t1\tG\tfirst\nend\t\n",
+    "cover\t1\tG\tfirst\r\nend\r\n",
+    "cover\t01\tG\tfirst\nend\n",
+    "cover\t0\tG\tfirst\nend\n",
+    "cover\t0\tG\tfirst\nbad\n",
+    "cover\t65\tG\tlast\nbad\n",
+    "cover\t999\tG\tlast\nend\n",
+    "cover\t1000\tG\tlast\nend\n",
+    "cover\t-1\tG\tlast\nend\n",
+    "cover\t+1\tG\tlast\nend\n",
+    "cover\t\tG\tlast\nend\n",
+    "cover\t1\tg\tlast\nend\n",
+    "cover\t1\tGG\tlast\nend\n",
+    "cover\t1\tH\tLast\nend\n",
+    "cover\t1\tH\tlast\t\nend\n",
+    "cover\t1\tH\tlast \nend\n",
+    " cover\t1\tH\tlast\nend\n",
+    "Cover\t1\tH\tlast\nend\n",
+    "cover 1 H last\nend\n",
+    "row\t1\nend\n",
+    "cover\t2\tG\tlast\nrow\t10\nblock\t-3\t4\nrow\t01\nend\n",
+    "cover\t2\tG\tlast\nrow\t1\nend\n",
+    "cover\t2\tG\tlast\nrow\t100\nend\n",
+    "cover\t2\tG\tlast\nrow\t12\nend\n",
+    "cover\t2\tG\tlast\nrow\nend\n",
+    "cover\t2\tG\tlast\nrow\t10\t\nend\n",
+    "cover\t2\tG\tlast\nrow\t10\nblock\nblock\t1\nblock\t1\t2\t3\nblock\t9999\t-9999\nblock\t-1\t128\nend\n",
+    "cover\t2\tG\tlast\nblock\t-0\t1\nend\n",
+    "cover\t2\tG\tlast\nblock\t00\t1\nend\n",
+    "cover\t2\tG\tlast\nblock\t10000\t1\nend\n",
+    "cover\t2\tG\tlast\nblock\t--1\t1\nend\n",
+    "cover\t2\tG\tlast\nblock\t-\t1\nend\n",
+    "cover\t2\tG\tlast\nblock\t1\t2\t\nend\n",
+];
+
+fn list(comparison: &mut Comparison, sheet: &[u8]) {
+    comparison.agree(asked::listing(sheet, METRICS_MOST, DECISIONS_MOST, LISTING_MOST, FIXED));
+}
+
+/// A sheet in order, but for matrices that are too wide and blocks that meet 6 or 7.
+fn sheet(random: &mut Random) -> Vec<u8> {
+    let matrix = matrix(random);
+    let n = matrix.n as usize;
+    let (kind, order) = (random.pick(&["G", "H"]), random.pick(&["first", "last"]));
+    let mut text = format!("cover\t{n}\t{kind}\t{order}\n");
+    for row in &matrix.rows {
+        text += &format!("row\t{}\n", printed(*row, n));
+    }
+    for _ in 0..random.below(4) {
+        let count = if random.one_in(6) { random.below(70) } else { n };
+        let mut block = samples(random, count);
+        if random.one_in(5) && count > 0 {
+            block[random.below(count)] = random.pick(&[128, -128, 999, -9999]);
+        }
+        let fields: String = block.iter().map(|y| format!("\t{y}")).collect();
+        text += &format!("block{fields}\n");
+    }
+    (text + "end\n").into_bytes()
+}
+
+/// One small damage somewhere in the sheet.
+fn damaged(random: &mut Random, mut sheet: Vec<u8>) -> Vec<u8> {
+    let at = random.below(sheet.len());
+    match random.below(6) {
+        0 => drop(sheet.remove(at)),
+        1 => sheet.insert(at, random.pick(b"\t\n01-9 xGHrbce\x00\xff")),
+        2 => sheet[at] = random.pick(b"\t\n01-92 xGHrbce\x00\xff\r"),
+        3 => sheet.truncate(at),
+        4 => sheet[at] ^= 1 << random.below(8),
+        _ => return lines_moved(random, &sheet),
+    }
+    sheet
+}
+
+/// A line left out, doubled or moved.
+fn lines_moved(random: &mut Random, sheet: &[u8]) -> Vec<u8> {
+    let mut lines: Vec<&[u8]> = sheet.split_inclusive(|&b| b == b'\n').collect();
+    let (from, to) = (random.below(lines.len()), random.below(lines.len()));
+    match random.below(3) {
+        0 => drop(lines.remove(from)),
+        1 => lines.insert(to, lines[from]),
+        _ => lines.swap(from, to),
+    }
+    lines.concat()
+}
+
+/// Sheets about the greatest length, and about the greatest number of rows.
+fn long_sheets() -> Vec<Vec<u8>> {
+    let mut sheets = Vec::new();
+    for length in [SHEET_MOST - 1, SHEET_MOST, SHEET_MOST + 1, 2 * SHEET_MOST] {
+        let mut sheet = b"cover\t1\tH\tlast\n".to_vec();
+        while sheet.len() + 4 + 6 + 8 < length {
+            sheet.extend(b"block\n");
+        }
+        sheet.extend(b"block\t");
+        sheet.resize(length - 5, b'1');
+        sheet.extend(b"\nend\n");
+        sheets.push(sheet);
+        sheets.push(vec![b'x'; length]);
+    }
+    for (rows, kind) in [(63, "G"), (64, "H"), (65, "G"), (65, "H"), (400, "G")] {
+        let row = "row\t0110\n".repeat(rows);
+        sheets.push(format!("cover\t4\t{kind}\tfirst\n{row}block\t1\t2\t3\t4\nend\n").into_bytes());
+        sheets.push(format!("cover\t4\t{kind}\tfirst\n{row}block\t1\t2\t3\t4\n").into_bytes());
+    }
+    sheets
+}
+
+pub fn run(comparison: &mut Comparison, random: &mut Random, count: usize) {
+    comparison.begin("sheets");
+    AWKWARD.iter().for_each(|text| list(comparison, text.as_bytes()));
+    long_sheets().iter().for_each(|sheet| list(comparison, sheet));
+    let good = AWKWARD[7].as_bytes();
+    for (metrics, decisions, room) in
+        [(8191, 4096, 66_560), (8192, 4095, 66_560), (8192, 4096, 66_559), (9000, 5000, 70_000)]
+    {
+        comparison.agree(asked::listing(good, metrics, decisions, room, FIXED));
+        comparison.agree(asked::listing(&[], metrics, decisions, room, FIXED));
+    }
+    for _ in 0..count {
+        let mut text = sheet(random);
+        list(comparison, &text);
+        for _ in 0..6 {
+            let bad = damaged(random, text.clone());
+            list(comparison, &bad);
+            if random.one_in(8) && !bad.is_empty() {
+                text = bad;
+            }
+        }
+    }
+}

@@ -1,0 +1,98 @@
+-- Determined: two replies of a call of the interface, with all lent cells, that meet its promise are equal.
+use lib.IntN.{ℤ}
+use mathlib.Core.List.{List}
+use mathlib.Core.Logic.{inl, inr, _⊎_}
+use mathlib.Core.Path.{ap, ap₂, sym, _∙_, _≡_}
+use Prim.Native.Nat.{ℕ}
+use Rattle.coding.proofs.CodingDetermined.{encode-determined, read-back-determined}
+use Rattle.decoding.proofs.DecodeDetermined.{decode-determined}
+use Rattle.decoding.specs.declared.Decoded.{Decoded}
+use Rattle.exports.specs.Calls.{Calls, Crossing, Replies, misshapen}
+use Rattle.exports.specs.Crossing.{DecodeCells, Decoding, Writing}
+use Rattle.exports.specs.Flat.{plateOf}
+use Rattle.exports.specs.Promises.{CallsBranch, CallsDecode, CallsEncode, CallsPrepare, CallsReadBack, CallsWrite, CallsWriteEnd, CallsWritePlate, CallsWriteProfile, CallsWriteRefused, CallsWriteWord, DecodesTo, kindOf}
+use Rattle.listings.proofs.Determined.{write-end-determined, write-plate-determined, write-profile-determined, write-refused-determined, write-word-determined}
+use Rattle.listings.specs.declared.Written.{Written}
+use Rattle.listings.specs.Writing.{WritesEnd, WritesPlate, WritesProfile, WritesRefused, WritesWord}
+use Rattle.plates.proofs.PrepareDetermined.{prepare-determined}
+use Rattle.trellises.proofs.BranchDetermined.{branch-determined}
+
+-- the one law: where the call below is determined, so is the call
+pub calls-determined : {Reply Lent : Type 0} {shape : Type 0} {before : Lent} {promise : Reply → Type 0} {crossing : Reply → Crossing Lent} {a b : Crossing Lent}
+    → ((x y : Reply) → promise x → promise y → x ≡ y)
+    → Calls shape before promise crossing a → Calls shape before promise crossing b → a ≡ b
+calls-determined {shape = shape} {before = before} {promise = promise} {crossing = crossing} {a = a} {b = b} one f g = go (f .by-shape) (g .by-shape)
+  where
+    go : ((shape → ⊥) × (a ≡ record { code = misshapen; cells = before })) ⊎ (shape × Replies promise crossing a)
+        → ((shape → ⊥) × (b ≡ record { code = misshapen; cells = before })) ⊎ (shape × Replies promise crossing b) → a ≡ b
+    go (inl p) (inl q) = p .1 ∙ sym (q .1)
+    go (inl p) (inr q) = absurd (p .0 (q .0))
+    go (inr p) (inl q) = absurd (q .0 (p .0))
+    go (inr p) (inr q) = p .1 .crosses ∙ ap crossing (one (p .1 .reply) (q .1 .reply) (p .1 .promised) (q .1 .promised)) ∙ sym (q .1 .crosses)
+
+-- the same code and the same cell
+abbrev pub SameCell : ℕ → ℕ → List ℕ → List ℕ → Type 0
+SameCell r s a b = _≡_ {A = Crossing (List ℕ)} (record { code = r; cells = a }) (record { code = s; cells = b })
+
+-- the same code and the same two runs
+abbrev pub SameRuns : ℕ → ℕ → List ℕ → List ℕ → List ℕ → List ℕ → Type 0
+SameRuns r s a b c d = _≡_ {A = Crossing (List ℕ × List ℕ)} (record { code = r; cells = (a, b) }) (record { code = s; cells = (c, d) })
+
+pub prepare-call-determined : (n kind : ℕ) (rows run at : List ℕ) (r s : ℕ) (a b c d : List ℕ) → CallsPrepare n kind rows run at r a b → CallsPrepare n kind rows run at s c d
+    → SameRuns r s a b c d
+prepare-call-determined n kind rows run at r s a b c d = calls-determined (prepare-determined n (kindOf kind) rows)
+
+module _ (words cell : List ℕ) (r s : ℕ) (a b : List ℕ) where
+  pub branch-call-determined : (depth state digit : ℕ) → CallsBranch words depth state digit cell r a → CallsBranch words depth state digit cell s b
+      → SameCell r s a b
+  branch-call-determined depth state digit = calls-determined (branch-determined (plateOf words) depth state digit)
+
+  pub encode-call-determined : (information : ℕ) → CallsEncode words information cell r a → CallsEncode words information cell s b
+      → SameCell r s a b
+  encode-call-determined information = calls-determined (encode-determined (plateOf words) information)
+
+  pub read-back-call-determined : (word : ℕ) → CallsReadBack words word cell r a → CallsReadBack words word cell s b
+      → SameCell r s a b
+  read-back-call-determined word = calls-determined (read-back-determined (plateOf words) word)
+
+pub decode-call-determined : (words : List ℕ) (samples : List ℤ) (lent a b : DecodeCells) (r s : ℕ) → CallsDecode words samples lent r a → CallsDecode words samples lent s b
+    → _≡_ {A = Crossing DecodeCells} (record { code = r; cells = a }) (record { code = s; cells = b })
+decode-call-determined words samples lent a b r s = calls-determined one
+  where
+    one : (x y : Decoding) → DecodesTo (plateOf words) samples lent x → DecodesTo (plateOf words) samples lent y → x ≡ y
+    one x y p q =
+        let same = decode-determined (plateOf words) samples (lent .metrics) (lent .decisions) (x .reply) (y .reply) (x .metrics) (y .metrics) (x .decisions) (y .decisions) p q in
+        ap₂ (λ (u : Decoded) (m : List ℤ). record { reply = u; metrics = m; decisions = x .decisions }) (same .0) (same .1)
+        ∙ ap (λ (d : List ℕ). record { reply = y .reply; metrics = y .metrics; decisions = d }) (same .2)
+
+module _ (room cell : List ℕ) (r s : ℕ) (a b c d : List ℕ) where
+  -- a line: the reply and the room after it are determined by the call below
+  write-call-determined : (shape : Type 0) (writes : List ℕ → Written → List ℕ → Type 0)
+      → ((x y : Written) (e f : List ℕ) → writes room x e → writes room y f → (x ≡ y) × (e ≡ f))
+      → CallsWrite shape writes room cell r a b → CallsWrite shape writes room cell s c d
+      → SameRuns r s a b c d
+  write-call-determined shape writes one =
+      calls-determined
+      (λ (x y : Writing) p q. ap₂ (λ (u : Written) (l : List ℕ). record { reply = u; room = l }) (one (x .reply) (y .reply) (x .room) (y .room) p q .0) (one (x .reply) (y .reply) (x .room) (y .room) p q .1))
+
+  pub write-plate-call-determined : (words : List ℕ) → CallsWritePlate words room cell r a b → CallsWritePlate words room cell s c d
+      → SameRuns r s a b c d
+  write-plate-call-determined words = write-call-determined _ (WritesPlate (plateOf words)) (λ x y e f. write-plate-determined (plateOf words))
+
+  pub write-profile-call-determined : (words : List ℕ) → CallsWriteProfile words room cell r a b → CallsWriteProfile words room cell s c d
+      → SameRuns r s a b c d
+  write-profile-call-determined words = write-call-determined _ (WritesProfile (plateOf words)) (λ x y e f. write-profile-determined (plateOf words))
+
+  pub write-word-call-determined : (words : List ℕ) (word : ℕ) (metric : ℤ) (additions comparisons : ℕ)
+      → CallsWriteWord words word metric additions comparisons room cell r a b → CallsWriteWord words word metric additions comparisons room cell s c d
+      → SameRuns r s a b c d
+  write-word-call-determined words word metric additions comparisons =
+      write-call-determined _ (WritesWord (plateOf words) word metric additions comparisons) (λ x y e f. write-word-determined (plateOf words) word metric additions comparisons)
+
+  pub write-refused-call-determined : (q p : ℕ) → CallsWriteRefused q p room cell r a b → CallsWriteRefused q p room cell s c d
+      → SameRuns r s a b c d
+  write-refused-call-determined q p = write-call-determined _ (WritesRefused q p) (λ x y e f. write-refused-determined q p)
+
+  pub write-end-call-determined : (blocks : ℕ) → CallsWriteEnd blocks room cell r a b → CallsWriteEnd blocks room cell s c d
+      → SameRuns r s a b c d
+  write-end-call-determined blocks = write-call-determined _ (WritesEnd blocks) (λ x y e f. write-end-determined blocks)

@@ -1,0 +1,6 @@
+pub mod CellsCopied
+pub mod PlateStands
+pub mod PromisesCarried
+pub mod CallsMade
+pub mod DecodeCrossed
+pub mod CallsDetermined

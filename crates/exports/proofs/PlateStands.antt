@@ -1,0 +1,69 @@
+-- The plate read from a run stands for it: an entry over a byte is in no prepared plate.
+use lib.ListN.{drop, getD, length, set, take}
+use lib.Seq.{drop-at, drop-drop, paste, take-all, take-at}
+use mathlib.Core.List.{_++_, List, [], _∷_}
+use mathlib.Core.Logic.{inr}
+use mathlib.Core.Path.{ap, refl, sym, _∙_, _≡_}
+use native.Mathlib.Decide.{decLt}
+use native.Mathlib.Omega.{arith}
+use Prim.Native.Nat.{_+_, _<_, ℕ, _≤_}
+use Rattle.exports.proofs.CellsCopied.{part-at}
+use Rattle.exports.specs.Flat.{EntriesFit, StandsFor, flat, plateOf}
+use Rattle.plates.proofs.SoundIsPrepared.{sound}
+use Rattle.plates.specs.declared.Plate.{Plate}
+use Rattle.plates.specs.Prepare.{IsPrepared}
+
+-- a plate of length 0 is not prepared
+pub empty-not-prepared : {plate : Plate} → plate .n ≡ 0 → IsPrepared plate → ⊥
+empty-not-prepared e p = omega (arith, sound p .positive)
+
+-- the entries of a prepared plate fit bytes
+pub entries-of-prepared : (words : List ℕ) → 131 ≤ length words → IsPrepared (plateOf words) → EntriesFit words
+entries-of-prepared words long p t h = go (decLt (plateOf words .n) t)
+  where
+    entry : getD words (66 + t) 0 ≡ getD (plateOf words .profile) t 0
+    entry = part-at words 66 65 (omega arith) t h
+
+    go : Dec (plateOf words .n < t) → getD words (66 + t) 0 < 256
+    go (yes l) = omega (arith, entry, sound p .unused-entries t l)
+    go (no l) = omega (arith, entry, sound p .profile t (omega arith), sound p .narrow t (omega arith))
+
+-- where an entry is over a byte, any plate of length 0 stands for the run
+pub stands-empty : (words : List ℕ) (plate : Plate) → 131 ≤ length words → (EntriesFit words → ⊥) → plate .n ≡ 0 → StandsFor words plate
+stands-empty words plate long over e = record { either = inr (empty-not-prepared e, λ p. over (entries-of-prepared words long p)) }
+
+-- ---- into a run
+
+-- what begins with a is continued by b
+pub continued : (run run′ a b : List ℕ) (i k : ℕ) → length a ≡ i → length b ≡ k → run′ ≡ paste (a ++ drop i run) i b k → run′ ≡ (a ++ b) ++ drop (i + k) run
+continued run run′ a b i k size-a size-b e =
+    e
+    ∙ ap (λ (x : List ℕ). x ++ take k b ++ drop (i + k) (a ++ drop i run)) (take-at a (drop i run) i size-a)
+    ∙ ap (λ (x : List ℕ). a ++ x ++ drop (i + k) (a ++ drop i run)) (take-all k b (omega arith))
+    ∙ ap (λ (x : List ℕ). a ++ b ++ x) behind
+  where
+    behind : drop (i + k) (a ++ drop i run) ≡ drop (i + k) run
+    behind = sym (drop-drop k i (a ++ drop i run)) ∙ ap (drop k) (drop-at a (drop i run) i size-a) ∙ drop-drop k i run
+
+-- two numbers at the start
+pub headed : (run : List ℕ) (n k : ℕ) → 2 ≤ length run → set (set run 0 n) 1 k ≡ n ∷ k ∷ drop 2 run
+headed [] n k h = absurd (omega arith)
+headed (x ∷ []) n k h = absurd (omega arith)
+headed (x ∷ y ∷ run) n k h = refl
+
+module _ (run : List ℕ) (plate : Plate) (rows : length (plate .rows) ≡ 64) (entries : length (plate .profile) ≡ 65) where
+  -- n, k and the rows
+  abbrev front : List ℕ
+  front = plate .n ∷ plate .k ∷ plate .rows
+
+  front-length : length front ≡ 66
+  front-length = omega (arith, rows)
+
+  -- the three steps of putting a plate into a run
+  pub put-whole : (run₁ run₂ run₃ : List ℕ) → run₁ ≡ plate .n ∷ plate .k ∷ drop 2 run → run₂ ≡ paste run₁ 2 (plate .rows) 64 → run₃ ≡ paste run₂ 66 (plate .profile) 65
+      → run₃ ≡ flat plate ++ drop 131 run
+  put-whole run₁ run₂ run₃ e₁ e₂ e₃ =
+      continued run run₃ front (plate .profile) 66 65 front-length entries (e₃ ∙ ap (λ (x : List ℕ). paste x 66 (plate .profile) 65) after-rows)
+    where
+      after-rows : run₂ ≡ front ++ drop 66 run
+      after-rows = continued run run₂ (plate .n ∷ plate .k ∷ []) (plate .rows) 2 64 refl rows (e₂ ∙ ap (λ (x : List ℕ). paste x 2 (plate .rows) 64) e₁)

@@ -1,0 +1,31 @@
+-- `exports::flat::put_plate` meets its contract: the three steps.
+use borrow.Author.Needs.{needs}
+use Rattle.exports.proofs.PlateStands.{put-whole}
+use Rattle.exports.proofs.flat.put_plate.Statement.{statement}
+use Rattle.exports.proofs.flat.put_plate.Tie as tie
+use Rattle.exports.proofs.flat.put_plate.Reads as reads
+use Rattle.exports.proofs.flat.put_plate.Lts as lts
+
+put-head-requires : tie.Need-put-head-requires
+put-head-requires c κs = search needs
+
+put-rows-requires : tie.Need-put-rows-requires
+put-rows-requires c κs = search needs
+
+put-profile-requires : tie.Need-put-profile-requires
+put-profile-requires c κs = search needs
+
+same-length : tie.Need-same-length
+same-length c = search needs
+
+returns : tie.Need-returns
+returns c =
+    let rows = c .before .before .before .before .before .before .before .before in
+    let head = rows .before .before .before .before .before .before in
+    let start = head .before .before .before in
+    put-whole (start .args .words .now) (start .args .t2) (start .pre .0) (start .pre .1) _ _ _ (head .put-head .ensures) (rows .put-rows .ensures) (c .before .before .put-profile .ensures)
+
+pub put-plate-spec : {M : Type 1} → statement M
+put-plate-spec =
+    tie.close
+    (tie.spec put-head-requires put-rows-requires put-profile-requires same-length returns)

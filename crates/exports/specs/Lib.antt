@@ -1,0 +1,4 @@
+pub mod Flat
+pub mod Calls
+pub mod Crossing
+pub mod Promises

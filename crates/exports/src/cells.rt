@@ -1,0 +1,76 @@
+// What crosses the interface besides a plate: kinds, places, lengths of lines, answers.
+ghost use mathlib.Core.Path.{_≡_};
+ghost use Prim.Native.Nat.{_≤_};
+ghost use lib.ListN.{length};
+ghost use Rattle.exports.specs.Calls.{RefusedAt};
+ghost use Rattle.exports.specs.Crossing.{AnswerPut, LengthPut};
+ghost use Rattle.exports.specs.Promises.{ShapeTested, kindOf};
+use decoding::Answer;
+use listings::Written;
+use plates::Kind;
+use plates::Refusal;
+
+// The number of a refusal, with its place in the first cell.
+pub fn refused_at(refusal: Refusal, at: &mut [u64]) -> u64
+    requires { ⌜ 1 ≤ length (now at) ⌝ }
+    ensures { λ r. ⌜ RefusedAt refusal (now (at .entry)) r (now (at .exit)) ⌝ }
+{
+    at[0] = plates::refusal_place(refusal) as u64;
+    plates::refusal_number(refusal)
+}
+
+// How a matrix is meant: 0 is G and 1 is H.
+pub fn kind_of(kind: u64) -> Kind
+    ensures { λ r. ⌜ r ≡ kindOf kind ⌝ }
+{
+    if kind == 0 {
+        return Kind::G;
+    }
+    Kind::H
+}
+
+// Whether the runs that are lent to decode are long enough for their fixed use.
+pub fn decode_shaped(plate: usize, word: usize, metric: usize, counts: usize, at: usize) -> bool
+    ensures { λ r. ⌜ ShapeTested plate word metric counts at r ⌝ }
+{
+    if plate < 131 {
+        return false;
+    }
+    if word < 1 {
+        return false;
+    }
+    if metric < 1 {
+        return false;
+    }
+    if counts < 2 {
+        return false;
+    }
+    1 <= at
+}
+
+// The answer of decoding into its cells.
+pub fn put_answer(answer: Answer, word: &mut [u64], metric: &mut [i32], counts: &mut [u64])
+    requires { ⌜ (1 ≤ length (now word)) × (1 ≤ length (now metric)) × (2 ≤ length (now counts)) ⌝ }
+    ensures { λ _. ⌜ AnswerPut answer (now (word .entry)) (now (metric .entry)) (now (counts .entry)) (now (word .exit)) (now (metric .exit)) (now (counts .exit)) ⌝ }
+{
+    let best = answer.metric;
+    let counted = answer.counts;
+    word[0] = answer.word;
+    metric[0] = best;
+    counts[0] = counted.additions;
+    counts[1] = counted.comparisons;
+}
+
+// The length of a line that was written, in the first cell, or why it was refused.
+pub fn written_length(reply: Written, size: &mut [u64]) -> u64
+    requires { ⌜ 1 ≤ length (now size) ⌝ }
+    ensures { λ r. ⌜ LengthPut reply (now (size .entry)) r (now (size .exit)) ⌝ }
+{
+    match reply {
+        Written::Length(bytes) => {
+            size[0] = bytes as u64;
+            0
+        }
+        Written::Refused(refusal) => plates::refusal_number(refusal),
+    }
+}

@@ -1,0 +1,129 @@
+// A plate as a flat run of 131 words: n, k, 64 rows and 65 profile entries.
+use plates::Plate;
+ghost use mathlib.Core.Path.{_≡_};
+ghost use mathlib.Core.List.{_++_, _∷_};
+ghost use Prim.Native.Nat.{_≤_};
+ghost use lib.ListN.{drop, length};
+ghost use lib.Seq.{paste};
+ghost use Rattle.exports.specs.Flat.{EntriesFit, FitTested, StandsFor, flat, flatProfile, flatRows, plateOf};
+
+// Whether every profile entry fits a byte.
+fn entries_fit(words: &[u64]) -> bool
+    requires { ⌜ 131 ≤ length (now words) ⌝ }
+    ensures { λ r. ⌜ FitTested (now (words .entry)) r ⌝ }
+{
+    let mut t = 0;
+    while t < 65 {
+        if 255 < words[66 + t] {
+            return false;
+        }
+        t += 1;
+    }
+    true
+}
+
+// The rows out of the run.
+fn load_rows(rows: &mut [u64; 64], words: &[u64])
+    requires { ⌜ (length (now rows) ≡ 64) × (131 ≤ length (now words)) ⌝ }
+    ensures { λ _. ⌜ now (rows .exit) ≡ flatRows (now (words .entry)) ⌝ }
+{
+    let mut j = 0;
+    while j < 64 {
+        rows[j] = words[2 + j];
+        j += 1;
+    }
+}
+
+// The profile out of the run, whose entries fit bytes.
+fn load_profile(profile: &mut [u8; 65], words: &[u64])
+    requires { ⌜ (length (now profile) ≡ 65) × (131 ≤ length (now words)) × EntriesFit (now words) ⌝ }
+    ensures { λ _. ⌜ now (profile .exit) ≡ flatProfile (now (words .entry)) ⌝ }
+{
+    let mut t = 0;
+    while t < 65 {
+        profile[t] = words[66 + t] as u8;
+        t += 1;
+    }
+}
+
+// The plate of a run whose profile entries fit bytes.
+fn fitting_plate(words: &[u64]) -> Plate
+    requires { ⌜ (131 ≤ length (now words)) × EntriesFit (now words) ⌝ }
+    ensures { λ r. ⌜ r ≡ plateOf (now (words .entry)) ⌝ }
+{
+    let mut plate = Plate {
+        n: words[0] as usize,
+        k: words[1] as usize,
+        rows: [0; 64],
+        profile: [0; 65],
+    };
+    load_rows(&mut plate.rows, words);
+    load_profile(&mut plate.profile, words);
+    plate
+}
+
+// The plate that stands for a run: one with an entry over a byte is not prepared, and nor is the zero plate.
+pub fn plate_of(words: &[u64]) -> Plate
+    requires { ⌜ 131 ≤ length (now words) ⌝ }
+    ensures { λ r. ⌜ StandsFor (now (words .entry)) r ⌝ }
+{
+    if entries_fit(words) {
+        return fitting_plate(words);
+    }
+    Plate {
+        n: 0,
+        k: 0,
+        rows: [0; 64],
+        profile: [0; 65],
+    }
+}
+
+// The rows into the run.
+fn put_rows(words: &mut [u64], rows: &[u64; 64])
+    requires { ⌜ (length (now rows) ≡ 64) × (131 ≤ length (now words)) ⌝ }
+    ensures { λ _. ⌜ now (words .exit) ≡ paste (now (words .entry)) 2 (now (rows .entry)) 64 ⌝ }
+{
+    let mut j = 0;
+    while j < 64 {
+        words[2 + j] = rows[j];
+        j += 1;
+    }
+}
+
+// A profile entry as a word.
+fn wide(entry: u8) -> u64
+    ensures { λ r. ⌜ r ≡ entry ⌝ }
+{
+    entry as u64
+}
+
+// The profile into the run.
+fn put_profile(words: &mut [u64], profile: &[u8; 65])
+    requires { ⌜ (length (now profile) ≡ 65) × (131 ≤ length (now words)) ⌝ }
+    ensures { λ _. ⌜ now (words .exit) ≡ paste (now (words .entry)) 66 (now (profile .entry)) 65 ⌝ }
+{
+    let mut t = 0;
+    while t < 65 {
+        words[66 + t] = wide(profile[t]);
+        t += 1;
+    }
+}
+
+// n and k to the start of the run.
+fn put_head(words: &mut [u64], n: usize, k: usize)
+    requires { ⌜ 131 ≤ length (now words) ⌝ }
+    ensures { λ _. ⌜ now (words .exit) ≡ n ∷ k ∷ drop 2 (now (words .entry)) ⌝ }
+{
+    words[0] = n as u64;
+    words[1] = k as u64;
+}
+
+// The plate to the start of the run.
+pub fn put_plate(words: &mut [u64], plate: Plate)
+    requires { ⌜ (length (plate .rows) ≡ 64) × (length (plate .profile) ≡ 65) × (131 ≤ length (now words)) ⌝ }
+    ensures { λ _. ⌜ now (words .exit) ≡ flat plate ++ drop 131 (now (words .entry)) ⌝ }
+{
+    put_head(words, plate.n, plate.k);
+    put_rows(words, &plate.rows);
+    put_profile(words, &plate.profile);
+}

@@ -1,0 +1,243 @@
+// The C interface: the calls of the crates below over numbers and slices, as include/yendrufal.h has them. A plate crosses as a flat
+// run of words. No call asks anything of its caller: a run that is too short for its fixed use is answered by 101.
+ghost use Rattle.exports.specs.Promises.{CallsBranch, CallsDecode, CallsEncode, CallsPrepare, CallsReadBack, CallsWriteEnd, CallsWritePlate, CallsWriteProfile, CallsWriteRefused, CallsWriteWord, decodeCells};
+use coding::Encoded;
+use coding::ReadBack;
+use decoding::Decoded;
+use plates::Verdict;
+use trellises::Next;
+
+mod cells;
+mod flat;
+
+// The reply where a run is too short for its fixed use, or the kind is neither G nor H.
+const MISSHAPEN: u64 = 101;
+
+// The reply where a state has no branch with the bit that was asked for.
+const NO_BRANCH: u64 = 100;
+
+// Turns a matrix into a plate.
+#[no_mangle]
+pub extern "C" fn yendrufal_prepare(
+    n: u64,
+    kind: u64,
+    rows: &[u64],
+    plate: &mut [u64],
+    at: &mut [u64],
+) -> u64
+    ensures { λ r. ⌜ CallsPrepare n kind (now (rows .entry)) (now (plate .entry)) (now (at .entry)) r (now (plate .exit)) (now (at .exit)) ⌝ }
+{
+    if 1 < kind {
+        return MISSHAPEN;
+    }
+    if plate.len() < 131 {
+        return MISSHAPEN;
+    }
+    if at.len() < 1 {
+        return MISSHAPEN;
+    }
+    let made = plates::prepare(n as usize, cells::kind_of(kind), rows);
+    let verdict = made.verdict;
+    match verdict {
+        Verdict::Accepted => {
+            flat::put_plate(plate, made.plate);
+            at[0] = 0;
+            0
+        }
+        Verdict::Refused(refusal) => cells::refused_at(refusal, at),
+    }
+}
+
+// The state that a branch leads to.
+#[no_mangle]
+pub extern "C" fn yendrufal_branch(
+    plate: &[u64],
+    depth: u64,
+    state: u64,
+    bit: u64,
+    next: &mut [u64],
+) -> u64
+    ensures { λ r. ⌜ CallsBranch (now (plate .entry)) depth state bit (now (next .entry)) r (now (next .exit)) ⌝ }
+{
+    if plate.len() < 131 {
+        return MISSHAPEN;
+    }
+    if next.len() < 1 {
+        return MISSHAPEN;
+    }
+    match trellises::branch(flat::plate_of(plate), depth as usize, state as usize, bit) {
+        Next::State(found) => {
+            next[0] = found as u64;
+            0
+        }
+        Next::NoBranch => NO_BRANCH,
+        Next::Refused(refusal) => plates::refusal_number(refusal),
+    }
+}
+
+// The codeword of an information.
+#[no_mangle]
+pub extern "C" fn yendrufal_encode(plate: &[u64], information: u64, word: &mut [u64]) -> u64
+    ensures { λ r. ⌜ CallsEncode (now (plate .entry)) information (now (word .entry)) r (now (word .exit)) ⌝ }
+{
+    if plate.len() < 131 {
+        return MISSHAPEN;
+    }
+    if word.len() < 1 {
+        return MISSHAPEN;
+    }
+    match coding::encode(flat::plate_of(plate), information) {
+        Encoded::Word(found) => {
+            word[0] = found;
+            0
+        }
+        Encoded::Refused(refusal) => plates::refusal_number(refusal),
+    }
+}
+
+// The information of a codeword.
+#[no_mangle]
+pub extern "C" fn yendrufal_read_back(plate: &[u64], word: u64, information: &mut [u64]) -> u64
+    ensures { λ r. ⌜ CallsReadBack (now (plate .entry)) word (now (information .entry)) r (now (information .exit)) ⌝ }
+{
+    if plate.len() < 131 {
+        return MISSHAPEN;
+    }
+    if information.len() < 1 {
+        return MISSHAPEN;
+    }
+    match coding::read_back(flat::plate_of(plate), word) {
+        ReadBack::Information(found) => {
+            information[0] = found;
+            0
+        }
+        ReadBack::Refused(refusal) => plates::refusal_number(refusal),
+    }
+}
+
+// The codeword of greatest metric.
+#[no_mangle]
+pub extern "C" fn yendrufal_decode(
+    plate: &[u64],
+    samples: &[i16],
+    metrics: &mut [i32],
+    decisions: &mut [u64],
+    word: &mut [u64],
+    metric: &mut [i32],
+    counts: &mut [u64],
+    at: &mut [u64],
+) -> u64
+    ensures { λ r. ⌜ CallsDecode (now (plate .entry)) (now (samples .entry)) (decodeCells (now (metrics .entry)) (now (decisions .entry)) (now (word .entry)) (now (metric .entry)) (now (counts .entry)) (now (at .entry))) r (decodeCells (now (metrics .exit)) (now (decisions .exit)) (now (word .exit)) (now (metric .exit)) (now (counts .exit)) (now (at .exit))) ⌝ }
+{
+    if !cells::decode_shaped(
+        plate.len(),
+        word.len(),
+        metric.len(),
+        counts.len(),
+        at.len(),
+    ) {
+        return MISSHAPEN;
+    }
+    match decoding::decode(flat::plate_of(plate), samples, metrics, decisions) {
+        Decoded::Found(answer) => {
+            cells::put_answer(answer, word, metric, counts);
+            at[0] = 0;
+            0
+        }
+        Decoded::Refused(refusal) => cells::refused_at(refusal, at),
+    }
+}
+
+// The line `plate`.
+#[no_mangle]
+pub extern "C" fn yendrufal_write_plate(plate: &[u64], line: &mut [u8], written: &mut [u64]) -> u64
+    ensures { λ r. ⌜ CallsWritePlate (now (plate .entry)) (now (line .entry)) (now (written .entry)) r (now (line .exit)) (now (written .exit)) ⌝ }
+{
+    if plate.len() < 131 {
+        return MISSHAPEN;
+    }
+    if written.len() < 1 {
+        return MISSHAPEN;
+    }
+    cells::written_length(listings::write_plate(flat::plate_of(plate), line), written)
+}
+
+// The line `profile`.
+#[no_mangle]
+pub extern "C" fn yendrufal_write_profile(
+    plate: &[u64],
+    line: &mut [u8],
+    written: &mut [u64],
+) -> u64
+    ensures { λ r. ⌜ CallsWriteProfile (now (plate .entry)) (now (line .entry)) (now (written .entry)) r (now (line .exit)) (now (written .exit)) ⌝ }
+{
+    if plate.len() < 131 {
+        return MISSHAPEN;
+    }
+    if written.len() < 1 {
+        return MISSHAPEN;
+    }
+    cells::written_length(
+        listings::write_profile(flat::plate_of(plate), line),
+        written,
+    )
+}
+
+// The line `word`.
+#[no_mangle]
+pub extern "C" fn yendrufal_write_word(
+    plate: &[u64],
+    word: u64,
+    metric: i32,
+    additions: u64,
+    comparisons: u64,
+    line: &mut [u8],
+    written: &mut [u64],
+) -> u64
+    ensures { λ r. ⌜ CallsWriteWord (now (plate .entry)) word metric additions comparisons (now (line .entry)) (now (written .entry)) r (now (line .exit)) (now (written .exit)) ⌝ }
+{
+    if plate.len() < 131 {
+        return MISSHAPEN;
+    }
+    if written.len() < 1 {
+        return MISSHAPEN;
+    }
+    cells::written_length(
+        listings::write_word(
+            flat::plate_of(plate),
+            word,
+            metric,
+            additions,
+            comparisons,
+            line,
+        ),
+        written,
+    )
+}
+
+// The line `refused`.
+#[no_mangle]
+pub extern "C" fn yendrufal_write_refused(
+    number: u64,
+    place: u64,
+    line: &mut [u8],
+    written: &mut [u64],
+) -> u64
+    ensures { λ r. ⌜ CallsWriteRefused number place (now (line .entry)) (now (written .entry)) r (now (line .exit)) (now (written .exit)) ⌝ }
+{
+    if written.len() < 1 {
+        return MISSHAPEN;
+    }
+    cells::written_length(listings::write_refused(number, place, line), written)
+}
+
+// The line `end`.
+#[no_mangle]
+pub extern "C" fn yendrufal_write_end(count: u64, line: &mut [u8], written: &mut [u64]) -> u64
+    ensures { λ r. ⌜ CallsWriteEnd count (now (line .entry)) (now (written .entry)) r (now (line .exit)) (now (written .exit)) ⌝ }
+{
+    if written.len() < 1 {
+        return MISSHAPEN;
+    }
+    cells::written_length(listings::write_end(count, line), written)
+}

@@ -1,0 +1,113 @@
+/*
+ * Yendrufal: plates, trellises and decoding of binary block codes of length 1 to 64.
+ *
+ * How the calls are alike:
+ * - A run of numbers crosses as a pointer and the number of its cells. No pointer is NULL, and a run
+ *   that a call may write overlaps no other run.
+ * - The reply is YENDRUFAL_DONE, the number of a refusal (1 to 15), or one of the two codes above 99.
+ * - YENDRUFAL_SHAPE comes before everything else: a run is shorter than its use fixes, or `kind` is
+ *   neither G nor H. A run may be longer than its use; the cells beyond are not touched.
+ * - Unless the reply is YENDRUFAL_DONE nothing lent changes, but for `place` beside a refusal.
+ * - `place` (one cell) receives the place of a refusal, and 0 when the call is done. Calls without it
+ *   refuse with place 0 only.
+ * - A word has position i at the bit of weight 2^i. A positive sample favours bit 0.
+ */
+#ifndef YENDRUFAL_INCLUDED
+#define YENDRUFAL_INCLUDED
+
+#include <stddef.h>
+#include <stdint.h>
+
+#ifdef __cplusplus
+extern "C" {
+#endif
+
+/* Replies. */
+#define YENDRUFAL_DONE 0
+#define YENDRUFAL_LENGTH 1          /* n is 0 or over 64 */
+#define YENDRUFAL_ROW_COUNT 2       /* more than 64 rows */
+#define YENDRUFAL_ROW_BEYOND 3      /* a row has a one at n or beyond; place: the first such row */
+#define YENDRUFAL_TOO_WIDE 4        /* some profile entry exceeds 12 */
+#define YENDRUFAL_NO_PLATE 5        /* the plate is not one that preparing gives */
+#define YENDRUFAL_SAMPLE_COUNT 6    /* the number of samples is not n */
+#define YENDRUFAL_SAMPLE_RANGE 7    /* a sample outside -127 to 127; place: the first such position */
+#define YENDRUFAL_METRIC_ROOM 8     /* metric room too short */
+#define YENDRUFAL_DECISION_ROOM 9   /* decision room too short */
+#define YENDRUFAL_SHEET_LINE 10     /* sheet line not of its form (in a listing only) */
+#define YENDRUFAL_LINE_ROOM 11      /* listing line longer than its room */
+#define YENDRUFAL_NO_STATE 12       /* depth n or more, state not present, or bit over 1 */
+#define YENDRUFAL_INFORMATION 13    /* information has a one at k or beyond */
+#define YENDRUFAL_NO_CODEWORD 14    /* word read back is no codeword */
+#define YENDRUFAL_SHEET_LENGTH 15   /* sheet over 32,768 bytes (in a listing only) */
+#define YENDRUFAL_NO_BRANCH 100     /* an ordinary reply: no branch with this bit leaves the state */
+#define YENDRUFAL_SHAPE 101         /* a run is too short for its fixed use, or `kind` is over 1 */
+
+/* How the rows of a matrix are meant. */
+#define YENDRUFAL_KIND_G 0 /* generator: the code is all sums of rows */
+#define YENDRUFAL_KIND_H 1 /* parity check: the code is all words even with every row */
+
+/* A plate is a flat run of 64-bit numbers: n, k, 64 rows, 65 profile entries; unused places are 0. */
+#define YENDRUFAL_PLATE_WORDS 131
+#define YENDRUFAL_PLATE_N 0
+#define YENDRUFAL_PLATE_K 1
+#define YENDRUFAL_PLATE_ROWS 2
+#define YENDRUFAL_PLATE_PROFILE 66
+
+/* Rooms that decoding needs, in cells; m is the largest profile entry, at most 12. */
+#define YENDRUFAL_METRICS(m) ((size_t)2 << (m))
+#define YENDRUFAL_DECISIONS(n, m) ((size_t)(n) << ((m) < 6 ? 0 : (m) - 6))
+#define YENDRUFAL_METRICS_MOST 8192   /* enough for every plate */
+#define YENDRUFAL_DECISIONS_MOST 4096 /* enough for every plate */
+
+/* Rooms for text, in bytes. */
+#define YENDRUFAL_LINE_MOST 256 /* enough for every listing line */
+
+/* Turns a matrix of `row_count` rows into a plate. Refusals 1 to 4.
+   Fixed: plate 131, place 1. */
+uint64_t yendrufal_prepare(uint64_t n, uint64_t kind, const uint64_t *rows, size_t row_count,
+                           uint64_t *plate, size_t plate_length, uint64_t *place,
+                           size_t place_length);
+
+/* The state that the branch with this bit leads to from a state of a depth, or YENDRUFAL_NO_BRANCH.
+   Refusals 5, 12. Fixed: plate 131, next 1. */
+uint64_t yendrufal_branch(const uint64_t *plate, size_t plate_length, uint64_t depth,
+                          uint64_t state, uint64_t bit, uint64_t *next, size_t next_length);
+
+/* The codeword of an information; bit j takes row j. Refusals 5, 13. Fixed: plate 131, word 1. */
+uint64_t yendrufal_encode(const uint64_t *plate, size_t plate_length, uint64_t information,
+                          uint64_t *word, size_t word_length);
+
+/* The information of a codeword. Refusals 5, 14. Fixed: plate 131, information 1. */
+uint64_t yendrufal_read_back(const uint64_t *plate, size_t plate_length, uint64_t word,
+                             uint64_t *information, size_t information_length);
+
+/* The codeword of greatest metric, of equals the earliest; its metric; and the counts of additions
+   and of comparisons. Afterwards the needed part of both rooms, their first cells, is zero.
+   Refusals 5 to 9. Fixed: plate 131, word 1, metric 1, counts 2, place 1. */
+uint64_t yendrufal_decode(const uint64_t *plate, size_t plate_length, const int16_t *samples,
+                          size_t sample_count, int32_t *metrics, size_t metric_count,
+                          uint64_t *decisions, size_t decision_count, uint64_t *word,
+                          size_t word_length, int32_t *metric, size_t metric_length,
+                          uint64_t *counts, size_t counts_length, uint64_t *place,
+                          size_t place_length);
+
+/* The five kinds of listing line. Each begins at the start of `line`; `written` receives its bytes,
+   the line feed included. Refusals 5 (where a plate is taken), 11. Fixed: plate 131, written 1. */
+uint64_t yendrufal_write_plate(const uint64_t *plate, size_t plate_length, uint8_t *line,
+                               size_t line_length, uint64_t *written, size_t written_length);
+uint64_t yendrufal_write_profile(const uint64_t *plate, size_t plate_length, uint8_t *line,
+                                 size_t line_length, uint64_t *written, size_t written_length);
+uint64_t yendrufal_write_word(const uint64_t *plate, size_t plate_length, uint64_t word,
+                              int32_t metric, uint64_t additions, uint64_t comparisons,
+                              uint8_t *line, size_t line_length, uint64_t *written,
+                              size_t written_length);
+uint64_t yendrufal_write_refused(uint64_t number, uint64_t place, uint8_t *line,
+                                 size_t line_length, uint64_t *written, size_t written_length);
+uint64_t yendrufal_write_end(uint64_t count, uint8_t *line, size_t line_length, uint64_t *written,
+                             size_t written_length);
+
+#ifdef __cplusplus
+}
+#endif
+
+#endif
