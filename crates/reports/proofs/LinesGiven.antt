@@ -1,14 +1,14 @@
 -- In rooms that are enough, a step gives the line that comes next.
-use Prim.Native.Nat.{ℕ, _<_, _*_, _^_, _≤_}
+use Prim.Native.Nat.{ℕ, _≤_}
 use lib.IntN.{ℤ}
 use lib.ListN.{drop, length, take}
 use lib.Seq.{take-append-seam}
 use mathlib.Core.Bool.{Bool, true}
-use mathlib.Core.List.{List, [], _∷_, _++_}
+use mathlib.Core.List.{List, [], _∷_}
 use mathlib.Core.Logic.{inl, inr}
 use mathlib.Core.Path.{_≡_, ap, refl, subst, sym, _∙_}
 use native.Mathlib.Omega.{arith}
-use Rattle.plates.proofs.Refusing.{Single, never-both}
+use Rattle.plates.proofs.Refusing.{never-both}
 use Rattle.plates.specs.declared.Plate.{Plate}
 use Rattle.plates.specs.declared.Refusal.{Refusal}
 use Rattle.plates.specs.Prepare.{IsPrepared, notPrepared}
@@ -26,7 +26,7 @@ use Rattle.reports.specs.declared.Outcome.the-variants as O
 use Rattle.reports.specs.declared.Report.{Report}
 use Rattle.reports.specs.declared.Step.{Step}
 use Rattle.reports.specs.Report.{BlockLine, lineOfAnswer, lineOfRefusal, refusedBlock, wordOfBlock}
-use Rattle.reports.specs.Steps.{BlockStep, DecodedStep, Lent, RefusedStep, RoomStep, WritesStep, enough, ofBlock, short, stepBy}
+use Rattle.reports.specs.Steps.{DecodedStep, Lent, RefusedStep, RoomStep, WritesStep, enough, ofBlock, short, stepBy}
 use Rattle.reports.specs.Turns.{Enough}
 
 -- a line stands in the room, and this report comes after it

@@ -1,6 +1,7 @@
 -- Theorem: from what `open` replies, `next_line` again and again, in a line room of 256 bytes with 8,192 metrics and 4,096 decision words,
--- meets no room that is too short, and its lines in turn are the input's report; there are as many as the sheet has block lines and three more.
-use Prim.Native.Nat.{ℕ, _+_, suc, _≤_}
+-- meets no room that is too short, and its lines in turn are the input's report. There is one where the input is refused, and else there are
+-- three more than the sheet has block lines.
+use Prim.Native.Nat.{ℕ, _+_, suc}
 use lib.IntN.{ℤ}
 use lib.ListN.{length, take}
 use mathlib.Core.List.{List, [], _∷_}
@@ -31,7 +32,7 @@ use Rattle.reports.specs.declared.Step.{Step}
 use Rattle.reports.specs.Report.{BlocksReport, PlateReports, PreparedReports, ProfileReports, Reports, ReportsAs, lineOfPlate, lineOfProfile, lineOfRefusal}
 use Rattle.reports.specs.Steps.{BlocksStep, Lent, Opens, OpensAs, Steps, StepsAt, reportBy, toBlocks, toNothing, toProfile}
 use Rattle.reports.specs.Turns.{Enough, Turns}
-use Rattle.reports.proofs.LinesGiven.{BlockGiven, Given, block-given, fits, line-given, plate-fits}
+use Rattle.reports.proofs.LinesGiven.{Given, block-given, fits, line-given, plate-fits}
 
 -- ---- what is left of a report
 
@@ -61,7 +62,7 @@ LeftAt S.Done input report lines = lines ≡ []
 abbrev Left : List ℕ → Report → List (List ℕ) → Type 0
 Left input report lines = LeftAt (report .stage) input report lines
 
--- how many they are
+-- how many they are: one for a refusal, and else the plate line, the profile line, one for each block line, and the end line
 abbrev countAt : Stage → ℕ → ℕ
 countAt (S.Refused q) blocks = 1
 countAt S.PlateLine blocks = blocks + 3
@@ -217,6 +218,10 @@ module _ (input : List ℕ) (report : Report) (opens : Opens input report) (line
   -- where nothing is left, the lines in turn are the report
   pub lines-in-turn : step .outcome ≡ O.Nothing → Reports input lines
   lines-in-turn e = record { is = open-reports input (reading input) refl report lines (opens .is) (reached .whole (at-end next-turned e .0)) }
+
+  -- they are as many as were to come
+  pub lines-counted : step .outcome ≡ O.Nothing → length lines ≡ linesLeft input report
+  lines-counted e = omega (arith, at-end next-turned e .1, reached .count)
 
   -- and nothing is left after as many lines as were to come
   pub lines-end : length lines ≡ linesLeft input report → step .outcome ≡ O.Nothing

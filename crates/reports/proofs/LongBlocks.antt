@@ -1,5 +1,5 @@
 -- The samples of a block as they are decoded: those that were read, or none where there were more than 64.
-use Prim.Native.Nat.{ℕ, _≤_, _<_, zero, suc}
+use Prim.Native.Nat.{ℕ, _≤_, _<_, suc}
 use lib.Dec.{ltb}
 use borrow.Author.Tests.{ltb-true, ltb-false}
 use lib.IntN.{ℤ}
@@ -14,7 +14,7 @@ use Rattle.plates.specs.declared.Refusal.{Refusal}
 use Rattle.plates.specs.declared.Refusal.the-variants.{NotPrepared, SampleCount}
 use Rattle.plates.proofs.SoundIsPrepared.{sound}
 use Rattle.plates.specs.Prepare.{notPrepared}
-use Rattle.plates.specs.Refusals.{Passes, Refuses}
+use Rattle.plates.specs.Refusals.{Refuses}
 use Rattle.decoding.specs.declared.Decoded.{Decoded}
 use Rattle.decoding.specs.declared.Decoded.the-variants.{Found, Refused}
 use Rattle.decoding.specs.Decode.{Decodes, decodeConditions, sampleCount}
