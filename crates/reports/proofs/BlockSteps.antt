@@ -14,7 +14,7 @@ use Rattle.sheets.specs.Blocks.{BlockFound, block, noBlock, blockReply, roomAft
 use Rattle.sheets.specs.declared.BlockReply.the-variants.{Read, NoBlock}
 use Rattle.reports.specs.declared.Report.{Report}
 use Rattle.reports.specs.declared.Step.{Step}
-use Rattle.reports.specs.Steps.{BlockStep, BlocksStep, DecodedStep, Lent, LineStep, RoomStep, decodable, enough, lends, refusedStep, short, toBlocks, toNothing}
+use Rattle.reports.specs.Steps.{BlocksStep, DecodedStep, Lent, LineStep, RoomStep, decodable, enough, lends, refusedStep, short, toBlocks, toNothing}
 use Rattle.reports.proofs.LongBlocks.{laid-length, places-decoded}
 
 module _ {samples : List ℤ} {before after : Report} {step : Step} {metrics : List ℤ} {decisions room : List ℕ} where

@@ -1,5 +1,5 @@
 -- The samples of a block as they are decoded: those that were read, or none where there were more than 64.
-use Prim.Native.Nat.{ℕ, _≤_, _<_, zero, suc}
+use Prim.Native.Nat.{ℕ, _≤_, _<_, suc}
 use lib.Dec.{ltb}
 use borrow.Author.Tests.{ltb-true, ltb-false}
 use lib.IntN.{ℤ}
@@ -11,9 +11,10 @@ use mathlib.Core.Path.{_≡_, refl, ap, sym}
 use native.Mathlib.Omega.{arith}
 use Rattle.plates.specs.declared.Plate.{Plate}
 use Rattle.plates.specs.declared.Refusal.{Refusal}
-use Rattle.plates.specs.declared.Refusal.the-variants.{Length, NotPrepared, SampleCount}
-use Rattle.plates.specs.Prepare.{IsPrepared, notPrepared}
-use Rattle.plates.specs.Refusals.{Passes, Refuses}
+use Rattle.plates.specs.declared.Refusal.the-variants.{NotPrepared, SampleCount}
+use Rattle.plates.proofs.SoundIsPrepared.{sound}
+use Rattle.plates.specs.Prepare.{notPrepared}
+use Rattle.plates.specs.Refusals.{Refuses}
 use Rattle.decoding.specs.declared.Decoded.{Decoded}
 use Rattle.decoding.specs.declared.Decoded.the-variants.{Found, Refused}
 use Rattle.decoding.specs.Decode.{Decodes, decodeConditions, sampleCount}
@@ -32,20 +33,12 @@ module _ {A : Type 0} where
   laid-length (v ∷ vs) [] = refl
   laid-length (v ∷ vs) (x ∷ room) = ap suc (laid-length vs room)
 
--- a prepared plate has n from 1 to 64
-pub prepared-length : (plate : Plate) → IsPrepared plate → (1 ≤ plate .n) × (plate .n ≤ 64)
-prepared-length plate p =
-    let none = p .same .reply .0 .0 in
-    let some : plate .n ≡ 0 → ⊥ = λ e. none Length (inl e, refl) in
-    let few : 64 < plate .n → ⊥ = λ h. none Length (inr h, refl) in
-    (omega (arith, some), omega (arith, few))
-
 module _ (plate : Plate) (samples metrics : List ℤ) (decisions : List ℕ) (long : 64 < length samples) where
   -- a prepared plate has another number of samples, whether none or more than 64
   none-fits : ((p : Refusal) → notPrepared plate p → ⊥) → (plate .n ≡ 0 → ⊥) × (length samples ≡ plate .n → ⊥)
   none-fits passes = (
-    (λ e. passes NotPrepared ((λ p. omega (arith, prepared-length plate p .0)), refl)),
-    (λ e. passes NotPrepared ((λ p. omega (arith, prepared-length plate p .1)), refl)),
+    (λ e. passes NotPrepared ((λ p. omega (arith, sound p .positive)), refl)),
+    (λ e. passes NotPrepared ((λ p. omega (arith, sound p .short)), refl)),
   )
 
   no-count : ((p : Refusal) → notPrepared plate p → ⊥) → ((p : Refusal) → sampleCount plate [] p → ⊥) → ⊥

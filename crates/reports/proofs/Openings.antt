@@ -4,11 +4,10 @@ use lib.ListN.{length, take}
 use mathlib.Core.List.{List}
 use mathlib.Core.Path.{_≡_, refl, subst, sym}
 use native.Mathlib.Omega.{arith}
-use Rattle.plates.specs.declared.Kind.{Kind}
 use Rattle.plates.specs.declared.Refusal.{Refusal}
 use Rattle.sheets.specs.declared.Sheet.{Sheet}
 use Rattle.sheets.specs.declared.SheetReply.the-variants.{Read, Refused}
-use Rattle.sheets.specs.Sheet.{Contents, Reading, says, refused, reading, sheetReply, tableAfter, sheetAt, startOf}
+use Rattle.sheets.specs.Sheet.{Reading, says, refused, reading, sheetReply, tableAfter, sheetAt, startOf}
 use Rattle.sheets.proofs.Ranges.{sheet-in-range}
 use Rattle.reports.specs.declared.Report.{Report}
 use Rattle.reports.specs.Steps.{Opens, OpensAs, OpensSheet, refusedReport}

@@ -55,19 +55,19 @@ BlocksReport plate count (samples ∷ blocks) (line ∷ lines) = BlockLine plate
 -- ---- the whole
 
 -- the profile line, and those of the blocks
-abbrev pub ProfileReports : Plate → List (List ℤ) → List (List ℕ) → Type 0
-ProfileReports plate blocks [] = ⊥
-ProfileReports plate blocks (line ∷ lines) = (line ≡ lineOfProfile plate) × BlocksReport plate (length blocks) blocks lines
+abbrev pub ProfileReports : Plate → ℕ → List (List ℤ) → List (List ℕ) → Type 0
+ProfileReports plate count blocks [] = ⊥
+ProfileReports plate count blocks (line ∷ lines) = (line ≡ lineOfProfile plate) × BlocksReport plate count blocks lines
 
 -- the plate line before them
-abbrev pub PlateReports : Plate → List (List ℤ) → List (List ℕ) → Type 0
-PlateReports plate blocks [] = ⊥
-PlateReports plate blocks (line ∷ lines) = (line ≡ lineOfPlate plate) × ProfileReports plate blocks lines
+abbrev pub PlateReports : Plate → ℕ → List (List ℤ) → List (List ℕ) → Type 0
+PlateReports plate count blocks [] = ⊥
+PlateReports plate count blocks (line ∷ lines) = (line ≡ lineOfPlate plate) × ProfileReports plate count blocks lines
 
 -- a matrix that is refused prints one line and nothing more
 abbrev pub PreparedReports : Verdict → Plate → List (List ℤ) → List (List ℕ) → Type 0
 PreparedReports (J.Refused q) plate blocks lines = lines ≡ lineOfRefusal q ∷ []
-PreparedReports J.Accepted plate blocks lines = PlateReports plate blocks lines
+PreparedReports J.Accepted plate blocks lines = PlateReports plate (length blocks) blocks lines
 
 -- the sheet's matrix is prepared
 pub record SheetReports (sheet : Contents) (lines : List (List ℕ)) : Type 0 where

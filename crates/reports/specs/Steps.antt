@@ -4,7 +4,7 @@ use lib.Dec.{ltb}
 use lib.IntN.{ℤ}
 use lib.ListN.{length}
 use mathlib.Core.Bool.{Bool, true, false, cond}
-use mathlib.Core.List.{List, [], _∷_}
+use mathlib.Core.List.{List}
 use mathlib.Core.Path.{_≡_}
 use Rattle.plates.specs.declared.Kind.{Kind}
 use Rattle.plates.specs.declared.Plate.{Plate}
@@ -20,13 +20,12 @@ use Rattle.decoding.specs.declared.Decoded.the-variants as D
 use Rattle.decoding.specs.Decode.{Decodes}
 use Rattle.listings.specs.declared.Written.{Written}
 use Rattle.listings.specs.declared.Written.the-variants as W
-use Rattle.listings.specs.Writing.{WritesPlate, WritesProfile, WritesLine, WritesOf, WritesRefused, WritesEnd}
+use Rattle.listings.specs.Writing.{WritesPlate, WritesProfile, WritesOf, WritesRefused, WritesEnd}
 use Rattle.sheets.specs.Blocks.{BlockFound, block, noBlock, blockAt, nextLine}
-use Rattle.sheets.specs.Sheet.{Contents, Reading, says, refused, reading, startOf}
+use Rattle.sheets.specs.Sheet.{Reading, says, refused, reading, startOf}
 use Rattle.reports.specs.declared.Stage.{Stage}
 use Rattle.reports.specs.declared.Stage.the-variants as S
 use Rattle.reports.specs.declared.Report.{Report}
-use Rattle.reports.specs.declared.Outcome.{Outcome}
 use Rattle.reports.specs.declared.Outcome.the-variants as O
 use Rattle.reports.specs.declared.Step.{Step}
 use Rattle.reports.specs.Report.{lineOfAnswer}

@@ -1,5 +1,4 @@
 -- `stages::used` meets its contract.
-use borrow.Author.Needs.{needs}
 use native.Mathlib.Omega.{arith}
 use borrow.Author.Tests.{lt-ltb, le-ltb}
 use Rattle.reports.proofs.stages.used.Statement.{statement}

@@ -1,0 +1,109 @@
+-- In rooms that are enough, a step gives the line that comes next.
+use Prim.Native.Nat.{ℕ, _≤_}
+use lib.IntN.{ℤ}
+use lib.ListN.{drop, length, take}
+use lib.Seq.{take-append-seam}
+use mathlib.Core.Bool.{Bool, true}
+use mathlib.Core.List.{List, [], _∷_}
+use mathlib.Core.Logic.{inl, inr}
+use mathlib.Core.Path.{_≡_, ap, refl, subst, sym, _∙_}
+use native.Mathlib.Omega.{arith}
+use Rattle.plates.proofs.Refusing.{never-both}
+use Rattle.plates.specs.declared.Plate.{Plate}
+use Rattle.plates.specs.declared.Refusal.{Refusal}
+use Rattle.plates.specs.Prepare.{IsPrepared, notPrepared}
+use Rattle.plates.proofs.SoundIsPrepared.{sound}
+use Rattle.plates.specs.Refusals.{Passes, Refuses, number, place}
+use Rattle.decoding.proofs.PlateSizes.{decision-need-small, plate-sizes-fit}
+use Rattle.decoding.specs.declared.Decoded.{Decoded}
+use Rattle.decoding.specs.declared.Decoded.the-variants as D
+use Rattle.decoding.specs.Decode.{Decodes, decodeConditions, metricNeed}
+use Rattle.listings.proofs.Fits256.{refused-fits-256, word-fits-256}
+use Rattle.listings.specs.declared.Written.{Written}
+use Rattle.listings.specs.declared.Written.the-variants as W
+use Rattle.listings.specs.Writing.{Writes, WritesAs, lineRoom}
+use Rattle.reports.specs.declared.Outcome.the-variants as O
+use Rattle.reports.specs.declared.Report.{Report}
+use Rattle.reports.specs.declared.Step.{Step}
+use Rattle.reports.specs.Report.{BlockLine, lineOfAnswer, lineOfRefusal, refusedBlock, wordOfBlock}
+use Rattle.reports.specs.Steps.{DecodedStep, Lent, RefusedStep, RoomStep, WritesStep, enough, ofBlock, short, stepBy}
+use Rattle.reports.specs.Turns.{Enough}
+
+-- a line stands in the room, and this report comes after it
+pub record Given (line : List ℕ) (after : Report) (step : Step) (room′ : List ℕ) : Type 0 where
+  pub outcome : step .outcome ≡ O.Line (length line)
+  pub next : step .next ≡ after
+  pub bytes : line ≡ take (length line) room′
+
+-- ---- a line that is written
+
+module _ (cs : List (Refusal → Type 0)) (line room room′ : List ℕ) (before after : Report) (step : Step) (pass : Passes cs) where
+  by-written : (w : Written) → WritesAs cs line room room′ w → step ≡ stepBy w before after → Given line after step room′
+  by-written (W.Refused q) x e = absurd (never-both cs pass q (x .0))
+  by-written (W.Length size) x e = record {
+    outcome = ap (λ (s : Step). s .outcome) e ∙ ap O.Line (x .1);
+    next = ap (λ (s : Step). s .next) e;
+    bytes = sym (ap (take (length line)) (x .2) ∙ take-append-seam line (drop (length line) room));
+  }
+
+  -- no condition refuses it
+  pub line-given : WritesStep (Writes cs line room) before after step room′ → Given line after step room′
+  line-given x = by-written (x .written) (x .writes .reply) (x .is)
+
+-- a line of at most 256 bytes fits a room of so many
+pub fits : (line room : List ℕ) → length line ≤ 256 → 256 ≤ length room → Passes (lineRoom line room ∷ [])
+fits line room l r = ((λ p x. omega (arith, x .0)), tt)
+
+-- also where it takes a prepared plate
+pub plate-fits : (plate : Plate) → IsPrepared plate → (line room : List ℕ) → length line ≤ 256 → 256 ≤ length room → Passes (notPrepared plate ∷ lineRoom line room ∷ [])
+plate-fits plate prepared line room l r = ((λ p x. x .0 prepared), fits line room l r)
+
+-- ---- the line of a block
+
+pub record BlockGiven (samples : List ℤ) (before after : Report) (step : Step) (room′ : List ℕ) : Type 0 where
+  pub line : List ℕ
+  pub is : BlockLine (before .plate) samples line
+  pub given : Given line after step room′
+
+module _ (samples : List ℤ) (before after : Report) (step : Step) (lent left : Lent) (prepared : IsPrepared (before .plate)) (rooms : Enough lent) where
+  abbrev Gives : Type 0
+  Gives = BlockGiven samples before after step (left .room)
+
+  metric-need-small : metricNeed (before .plate) ≤ 8192
+  metric-need-small = omega (arith, plate-sizes-fit (before .plate) prepared .half-small)
+
+  -- a refusal that is printed
+  printed : (q : Refusal) → ofBlock q ≡ true → BlockLine (before .plate) samples (lineOfRefusal q) → RefusedStep (ofBlock q) q before after (lent .room) step (left .room) → Gives
+  printed q e l x = record {
+    line = lineOfRefusal q;
+    is = l;
+    given = line-given _ (lineOfRefusal q) (lent .room) (left .room) before after step
+        (fits (lineOfRefusal q) (lent .room) (refused-fits-256 (number q) (place q)) (rooms .room))
+        (subst (λ (b : Bool). RefusedStep b q before after (lent .room) step (left .room)) e x);
+  }
+
+  by-refusal : (q : Refusal) → Refuses (decodeConditions (before .plate) samples (lent .metrics) (lent .decisions)) q
+      → RefusedStep (ofBlock q) q before after (lent .room) step (left .room) → Gives
+  by-refusal q (inl n) x = absurd (n .0 prepared)
+  by-refusal q (inr (n, inl c)) x = printed q (ap ofBlock (c .1)) (refusedBlock q (inl c) refl) x
+  by-refusal q (inr (n, inr (c, inl o))) x = printed q (ap ofBlock (o .is)) (refusedBlock q (inr (c, inl o)) refl) x
+  by-refusal q (inr (n, inr (c, inr (o, inl m)))) x = absurd (omega (arith, m .0, metric-need-small, rooms .metrics))
+  by-refusal q (inr (n, inr (c, inr (o, inr (m, inl d))))) x = absurd (omega (arith, d .0, decision-need-small (before .plate) prepared, rooms .decisions))
+  by-refusal q (inr (n, inr (c, inr (o, inr (m, inr z))))) x = absurd (z .1)
+
+  by-decoded : (d : Decoded) → Decodes (before .plate) samples (lent .metrics) (lent .decisions) (left .metrics) (left .decisions) d
+      → DecodedStep d before after (lent .room) step (left .room) → Gives
+  by-decoded (D.Refused q) p x = by-refusal q (p .0) x
+  by-decoded (D.Found a) p x = record {
+    line = lineOfAnswer (before .plate) a;
+    is = wordOfBlock a (p .0 .1 .0, (p .0 .1 .1 .0, tt)) (p .1) refl;
+    given = line-given _ (lineOfAnswer (before .plate) a) (lent .room) (left .room) before after step
+        (plate-fits (before .plate) prepared (lineOfAnswer (before .plate) a) (lent .room)
+        (word-fits-256 (before .plate .n) (a .word) (a .metric) (a .counts .additions) (a .counts .comparisons) (sound prepared .short)) (rooms .room))
+        x;
+  }
+
+  -- a block gives its line
+  pub block-given : RoomStep samples before after lent step left → Gives
+  block-given (short h x) = absurd (omega (arith, h, rooms .room))
+  block-given (enough h x) = by-decoded (x .decoded) (x .decodes) (x .line)
