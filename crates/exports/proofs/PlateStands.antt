@@ -1,9 +1,9 @@
 -- The plate read from a run stands for it: an entry over a byte is in no prepared plate.
 use lib.ListN.{drop, getD, length, set, take}
 use lib.Seq.{drop-at, drop-drop, paste, take-all, take-at}
-use mathlib.Core.List.{_++_, List, [], _∷_}
+use mathlib.Core.List.{_++_, List, [], append-assoc, _∷_}
 use mathlib.Core.Logic.{inr}
-use mathlib.Core.Path.{ap, refl, sym, _∙_, _≡_}
+use mathlib.Core.Path.{ap, ap₂, refl, sym, _∙_, _≡_}
 use native.Mathlib.Decide.{decLt}
 use native.Mathlib.Omega.{arith}
 use Prim.Native.Nat.{_+_, _<_, ℕ, _≤_}
@@ -12,6 +12,7 @@ use Rattle.exports.specs.Flat.{EntriesFit, StandsFor, flat, plateOf}
 use Rattle.plates.proofs.SoundIsPrepared.{sound}
 use Rattle.plates.specs.declared.Plate.{Plate}
 use Rattle.plates.specs.Prepare.{IsPrepared}
+use Rattle.trellises.proofs.Digits.{rest}
 
 -- a plate of length 0 is not prepared
 pub empty-not-prepared : {plate : Plate} → plate .n ≡ 0 → IsPrepared plate → ⊥
@@ -67,3 +68,12 @@ module _ (run : List ℕ) (plate : Plate) (rows : length (plate .rows) ≡ 64) (
     where
       after-rows : run₂ ≡ front ++ drop 66 run
       after-rows = continued run run₂ (plate .n ∷ plate .k ∷ []) (plate .rows) 2 64 refl rows (e₂ ∙ ap (λ (x : List ℕ). paste x 2 (plate .rows) 64) e₁)
+
+-- what is put into a run is the plate that the run then holds
+pub put-then-read : (plate : Plate) (rest : List ℕ) → length (plate .rows) ≡ 64 → length (plate .profile) ≡ 65 → plateOf (flat plate ++ rest) ≡ plate
+put-then-read plate rest rows entries =
+    ap₂ (λ (r p : List ℕ). record { n = plate .n; k = plate .k; rows = r; profile = p })
+    (ap (take 64) (append-assoc (plate .rows) (plate .profile) rest) ∙ take-at (plate .rows) (plate .profile ++ rest) 64 rows)
+    (ap (λ (l : List ℕ). take 65 (drop 64 l)) (append-assoc (plate .rows) (plate .profile) rest)
+    ∙ ap (take 65) (drop-at (plate .rows) (plate .profile ++ rest) 64 rows)
+    ∙ take-at (plate .profile) rest 65 entries)

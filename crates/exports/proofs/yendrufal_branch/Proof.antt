@@ -1,13 +1,11 @@
 -- `exports::yendrufal_branch` meets its promise.
 use borrow.Author.Needs.{needs}
 use Rattle.exports.proofs.CallsMade.{misshaped, replied, same-code}
-use mathlib.Core.Path.{_∙_, ap, refl, subst, sym}
+use mathlib.Core.Path.{refl}
 use native.Mathlib.Omega.{arith}
 use Rattle.exports.proofs.PromisesCarried.{branch-carried}
 use Rattle.exports.proofs.yendrufal_branch.Statement.{statement}
 use Rattle.exports.proofs.yendrufal_branch.Tie as tie
-use Rattle.exports.proofs.yendrufal_branch.Reads as reads
-use Rattle.exports.proofs.yendrufal_branch.Lts as lts
 
 returns : tie.Need-returns
 returns c = misshaped (λ s. omega (arith, s .0))

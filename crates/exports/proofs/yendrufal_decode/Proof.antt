@@ -5,8 +5,6 @@ use Rattle.exports.proofs.CallsMade.{misshaped}
 use Rattle.exports.proofs.DecodeCrossed.{decode-found, decode-refused}
 use Rattle.exports.proofs.yendrufal_decode.Statement.{statement}
 use Rattle.exports.proofs.yendrufal_decode.Tie as tie
-use Rattle.exports.proofs.yendrufal_decode.Reads as reads
-use Rattle.exports.proofs.yendrufal_decode.Lts as lts
 
 decode-shaped-requires : tie.Need-decode-shaped-requires
 decode-shaped-requires c κs = search needs

@@ -6,8 +6,6 @@ use native.Mathlib.Omega.{arith}
 use Rattle.exports.proofs.PromisesCarried.{encode-carried}
 use Rattle.exports.proofs.yendrufal_encode.Statement.{statement}
 use Rattle.exports.proofs.yendrufal_encode.Tie as tie
-use Rattle.exports.proofs.yendrufal_encode.Reads as reads
-use Rattle.exports.proofs.yendrufal_encode.Lts as lts
 
 returns : tie.Need-returns
 returns c = misshaped (λ s. omega (arith, s .0))

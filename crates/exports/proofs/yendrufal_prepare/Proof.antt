@@ -1,14 +1,12 @@
 -- `exports::yendrufal_prepare` meets its promise.
 use borrow.Author.Needs.{needs}
 use Rattle.exports.proofs.CallsMade.{crossed-accepted, crossed-refused, misshaped, replied}
-use mathlib.Core.Path.{_∙_, ap, refl, subst, sym}
+use mathlib.Core.Path.{refl, subst}
 use native.Mathlib.Omega.{arith}
 use Rattle.plates.specs.declared.Kind.{Kind}
 use Rattle.plates.specs.Prepare.{Prepares}
 use Rattle.exports.proofs.yendrufal_prepare.Statement.{statement}
 use Rattle.exports.proofs.yendrufal_prepare.Tie as tie
-use Rattle.exports.proofs.yendrufal_prepare.Reads as reads
-use Rattle.exports.proofs.yendrufal_prepare.Lts as lts
 
 returns : tie.Need-returns
 returns c = misshaped (λ s. omega (arith, s .0))

@@ -1,13 +1,11 @@
 -- `exports::yendrufal_read_back` meets its promise.
 use borrow.Author.Needs.{needs}
 use Rattle.exports.proofs.CallsMade.{misshaped, replied, same-code}
-use mathlib.Core.Path.{_∙_, ap, refl, subst, sym}
+use mathlib.Core.Path.{refl}
 use native.Mathlib.Omega.{arith}
 use Rattle.exports.proofs.PromisesCarried.{read-back-carried}
 use Rattle.exports.proofs.yendrufal_read_back.Statement.{statement}
 use Rattle.exports.proofs.yendrufal_read_back.Tie as tie
-use Rattle.exports.proofs.yendrufal_read_back.Reads as reads
-use Rattle.exports.proofs.yendrufal_read_back.Lts as lts
 
 returns : tie.Need-returns
 returns c = misshaped (λ s. omega (arith, s .0))

@@ -1,13 +1,10 @@
 -- `exports::yendrufal_write_end` meets its promise.
 use borrow.Author.Needs.{needs}
 use Rattle.exports.proofs.CallsMade.{misshaped, wrote}
-use mathlib.Core.Path.{_∙_, ap, refl, subst, sym}
 use native.Mathlib.Omega.{arith}
 use Rattle.listings.specs.Writing.{WritesEnd}
 use Rattle.exports.proofs.yendrufal_write_end.Statement.{statement}
 use Rattle.exports.proofs.yendrufal_write_end.Tie as tie
-use Rattle.exports.proofs.yendrufal_write_end.Reads as reads
-use Rattle.exports.proofs.yendrufal_write_end.Lts as lts
 
 returns : tie.Need-returns
 returns c = misshaped (λ s. omega (arith, s))

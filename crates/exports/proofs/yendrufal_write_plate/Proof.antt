@@ -1,7 +1,6 @@
 -- `exports::yendrufal_write_plate` meets its promise.
 use borrow.Author.Needs.{needs}
 use Rattle.exports.proofs.CallsMade.{misshaped, wrote}
-use mathlib.Core.Path.{_∙_, ap, refl, subst, sym}
 use native.Mathlib.Omega.{arith}
 use Rattle.exports.proofs.PromisesCarried.{write-carried}
 use Rattle.exports.specs.Flat.{plateOf}
@@ -10,8 +9,6 @@ use Rattle.listings.specs.Writing.{WritesPlate, entriesOf}
 use Rattle.plates.specs.declared.Plate.{Plate}
 use Rattle.exports.proofs.yendrufal_write_plate.Statement.{statement}
 use Rattle.exports.proofs.yendrufal_write_plate.Tie as tie
-use Rattle.exports.proofs.yendrufal_write_plate.Reads as reads
-use Rattle.exports.proofs.yendrufal_write_plate.Lts as lts
 
 returns : tie.Need-returns
 returns c = misshaped (λ s. omega (arith, s .0))

@@ -1,13 +1,10 @@
 -- `exports::yendrufal_write_refused` meets its promise.
 use borrow.Author.Needs.{needs}
 use Rattle.exports.proofs.CallsMade.{misshaped, wrote}
-use mathlib.Core.Path.{_∙_, ap, refl, subst, sym}
 use native.Mathlib.Omega.{arith}
 use Rattle.listings.specs.Writing.{WritesRefused}
 use Rattle.exports.proofs.yendrufal_write_refused.Statement.{statement}
 use Rattle.exports.proofs.yendrufal_write_refused.Tie as tie
-use Rattle.exports.proofs.yendrufal_write_refused.Reads as reads
-use Rattle.exports.proofs.yendrufal_write_refused.Lts as lts
 
 returns : tie.Need-returns
 returns c = misshaped (λ s. omega (arith, s))

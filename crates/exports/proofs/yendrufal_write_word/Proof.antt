@@ -1,20 +1,17 @@
 -- `exports::yendrufal_write_word` meets its promise.
 use borrow.Author.Needs.{needs}
 use Rattle.exports.proofs.CallsMade.{misshaped, wrote}
-use mathlib.Core.Path.{_∙_, ap, refl, subst, sym}
 use native.Mathlib.Omega.{arith}
 use Rattle.exports.proofs.PromisesCarried.{write-carried}
 use Rattle.exports.specs.Flat.{plateOf}
 use Rattle.listings.specs.Lines.{wordLine}
-use Rattle.listings.specs.Writing.{WritesWord, entriesOf}
+use Rattle.listings.specs.Writing.{WritesWord}
 use Rattle.plates.specs.declared.Plate.{Plate}
 use mir.Facts.{toZ-ofZ}
 use mir.Syntax.{w32}
 use mir.Val.{ofZ, toZ}
 use Rattle.exports.proofs.yendrufal_write_word.Statement.{statement}
 use Rattle.exports.proofs.yendrufal_write_word.Tie as tie
-use Rattle.exports.proofs.yendrufal_write_word.Reads as reads
-use Rattle.exports.proofs.yendrufal_write_word.Lts as lts
 
 returns : tie.Need-returns
 returns c = misshaped (λ s. omega (arith, s .0))

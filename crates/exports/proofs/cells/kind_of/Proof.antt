@@ -3,8 +3,6 @@ use borrow.Author.Needs.{needs}
 use Rattle.exports.proofs.CallsMade.{kind-other}
 use Rattle.exports.proofs.cells.kind_of.Statement.{statement}
 use Rattle.exports.proofs.cells.kind_of.Tie as tie
-use Rattle.exports.proofs.cells.kind_of.Reads as reads
-use Rattle.exports.proofs.cells.kind_of.Lts as lts
 
 returns : tie.Need-returns
 returns c = search needs

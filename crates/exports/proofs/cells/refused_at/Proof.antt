@@ -5,8 +5,6 @@ use lib.ListN.{set}
 use Prim.Native.Nat.{ℕ}
 use Rattle.exports.proofs.cells.refused_at.Statement.{statement}
 use Rattle.exports.proofs.cells.refused_at.Tie as tie
-use Rattle.exports.proofs.cells.refused_at.Reads as reads
-use Rattle.exports.proofs.cells.refused_at.Lts as lts
 
 refusal-place-requires : tie.Need-refusal-place-requires
 refusal-place-requires c κs = search needs

@@ -1,14 +1,10 @@
 -- `exports::cells::written_length` meets its contract: the length, or the number of the refusal.
 use borrow.Author.Needs.{needs}
-use mathlib.Core.List.{List}
 use mathlib.Core.Path.{_∙_, ap, sym}
-use Prim.Native.Nat.{ℕ}
 use Rattle.exports.proofs.CallsMade.{same-code}
 use Rattle.exports.specs.Crossing.{writtenAs}
 use Rattle.exports.proofs.cells.written_length.Statement.{statement}
 use Rattle.exports.proofs.cells.written_length.Tie as tie
-use Rattle.exports.proofs.cells.written_length.Reads as reads
-use Rattle.exports.proofs.cells.written_length.Lts as lts
 
 enum-known-reply : tie.Need-enum-known-reply
 enum-known-reply c = search needs

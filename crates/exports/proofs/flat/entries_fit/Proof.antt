@@ -1,14 +1,12 @@
 -- `exports::flat::entries_fit` meets its contract: no entry before t is over a byte.
 use borrow.Author.Needs.{needs}
-use lib.ListN.{getD, length, length-set}
-use mathlib.Core.Path.{_≡_, refl}
+use lib.ListN.{getD}
+use mathlib.Core.Path.{_≡_}
 use native.Mathlib.Omega.{arith}
 use borrow.Author.Count.{below-more}
 use Prim.Native.Nat.{ℕ, _+_, _-_, _<_, _≤_}
 use Rattle.exports.proofs.flat.entries_fit.Statement.{statement}
 use Rattle.exports.proofs.flat.entries_fit.Tie as tie
-use Rattle.exports.proofs.flat.entries_fit.Reads as reads
-use Rattle.exports.proofs.flat.entries_fit.Lts as lts
 
 abbrev Inv-loop : tie.InvT-loop
 Inv-loop words t₀ t = (t ≤ 65) × ((i : ℕ) → i < t → getD words (66 + i) 0 < 256)

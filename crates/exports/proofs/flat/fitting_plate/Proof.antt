@@ -6,8 +6,6 @@ use mathlib.Core.Path.{ap₂}
 use Prim.Native.Nat.{ℕ}
 use Rattle.exports.proofs.flat.fitting_plate.Statement.{statement}
 use Rattle.exports.proofs.flat.fitting_plate.Tie as tie
-use Rattle.exports.proofs.flat.fitting_plate.Reads as reads
-use Rattle.exports.proofs.flat.fitting_plate.Lts as lts
 
 shared-slice-read-t4 : tie.Need-shared-slice-read-t4
 shared-slice-read-t4 c = search needs

@@ -1,7 +1,7 @@
 -- `exports::flat::load_profile` meets its contract: cell by cell.
 use borrow.Author.Needs.{needs}
-use lib.ListN.{getD, length, length-set}
-use mathlib.Core.Path.{_≡_, refl}
+use lib.ListN.{length, length-set}
+use mathlib.Core.Path.{_≡_}
 use native.Mathlib.Omega.{arith}
 use lib.Seq.{paste, paste-zero}
 use Prim.Native.Nat.{_-_, _≤_}
@@ -9,8 +9,6 @@ use Rattle.exports.proofs.CellsCopied.{loaded-end, loaded-on}
 use Rattle.exports.specs.Flat.{flatProfile}
 use Rattle.exports.proofs.flat.load_profile.Statement.{statement}
 use Rattle.exports.proofs.flat.load_profile.Tie as tie
-use Rattle.exports.proofs.flat.load_profile.Reads as reads
-use Rattle.exports.proofs.flat.load_profile.Lts as lts
 
 abbrev Inv-loop : tie.InvT-loop
 Inv-loop profile₀ words t₀ profile t = (t ≤ 65) × (length profile ≡ 65) × (profile ≡ paste profile₀ 0 (flatProfile words) t)

@@ -1,7 +1,7 @@
 -- `exports::flat::load_rows` meets its contract: cell by cell.
 use borrow.Author.Needs.{needs}
-use lib.ListN.{getD, length, length-set}
-use mathlib.Core.Path.{_≡_, refl}
+use lib.ListN.{length, length-set}
+use mathlib.Core.Path.{_≡_}
 use native.Mathlib.Omega.{arith}
 use lib.Seq.{paste, paste-zero}
 use Prim.Native.Nat.{_-_, _≤_}
@@ -9,8 +9,6 @@ use Rattle.exports.proofs.CellsCopied.{loaded-end, loaded-on}
 use Rattle.exports.specs.Flat.{flatRows}
 use Rattle.exports.proofs.flat.load_rows.Statement.{statement}
 use Rattle.exports.proofs.flat.load_rows.Tie as tie
-use Rattle.exports.proofs.flat.load_rows.Reads as reads
-use Rattle.exports.proofs.flat.load_rows.Lts as lts
 
 abbrev Inv-loop : tie.InvT-loop
 Inv-loop rows₀ words j₀ rows j = (j ≤ 64) × (length rows ≡ 64) × (rows ≡ paste rows₀ 0 (flatRows words) j)

@@ -5,8 +5,6 @@ use mathlib.Core.Path.{refl}
 use Rattle.exports.proofs.PlateStands.{stands-empty}
 use Rattle.exports.proofs.flat.plate_of.Statement.{statement}
 use Rattle.exports.proofs.flat.plate_of.Tie as tie
-use Rattle.exports.proofs.flat.plate_of.Reads as reads
-use Rattle.exports.proofs.flat.plate_of.Lts as lts
 
 entries-fit-requires : tie.Need-entries-fit-requires
 entries-fit-requires c κs = search needs

@@ -5,8 +5,6 @@ use native.Mathlib.Omega.{arith}
 use Rattle.exports.proofs.PlateStands.{headed}
 use Rattle.exports.proofs.flat.put_head.Statement.{statement}
 use Rattle.exports.proofs.flat.put_head.Tie as tie
-use Rattle.exports.proofs.flat.put_head.Reads as reads
-use Rattle.exports.proofs.flat.put_head.Lts as lts
 
 slice-write-words : tie.Need-slice-write-words
 slice-write-words c = search needs

@@ -3,8 +3,6 @@ use borrow.Author.Needs.{needs}
 use Rattle.exports.proofs.PlateStands.{put-whole}
 use Rattle.exports.proofs.flat.put_plate.Statement.{statement}
 use Rattle.exports.proofs.flat.put_plate.Tie as tie
-use Rattle.exports.proofs.flat.put_plate.Reads as reads
-use Rattle.exports.proofs.flat.put_plate.Lts as lts
 
 put-head-requires : tie.Need-put-head-requires
 put-head-requires c κs = search needs

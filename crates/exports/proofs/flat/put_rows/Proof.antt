@@ -1,6 +1,6 @@
 -- `exports::flat::put_rows` meets its contract: cell by cell.
 use borrow.Author.Needs.{needs}
-use lib.ListN.{getD, length, length-set}
+use lib.ListN.{length, length-set}
 use mathlib.Core.Path.{_≡_, refl}
 use native.Mathlib.Omega.{arith}
 use lib.Seq.{paste, paste-zero}
@@ -8,8 +8,6 @@ use Prim.Native.Nat.{_-_, _≤_}
 use Rattle.exports.proofs.CellsCopied.{pasted-end, pasted-on}
 use Rattle.exports.proofs.flat.put_rows.Statement.{statement}
 use Rattle.exports.proofs.flat.put_rows.Tie as tie
-use Rattle.exports.proofs.flat.put_rows.Reads as reads
-use Rattle.exports.proofs.flat.put_rows.Lts as lts
 
 abbrev Inv-loop : tie.InvT-loop
 Inv-loop words₀ rows j₀ words j = (j ≤ 64) × (length words ≡ length words₀) × (words ≡ paste words₀ 2 rows j)
