@@ -60,7 +60,9 @@ extern "C" {
 #define YENDRUFAL_DECISIONS_MOST 4096 /* enough for every plate */
 
 /* Rooms for text, in bytes. */
-#define YENDRUFAL_LINE_MOST 256 /* enough for every listing line */
+#define YENDRUFAL_LINE_MOST 256    /* enough for every listing line */
+#define YENDRUFAL_SHEET_MOST 32768 /* a longer sheet is refusal 15 */
+#define YENDRUFAL_LISTING(blocks) ((size_t)YENDRUFAL_LINE_MOST * ((blocks) + 3)) /* with so many block lines */
 
 /* Turns a matrix of `row_count` rows into a plate. Refusals 1 to 4.
    Fixed: plate 131, place 1. */
@@ -105,6 +107,15 @@ uint64_t yendrufal_write_refused(uint64_t number, uint64_t place, uint8_t *line,
                                  size_t line_length, uint64_t *written, size_t written_length);
 uint64_t yendrufal_write_end(uint64_t count, uint8_t *line, size_t line_length, uint64_t *written,
                              size_t written_length);
+
+/* The whole listing of a sheet, as the program `trellis` prints it: what the sheet or a block of it
+   is refused for stands in the listing, and the reply is YENDRUFAL_DONE. The working rooms must be
+   enough for every plate, and `listing` must have YENDRUFAL_LINE_MOST bytes for each line: refusals
+   8, 9, 11. The working rooms are left as by decoding each block in turn. Fixed: written 1. */
+uint64_t yendrufal_listing(const uint8_t *sheet, size_t sheet_length, int32_t *metrics,
+                           size_t metric_count, uint64_t *decisions, size_t decision_count,
+                           uint8_t *listing, size_t listing_length, uint64_t *written,
+                           size_t written_length);
 
 #ifdef __cplusplus
 }

@@ -13,9 +13,6 @@ pub enum Library {
     Bridged(Bridge),
 }
 
-/// Whether the library has the call for a whole listing. While it has none, the model alone answers it.
-pub const LISTING: bool = false;
-
 /// Bytes of calls that are sent to a bridge together.
 const BATCH: usize = 1 << 20;
 
@@ -74,9 +71,6 @@ impl Comparison {
     pub fn agree(&mut self, asked: Call) -> (u64, Call) {
         let mut expected = asked.clone();
         let reply = self.model.answer(&mut expected);
-        if asked.name == Name::Listing && !LISTING {
-            return (reply, expected);
-        }
         *self.agreed.entry((self.kind, asked.name)).or_insert(0) += 1;
         match &mut self.library {
             #[cfg(linked)]

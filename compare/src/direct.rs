@@ -38,7 +38,7 @@ pub fn answer(call: &mut Call) -> u64 {
             }
         }
         Name::WritePlate | Name::WriteProfile | Name::WriteWord => write_of_plate(call),
-        Name::Listing => unreachable!("the library has no listing yet"),
+        Name::Listing => listing(call),
     }
 }
 
@@ -64,4 +64,12 @@ fn write_of_plate(call: &mut Call) -> u64 {
         Name::WriteProfile => unsafe { yendrufal_write_profile(plate, a, line, b, written, c) },
         _ => unsafe { yendrufal_write_word(plate, a, n[0], n[1] as i32, n[2], n[3], line, b, written, c) },
     }
+}
+
+fn listing(call: &mut Call) -> u64 {
+    let r = &mut call.runs[..];
+    let ((sheet, a), (metrics, b)) = (lent!(r[0], bytes), lent!(r[1], metrics));
+    let ((decisions, c), (listing, d), (written, e)) =
+        (lent!(r[2], words), lent!(r[3], bytes), lent!(r[4], words));
+    unsafe { yendrufal_listing(sheet, a, metrics, b, decisions, c, listing, d, written, e) }
 }

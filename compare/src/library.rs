@@ -95,4 +95,16 @@ extern "C" {
         written: *mut u64,
         written_length: usize,
     ) -> u64;
+    pub fn yendrufal_listing(
+        sheet: *const u8,
+        sheet_length: usize,
+        metrics: *mut i32,
+        metric_count: usize,
+        decisions: *mut u64,
+        decision_count: usize,
+        listing: *mut u8,
+        listing_length: usize,
+        written: *mut u64,
+        written_length: usize,
+    ) -> u64;
 }

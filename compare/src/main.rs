@@ -99,9 +99,7 @@ fn compare(library: Library, sheets: Option<&Path>, times: usize, seed: u64) {
         matrices::run(&mut comparison, &mut random, 3000 * times);
     }
     damage::run(&mut comparison, &mut random, 20 * times);
-    if comparison::LISTING {
-        sheets::run(&mut comparison, &mut random, 600 * times);
-    }
+    sheets::run(&mut comparison, &mut random, 600 * times);
     comparison.report();
 }
 

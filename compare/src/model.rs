@@ -12,9 +12,10 @@ use std::rc::Rc;
 pub const DONE: u64 = 0;
 pub const NO_BRANCH: u64 = 100;
 pub const SHAPE: u64 = 101;
+/// Enough bytes for every listing line.
+pub const LINE_MOST: usize = 256;
 pub const METRICS_MOST: usize = 8192;
 pub const DECISIONS_MOST: usize = 4096;
-pub const LISTING_MOST: usize = 66_560;
 
 const NO_PLATE: Refusal = Refusal { number: 5, place: 0 };
 const LINE_ROOM: Refusal = Refusal { number: 11, place: 0 };
@@ -130,16 +131,12 @@ impl Model {
 /// Whether a run is shorter than its use fixes, or a matrix is of neither kind.
 fn misshapen(call: &mut Call) -> bool {
     let kind_unknown = call.name == Name::Prepare && call.numbers[1] > 1;
-    let listing = call.name == Name::Listing;
     kind_unknown
         || call.runs.iter_mut().any(|run| match run.name {
             "plate" => run.words().len() < PLATE_WORDS,
             "counts" => run.words().len() < 2,
             "metric" => run.metrics().is_empty(),
             "next" | "word" | "information" | "written" | "place" => run.words().is_empty(),
-            "metrics" => listing && run.metrics().len() < METRICS_MOST,
-            "decisions" => listing && run.words().len() < DECISIONS_MOST,
-            "listing" => run.bytes().len() < LISTING_MOST,
             _ => false,
         })
 }
@@ -174,9 +171,19 @@ fn line_of_plate(name: Name, plate: &Plate, numbers: &[u64]) -> String {
     }
 }
 
+/// A whole listing: its room has the most that a line may have for each line.
 fn answer_listing(runs: &mut [Run]) -> u64 {
     let [sheet, metrics, decisions, listing, written] = runs else { unreachable!("listing has five runs") };
     let (text, decoded_with) = sheet::listing(sheet.bytes());
+    if metrics.metrics().len() < METRICS_MOST {
+        return 8;
+    }
+    if decisions.words().len() < DECISIONS_MOST {
+        return 9;
+    }
+    if listing.bytes().len() < LINE_MOST * text.lines().count() {
+        return 11;
+    }
     if let Some(plate) = decoded_with {
         clear_rooms(&plate, metrics.metrics(), decisions.words());
     }

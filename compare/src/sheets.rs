@@ -2,7 +2,7 @@
 
 use crate::asked::{self, FIXED};
 use crate::comparison::Comparison;
-use crate::model::{DECISIONS_MOST, LISTING_MOST, METRICS_MOST};
+use crate::model::{DECISIONS_MOST, LINE_MOST, METRICS_MOST};
 use crate::random::{matrix, samples, Random};
 use crate::sheet::SHEET_MOST;
 use crate::words::printed;
@@ -55,8 +55,26 @@ const AWKWARD: [&str; 44] = [
     "cover\t2\tG\tlast\nblock\t1\t2\t\nend\n",
 ];
 
+/// A room for three lines and one for each line of the sheet is enough.
 fn list(comparison: &mut Comparison, sheet: &[u8]) {
-    comparison.agree(asked::listing(sheet, METRICS_MOST, DECISIONS_MOST, LISTING_MOST, FIXED));
+    let room = LINE_MOST * (3 + sheet.iter().filter(|byte| **byte == b'\n').count());
+    comparison.agree(asked::listing(sheet, METRICS_MOST, DECISIONS_MOST, room, FIXED));
+}
+
+/// Short, exact and long rooms for a sheet whose listing has so many lines.
+fn list_in_rooms(comparison: &mut Comparison, sheet: &[u8], lines: usize) {
+    let room = LINE_MOST * lines;
+    for (metrics, decisions, room) in [
+        (8191, 4096, room),
+        (8192, 4095, room),
+        (8192, 4096, room - 1),
+        (8192, 4096, room),
+        (8191, 4095, 0),
+        (8192, 4095, 0),
+        (9000, 5000, room + 1),
+    ] {
+        comparison.agree(asked::listing(sheet, metrics, decisions, room, FIXED));
+    }
 }
 
 /// A sheet in order, but for matrices that are too wide and blocks that meet 6 or 7.
@@ -132,13 +150,8 @@ pub fn run(comparison: &mut Comparison, random: &mut Random, count: usize) {
     comparison.begin("sheets");
     AWKWARD.iter().for_each(|text| list(comparison, text.as_bytes()));
     long_sheets().iter().for_each(|sheet| list(comparison, sheet));
-    let good = AWKWARD[7].as_bytes();
-    for (metrics, decisions, room) in
-        [(8191, 4096, 66_560), (8192, 4095, 66_560), (8192, 4096, 66_559), (9000, 5000, 70_000)]
-    {
-        comparison.agree(asked::listing(good, metrics, decisions, room, FIXED));
-        comparison.agree(asked::listing(&[], metrics, decisions, room, FIXED));
-    }
+    list_in_rooms(comparison, b"", 1);
+    list_in_rooms(comparison, b"cover\t2\tG\tlast\nrow\t10\nblock\t-3\t4\nblock\t1\nend\n", 5);
     for _ in 0..count {
         let mut text = sheet(random);
         list(comparison, &text);

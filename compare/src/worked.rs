@@ -2,7 +2,7 @@
 
 use crate::asked::{self, FIXED};
 use crate::call::Call;
-use crate::model::{DECISIONS_MOST, LISTING_MOST, METRICS_MOST, NO_BRANCH};
+use crate::model::{DECISIONS_MOST, LINE_MOST, METRICS_MOST, NO_BRANCH};
 use std::fs;
 use std::path::Path;
 
@@ -52,7 +52,8 @@ impl Checked<'_> {
     }
 
     fn lists(&mut self, sheet: &[u8], listing: &[u8]) {
-        let call = asked::listing(sheet, METRICS_MOST, DECISIONS_MOST, LISTING_MOST, FIXED);
+        let room = LINE_MOST * listing.iter().filter(|byte| **byte == b'\n').count();
+        let call = asked::listing(sheet, METRICS_MOST, DECISIONS_MOST, room, FIXED);
         let mut left = self.expect(call, 0, Some((4, 0, listing.len() as u64)));
         let found = &left.runs[3].bytes()[..listing.len()];
         assert!(found == listing, "{} where {} is due", found.escape_ascii(), listing.escape_ascii());

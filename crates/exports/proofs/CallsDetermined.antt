@@ -8,13 +8,16 @@ use Rattle.coding.proofs.CodingDetermined.{encode-determined, read-back-determi
 use Rattle.decoding.proofs.DecodeDetermined.{decode-determined}
 use Rattle.decoding.specs.declared.Decoded.{Decoded}
 use Rattle.exports.specs.Calls.{Calls, Crossing, Replies, misshapen}
-use Rattle.exports.specs.Crossing.{DecodeCells, Decoding, Writing}
+use Rattle.exports.specs.Crossing.{DecodeCells, Decoding, Listing, ListingCells, Writing, listingCells}
 use Rattle.exports.specs.Flat.{plateOf}
-use Rattle.exports.specs.Promises.{CallsBranch, CallsDecode, CallsEncode, CallsPrepare, CallsReadBack, CallsWrite, CallsWriteEnd, CallsWritePlate, CallsWriteProfile, CallsWriteRefused, CallsWriteWord, DecodesTo, kindOf}
+use Rattle.exports.specs.Promises.{CallsBranch, CallsDecode, CallsEncode, CallsListing, CallsPrepare, CallsReadBack, CallsWrite, CallsWriteEnd, CallsWritePlate, CallsWriteProfile, CallsWriteRefused, CallsWriteWord, DecodesTo, kindOf}
 use Rattle.listings.proofs.Determined.{write-end-determined, write-plate-determined, write-profile-determined, write-refused-determined, write-word-determined}
 use Rattle.listings.specs.declared.Written.{Written}
 use Rattle.listings.specs.Writing.{WritesEnd, WritesPlate, WritesProfile, WritesRefused, WritesWord}
 use Rattle.plates.proofs.PrepareDetermined.{prepare-determined}
+use Rattle.reports.proofs.ListingDetermined.{write-listing-determined}
+use Rattle.reports.specs.Listing.{WritesListing}
+use Rattle.reports.specs.Remaining.{Rooms}
 use Rattle.trellises.proofs.BranchDetermined.{branch-determined}
 
 -- the one law: where the call below is determined, so is the call
@@ -96,3 +99,14 @@ module _ (room cell : List ℕ) (r s : ℕ) (a b c d : List ℕ) where
   pub write-end-call-determined : (blocks : ℕ) → CallsWriteEnd blocks room cell r a b → CallsWriteEnd blocks room cell s c d
       → SameRuns r s a b c d
   write-end-call-determined blocks = write-call-determined _ (WritesEnd blocks) (λ x y e f. write-end-determined blocks)
+
+pub listing-call-determined : (sheet : List ℕ) (working : Rooms) (listing cell : List ℕ) (r s : ℕ) (a b : Rooms) (c d e f : List ℕ)
+    → CallsListing sheet working listing cell r a c e → CallsListing sheet working listing cell s b d f
+    → _≡_ {A = Crossing ListingCells} (record { code = r; cells = listingCells a c e }) (record { code = s; cells = listingCells b d f })
+listing-call-determined sheet working listing cell r s a b c d e f = calls-determined one
+  where
+    one : (x y : Listing) → WritesListing sheet working listing (x .working) (x .listing) (x .reply) → WritesListing sheet working listing (y .working) (y .listing) (y .reply) → x ≡ y
+    one x y p q =
+        let same = write-listing-determined sheet working listing (x .reply) (y .reply) (x .working) (y .working) (x .listing) (y .listing) p q in
+        ap₂ (λ (u : Written) (w : Rooms). record { reply = u; working = w; listing = x .listing }) (same .0) (same .1)
+        ∙ ap (λ (l : List ℕ). record { reply = y .reply; working = y .working; listing = l }) (same .2)

@@ -5,15 +5,17 @@ use mathlib.Core.Logic.{inl, inr}
 use mathlib.Core.Path.{ap, ap₂, refl, sym, _∙_, _≡_}
 use Prim.Native.Nat.{suc, zero, ℕ}
 use Rattle.exports.specs.Calls.{Calls, Crossing, RefusedAt, done, misshapen}
-use Rattle.exports.specs.Crossing.{LengthPut, preparedAs}
+use Rattle.exports.specs.Crossing.{LengthPut, beside, preparedAs}
 use Rattle.exports.specs.Flat.{flat}
-use Rattle.exports.specs.Promises.{CallsWrite, kindOf}
+use Rattle.exports.specs.Promises.{CallsListing, CallsWrite, HasCell, kindOf}
 use Rattle.listings.specs.declared.Written.{Written}
 use Rattle.plates.specs.declared.Kind.the-variants.{H}
 use Rattle.plates.specs.declared.Plate.{Plate}
 use Rattle.plates.specs.declared.Refusal.{Refusal}
 use Rattle.plates.specs.declared.Verdict.{Verdict}
 use Rattle.plates.specs.declared.Verdict.the-variants.{Accepted, Refused}
+use Rattle.reports.specs.Listing.{WritesListing}
+use Rattle.reports.specs.Remaining.{Rooms}
 
 -- the same code with the same cells
 pub same-code : {Lent : Type 0} {r s : ℕ} {cells : Lent} → r ≡ s → _≡_ {A = Crossing Lent} (record { code = r; cells = cells }) (record { code = s; cells = cells })
@@ -35,6 +37,13 @@ pub wrote : (writes : List ℕ → Written → List ℕ → Type 0) {shape : Typ
     → shape → writes room reply room′ → LengthPut reply cell r cell′ → CallsWrite shape writes room cell r room′ cell′
 wrote writes room room′ cell cell′ r reply h w l =
     record { by-shape = inr (h, record { reply = record { reply = reply; room = room′ }; promised = w; crosses = l room′ }) }
+
+-- the same of a listing, with the working rooms beside
+pub wrote-listing : {sheet : List ℕ} (working working′ : Rooms) (listing listing′ cell cell′ : List ℕ) (r : ℕ) (reply : Written)
+    → HasCell cell → WritesListing sheet working listing working′ listing′ reply → LengthPut reply cell r cell′ → CallsListing sheet working listing cell r working′ listing′ cell′
+wrote-listing working working′ listing listing′ cell cell′ r reply h w l = record {
+  by-shape = inr (h, record { reply = record { reply = reply; working = working′; listing = listing′ }; promised = w; crosses = ap (beside working′) (l listing′) });
+}
 
 -- ---- prepare
 

@@ -16,6 +16,7 @@ use Rattle.plates.specs.declared.Prepared.{Prepared}
 use Rattle.plates.specs.declared.Verdict.{Verdict}
 use Rattle.plates.specs.declared.Verdict.the-variants.{Accepted, Refused}
 use Rattle.plates.specs.Refusals.{number, place}
+use Rattle.reports.specs.Remaining.{Rooms}
 use Rattle.trellises.specs.declared.Next.{Next}
 use Rattle.coding.specs.declared.Encoded.the-variants as E
 use Rattle.coding.specs.declared.ReadBack.the-variants as R
@@ -113,3 +114,28 @@ pub record AnswerPut (a : Answer) (word : List ℕ) (metric : List ℤ) (counts 
   pub word-is : word′ ≡ set word 0 (a .word)
   pub metric-is : metric′ ≡ set metric 0 (a .metric)
   pub counts-are : counts′ ≡ set (set counts 0 (a .counts .additions)) 1 (a .counts .comparisons)
+
+-- ---- a whole listing
+
+-- the cells that are lent to a listing
+pub record ListingCells : Type 0 where
+  pub working : Rooms
+  pub listing : List ℕ
+  pub cell : List ℕ
+
+abbrev pub listingCells : Rooms → List ℕ → List ℕ → ListingCells
+listingCells working listing cell = record { working = working; listing = listing; cell = cell }
+
+-- what writing a listing replies, with the rooms as it leaves them
+pub record Listing : Type 0 where
+  pub reply : Written
+  pub working : Rooms
+  pub listing : List ℕ
+
+-- the working rooms beside what crosses of a line
+abbrev pub beside : Rooms → Crossing (List ℕ × List ℕ) → Crossing ListingCells
+beside working line = record { code = line .code; cells = listingCells working (line .cells .0) (line .cells .1) }
+
+-- a listing: its length
+abbrev pub listed : List ℕ → Listing → Crossing ListingCells
+listed cell l = beside (l .working) (writtenAs cell (l .listing) (l .reply))

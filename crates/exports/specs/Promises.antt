@@ -1,4 +1,4 @@
--- The promises of the ten calls: the fixed shape, the promise of the call below, and how its reply crosses.
+-- The promises of the eleven calls: the fixed shape, the promise of the call below, and how its reply crosses.
 use lib.IntN.{ℤ}
 use lib.ListN.{length}
 use mathlib.Core.Bool.{Bool, false, true}
@@ -8,7 +8,7 @@ use Prim.Native.Nat.{suc, zero, ℕ, _≤_}
 use Rattle.coding.specs.Coding.{Encodes, ReadsBack}
 use Rattle.decoding.specs.Decode.{Decodes}
 use Rattle.exports.specs.Calls.{Calls}
-use Rattle.exports.specs.Crossing.{DecodeCells, Decoding, Writing, branched, decoded, encoded, prepared, readBack, written}
+use Rattle.exports.specs.Crossing.{DecodeCells, Decoding, Listing, Writing, branched, decoded, encoded, listed, listingCells, prepared, readBack, written}
 use Rattle.exports.specs.Flat.{plateOf}
 use Rattle.listings.specs.declared.Written.{Written}
 use Rattle.listings.specs.Writing.{WritesEnd, WritesPlate, WritesProfile, WritesRefused, WritesWord}
@@ -16,6 +16,8 @@ use Rattle.plates.specs.declared.Kind.{Kind}
 use Rattle.plates.specs.declared.Kind.the-variants.{G, H}
 use Rattle.plates.specs.declared.Plate.{Plate}
 use Rattle.plates.specs.Prepare.{Prepares}
+use Rattle.reports.specs.Listing.{WritesListing}
+use Rattle.reports.specs.Remaining.{Rooms}
 use Rattle.trellises.specs.Branching.{Branches}
 
 -- a run is long enough for a plate
@@ -93,3 +95,9 @@ CallsWriteRefused number place room cell = CallsWrite (HasCell cell) (WritesRefu
 
 abbrev pub CallsWriteEnd : ℕ → List ℕ → List ℕ → ℕ → List ℕ → List ℕ → Type 0
 CallsWriteEnd blocks room cell = CallsWrite (HasCell cell) (WritesEnd blocks) room cell
+
+-- the listing of a sheet: fixed is a cell for its length
+abbrev pub CallsListing : List ℕ → Rooms → List ℕ → List ℕ → ℕ → Rooms → List ℕ → List ℕ → Type 0
+CallsListing sheet working listing cell r working′ listing′ cell′ =
+    Calls (HasCell cell) (listingCells working listing cell) (λ (l : Listing). WritesListing sheet working listing (l .working) (l .listing) (l .reply)) (listed cell)
+    (record { code = r; cells = listingCells working′ listing′ cell′ })

@@ -1,6 +1,7 @@
 // The C interface: the calls of the crates below over numbers and slices, as include/yendrufal.h has them. A plate crosses as a flat
 // run of words. No call asks anything of its caller: a run that is too short for its fixed use is answered by 101.
-ghost use Rattle.exports.specs.Promises.{CallsBranch, CallsDecode, CallsEncode, CallsPrepare, CallsReadBack, CallsWriteEnd, CallsWritePlate, CallsWriteProfile, CallsWriteRefused, CallsWriteWord, decodeCells};
+ghost use Rattle.exports.specs.Promises.{CallsBranch, CallsDecode, CallsEncode, CallsListing, CallsPrepare, CallsReadBack, CallsWriteEnd, CallsWritePlate, CallsWriteProfile, CallsWriteRefused, CallsWriteWord, decodeCells};
+ghost use Rattle.reports.specs.Remaining.{rooms};
 use coding::Encoded;
 use coding::ReadBack;
 use decoding::Decoded;
@@ -240,4 +241,24 @@ pub extern "C" fn yendrufal_write_end(count: u64, line: &mut [u8], written: &mut
         return MISSHAPEN;
     }
     cells::written_length(listings::write_end(count, line), written)
+}
+
+// The listing of a sheet.
+#[no_mangle]
+pub extern "C" fn yendrufal_listing(
+    sheet: &[u8],
+    metrics: &mut [i32],
+    decisions: &mut [u64],
+    listing: &mut [u8],
+    written: &mut [u64],
+) -> u64
+    ensures { λ r. ⌜ CallsListing (now (sheet .entry)) (rooms (now (metrics .entry)) (now (decisions .entry))) (now (listing .entry)) (now (written .entry)) r (rooms (now (metrics .exit)) (now (decisions .exit))) (now (listing .exit)) (now (written .exit)) ⌝ }
+{
+    if written.len() < 1 {
+        return MISSHAPEN;
+    }
+    cells::written_length(
+        reports::write_listing(sheet, metrics, decisions, listing),
+        written,
+    )
 }

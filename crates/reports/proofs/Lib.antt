@@ -5,4 +5,9 @@ pub mod Openings
 pub mod ReportDetermined
 pub mod StepDetermined
 pub mod LinesGiven
+pub mod LineTurned
+pub mod OpenedReports
+pub mod ListingLines
+pub mod ListingReplies
+pub mod ListingDetermined
 pub mod LinesInTurn

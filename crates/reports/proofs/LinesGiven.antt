@@ -4,9 +4,9 @@ use lib.IntN.{ℤ}
 use lib.ListN.{drop, length, take}
 use lib.Seq.{take-append-seam}
 use mathlib.Core.Bool.{Bool, true}
-use mathlib.Core.List.{List, [], _∷_}
+use mathlib.Core.List.{List, [], _∷_, _++_}
 use mathlib.Core.Logic.{inl, inr}
-use mathlib.Core.Path.{_≡_, ap, refl, subst, sym, _∙_}
+use mathlib.Core.Path.{_≡_, ap, ap₂, refl, subst, sym, _∙_}
 use native.Mathlib.Omega.{arith}
 use Rattle.plates.proofs.Refusing.{never-both}
 use Rattle.plates.specs.declared.Plate.{Plate}
@@ -25,29 +25,34 @@ use Rattle.listings.specs.Writing.{Writes, WritesAs, lineRoom}
 use Rattle.reports.specs.declared.Outcome.the-variants as O
 use Rattle.reports.specs.declared.Report.{Report}
 use Rattle.reports.specs.declared.Step.{Step}
-use Rattle.reports.specs.Report.{BlockLine, lineOfAnswer, lineOfRefusal, refusedBlock, wordOfBlock}
+use Rattle.reports.specs.Remaining.{BlockLeaves, rooms, untouched, workingOf, zeroed}
+use Rattle.reports.specs.Report.{BlockLine, blockConditions, lineOfAnswer, lineOfRefusal, refusedBlock, wordOfBlock}
 use Rattle.reports.specs.Steps.{DecodedStep, Lent, RefusedStep, RoomStep, WritesStep, enough, ofBlock, short, stepBy}
 use Rattle.reports.specs.Turns.{Enough}
 
--- a line stands in the room, and this report comes after it
-pub record Given (line : List ℕ) (after : Report) (step : Step) (room′ : List ℕ) : Type 0 where
+-- a line stands at the start of the room, with the bytes after it as they were, and this report comes after it
+pub record Given (line : List ℕ) (after : Report) (step : Step) (room room′ : List ℕ) : Type 0 where
+  pub short : length line ≤ 256
   pub outcome : step .outcome ≡ O.Line (length line)
   pub next : step .next ≡ after
   pub bytes : line ≡ take (length line) room′
+  pub room-is : room′ ≡ line ++ drop (length line) room
 
 -- ---- a line that is written
 
-module _ (cs : List (Refusal → Type 0)) (line room room′ : List ℕ) (before after : Report) (step : Step) (pass : Passes cs) where
-  by-written : (w : Written) → WritesAs cs line room room′ w → step ≡ stepBy w before after → Given line after step room′
+module _ (cs : List (Refusal → Type 0)) (line room room′ : List ℕ) (before after : Report) (step : Step) (l : length line ≤ 256) (pass : Passes cs) where
+  by-written : (w : Written) → WritesAs cs line room room′ w → step ≡ stepBy w before after → Given line after step room room′
   by-written (W.Refused q) x e = absurd (never-both cs pass q (x .0))
   by-written (W.Length size) x e = record {
+    short = l;
     outcome = ap (λ (s : Step). s .outcome) e ∙ ap O.Line (x .1);
     next = ap (λ (s : Step). s .next) e;
     bytes = sym (ap (take (length line)) (x .2) ∙ take-append-seam line (drop (length line) room));
+    room-is = x .2;
   }
 
   -- no condition refuses it
-  pub line-given : WritesStep (Writes cs line room) before after step room′ → Given line after step room′
+  pub line-given : WritesStep (Writes cs line room) before after step room′ → Given line after step room room′
   line-given x = by-written (x .written) (x .writes .reply) (x .is)
 
 -- a line of at most 256 bytes fits a room of so many
@@ -60,50 +65,54 @@ plate-fits plate prepared line room l r = ((λ p x. x .0 prepared), fits line ro
 
 -- ---- the line of a block
 
-pub record BlockGiven (samples : List ℤ) (before after : Report) (step : Step) (room′ : List ℕ) : Type 0 where
+pub record BlockGiven (samples : List ℤ) (before after : Report) (step : Step) (lent left : Lent) : Type 0 where
   pub line : List ℕ
   pub is : BlockLine (before .plate) samples line
-  pub given : Given line after step room′
+  pub given : Given line after step (lent .room) (left .room)
+  pub leaves : BlockLeaves (before .plate) samples (workingOf lent) (workingOf left)
 
-module _ (samples : List ℤ) (before after : Report) (step : Step) (lent left : Lent) (prepared : IsPrepared (before .plate)) (rooms : Enough lent) where
+module _ (samples : List ℤ) (before after : Report) (step : Step) (lent left : Lent) (prepared : IsPrepared (before .plate)) (enough-room : Enough lent) where
   abbrev Gives : Type 0
-  Gives = BlockGiven samples before after step (left .room)
+  Gives = BlockGiven samples before after step lent left
 
   metric-need-small : metricNeed (before .plate) ≤ 8192
   metric-need-small = omega (arith, plate-sizes-fit (before .plate) prepared .half-small)
 
   -- a refusal that is printed
-  printed : (q : Refusal) → ofBlock q ≡ true → BlockLine (before .plate) samples (lineOfRefusal q) → RefusedStep (ofBlock q) q before after (lent .room) step (left .room) → Gives
-  printed q e l x = record {
+  printed : (q : Refusal) → ofBlock q ≡ true → Refuses (blockConditions (before .plate) samples) q → workingOf left ≡ workingOf lent
+      → RefusedStep (ofBlock q) q before after (lent .room) step (left .room) → Gives
+  printed q e r same x = record {
     line = lineOfRefusal q;
-    is = l;
-    given = line-given _ (lineOfRefusal q) (lent .room) (left .room) before after step
-        (fits (lineOfRefusal q) (lent .room) (refused-fits-256 (number q) (place q)) (rooms .room))
+    is = refusedBlock q r refl;
+    given = line-given _ (lineOfRefusal q) (lent .room) (left .room) before after step (refused-fits-256 (number q) (place q))
+        (fits (lineOfRefusal q) (lent .room) (refused-fits-256 (number q) (place q)) (enough-room .room))
         (subst (λ (b : Bool). RefusedStep b q before after (lent .room) step (left .room)) e x);
+    leaves = untouched q r same;
   }
 
-  by-refusal : (q : Refusal) → Refuses (decodeConditions (before .plate) samples (lent .metrics) (lent .decisions)) q
+  by-refusal : (q : Refusal) → workingOf left ≡ workingOf lent → Refuses (decodeConditions (before .plate) samples (lent .metrics) (lent .decisions)) q
       → RefusedStep (ofBlock q) q before after (lent .room) step (left .room) → Gives
-  by-refusal q (inl n) x = absurd (n .0 prepared)
-  by-refusal q (inr (n, inl c)) x = printed q (ap ofBlock (c .1)) (refusedBlock q (inl c) refl) x
-  by-refusal q (inr (n, inr (c, inl o))) x = printed q (ap ofBlock (o .is)) (refusedBlock q (inr (c, inl o)) refl) x
-  by-refusal q (inr (n, inr (c, inr (o, inl m)))) x = absurd (omega (arith, m .0, metric-need-small, rooms .metrics))
-  by-refusal q (inr (n, inr (c, inr (o, inr (m, inl d))))) x = absurd (omega (arith, d .0, decision-need-small (before .plate) prepared, rooms .decisions))
-  by-refusal q (inr (n, inr (c, inr (o, inr (m, inr z))))) x = absurd (z .1)
+  by-refusal q same (inl n) x = absurd (n .0 prepared)
+  by-refusal q same (inr (n, inl c)) x = printed q (ap ofBlock (c .1)) (inl c) same x
+  by-refusal q same (inr (n, inr (c, inl o))) x = printed q (ap ofBlock (o .is)) (inr (c, inl o)) same x
+  by-refusal q same (inr (n, inr (c, inr (o, inl m)))) x = absurd (omega (arith, m .0, metric-need-small, enough-room .metrics))
+  by-refusal q same (inr (n, inr (c, inr (o, inr (m, inl d))))) x = absurd (omega (arith, d .0, decision-need-small (before .plate) prepared, enough-room .decisions))
+  by-refusal q same (inr (n, inr (c, inr (o, inr (m, inr z))))) x = absurd (z .1)
 
   by-decoded : (d : Decoded) → Decodes (before .plate) samples (lent .metrics) (lent .decisions) (left .metrics) (left .decisions) d
       → DecodedStep d before after (lent .room) step (left .room) → Gives
-  by-decoded (D.Refused q) p x = by-refusal q (p .0) x
-  by-decoded (D.Found a) p x = record {
-    line = lineOfAnswer (before .plate) a;
-    is = wordOfBlock a (p .0 .1 .0, (p .0 .1 .1 .0, tt)) (p .1) refl;
-    given = line-given _ (lineOfAnswer (before .plate) a) (lent .room) (left .room) before after step
-        (plate-fits (before .plate) prepared (lineOfAnswer (before .plate) a) (lent .room)
-        (word-fits-256 (before .plate .n) (a .word) (a .metric) (a .counts .additions) (a .counts .comparisons) (sound prepared .short)) (rooms .room))
-        x;
-  }
+  by-decoded (D.Refused q) p x = by-refusal q (ap₂ rooms (p .1) (p .2)) (p .0) x
+  by-decoded (D.Found a) p x =
+      let l = word-fits-256 (before .plate .n) (a .word) (a .metric) (a .counts .additions) (a .counts .comparisons) (sound prepared .short) in
+      record {
+        line = lineOfAnswer (before .plate) a;
+        is = wordOfBlock a (p .0 .1 .0, (p .0 .1 .1 .0, tt)) (p .1) refl;
+        given = line-given _ (lineOfAnswer (before .plate) a) (lent .room) (left .room) before after step l
+            (plate-fits (before .plate) prepared (lineOfAnswer (before .plate) a) (lent .room) l (enough-room .room)) x;
+        leaves = zeroed (p .0 .1 .0, (p .0 .1 .1 .0, tt)) (p .2);
+      }
 
   -- a block gives its line
   pub block-given : RoomStep samples before after lent step left → Gives
-  block-given (short h x) = absurd (omega (arith, h, rooms .room))
+  block-given (short h x) = absurd (omega (arith, h, enough-room .room))
   block-given (enough h x) = by-decoded (x .decoded) (x .decodes) (x .line)

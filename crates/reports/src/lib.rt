@@ -1,14 +1,18 @@
-// From a sheet to its listing, line by line: a report is opened on the input, and gives its lines in turn.
+// From a sheet to its listing: a report is opened on the input, and gives its lines in turn or all at once.
 ghost use mathlib.Core.Path.{_≡_};
 ghost use Prim.Native.Nat.{_≤_};
 ghost use lib.ListN.{length, take};
+ghost use Rattle.reports.specs.Listing.{WritesListing};
+ghost use Rattle.reports.specs.Remaining.{rooms};
 ghost use Rattle.reports.specs.Steps.{Opens, OpensSheet, Steps, lends, refusedReport};
+use listings::Written;
 use plates::Plate;
 use plates::Refusal;
 use plates::Verdict;
 use sheets::Sheet;
 use sheets::SheetReply;
 
+mod listing;
 mod stages;
 
 // What comes next in a report: the line of a refusal, the plate's, the profile's, those of the blocks from a place on and then the end
@@ -116,4 +120,28 @@ pub fn next_line(
             next: report,
         },
     }
+}
+
+// The listing of an input into the room, which has to have 256 bytes for each of its lines. The working rooms have to be enough for every plate.
+pub fn write_listing(
+    input: &[u8],
+    metrics: &mut [i32],
+    decisions: &mut [u64],
+    room: &mut [u8],
+) -> Written
+    ensures { λ r. ⌜ WritesListing (now (input .entry)) (rooms (now (metrics .entry)) (now (decisions .entry))) (now (room .entry)) (rooms (now (metrics .exit)) (now (decisions .exit))) (now (room .exit)) r ⌝ }
+{
+    if metrics.len() < 8192 {
+        return Written::Refused(Refusal::MetricRoom);
+    }
+    if decisions.len() < 4096 {
+        return Written::Refused(Refusal::DecisionRoom);
+    }
+    let report = open(input);
+    let lines = listing::lines_of(report);
+    if room.len() / 256 < lines {
+        return Written::Refused(Refusal::LineRoom);
+    }
+    let size = listing::list_lines(report, lines, input, metrics, decisions, room);
+    Written::Length(size)
 }
