@@ -24,7 +24,7 @@ use Rattle.words.proofs.Word.{below-bits, bits-below}
 use Rattle.words.specs.Sum.{IsSum, sumOf}
 
 -- where no row is refused, each is below 2 ^ n
-all-below : (n : ℕ) (rows : List ℕ) → ((q : Refusal) → RowOver n rows q → ⊥) → (m j : ℕ) → j < m → j < length rows → getD rows j 0 < 2 ^ n
+pub all-below : (n : ℕ) (rows : List ℕ) → ((q : Refusal) → RowOver n rows q → ⊥) → (m j : ℕ) → j < m → j < length rows → getD rows j 0 < 2 ^ n
 all-below n rows h zero j b k = absurd (omega arith)
 all-below n rows h (suc m) j b k = go (decLt (getD rows j 0) (2 ^ n)) (λ i a. all-below n rows h m i (omega arith) (omega arith))
   where
@@ -69,7 +69,7 @@ plate-same C D e n plate a = record {
 -- a matrix, and what preparing it replies where it accepts
 module _ (n : ℕ) (kind : Kind) (rows : List ℕ) (r : Prepared) (p : Prepares n kind rows r) (e : r .verdict ≡ Accepted) where
   -- the reply by its case
-  accepted : Passes (prepareConditions n kind rows) × PlateOf (InCode kind n rows) n (r .plate)
+  pub accepted : Passes (prepareConditions n kind rows) × PlateOf (InCode kind n rows) n (r .plate)
   accepted = subst (PreparesAs (prepareConditions n kind rows) (InCode kind n rows) n (r .plate)) e (p .reply)
 
   -- the plate has the matrix's length

@@ -23,3 +23,6 @@ pub mod AmongRows
 pub mod BranchRuns
 pub mod ProperTrellis
 pub mod SyndromeSteps
+pub mod DualPositions
+pub mod DualProfiles
+pub mod DualReplies

@@ -8,3 +8,4 @@ pub mod Smallest
 pub mod Beginnings
 pub mod RowsAmong
 pub mod Running
+pub mod Dual
