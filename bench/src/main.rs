@@ -71,7 +71,7 @@ fn branches(plate: &[u64]) -> u64 {
 fn row(name: &str, nanoseconds: f64, library: f64, cycles: Option<f64>) {
     let ratio = nanoseconds / library;
     let cycles = cycles.map_or(String::new(), |cycles| format!("{cycles:8.2} cycles a branch"));
-    println!("  {name:26}{nanoseconds:12.0} ns a block  {ratio:9.2} x library  {cycles}");
+    println!("  {name:28}{nanoseconds:12.0} ns a block  {ratio:9.2} x library  {cycles}");
 }
 
 /// The least nanoseconds a block of each decoder, taken in turn round by round.
@@ -98,15 +98,17 @@ fn time_code(code: &Code, clock: f64) {
     agree(&plate, code.n);
     let blocks = blocks(code.n, BLOCKS, 127);
     let least = time_decoders(&plate, &blocks, (20_000 / branches as usize).max(1));
+    let tested = best(ROUNDS, || (0..100).for_each(|_| plate_test(black_box(&plate)))) / 100.0;
+    let per_branch = |time: f64| Some(time * clock / branches as f64);
     for ((name, _), time) in DECODERS.iter().zip(least) {
-        row(name, time, least[0], Some(time * clock / branches as f64));
+        row(name, time, least[0], per_branch(time));
     }
+    row("library less its plate test", least[0] - tested, least[0], per_branch(least[0] - tested));
     if plate[1] <= SEARCHED {
         let search = || _ = black_box(exhaustive(&plate, black_box(&blocks[0])));
         row("exhaustive search, Rust -O", best(3, search), least[0], None);
     }
     let prepared = best(ROUNDS, || (0..100).for_each(|_| _ = black_box(prepare(code)))) / 100.0;
-    let tested = best(ROUNDS, || (0..100).for_each(|_| plate_test(black_box(&plate)))) / 100.0;
     println!("  library's prepare {prepared:.0} ns a call, plate test {tested:.0} ns a call\n");
 }
 
