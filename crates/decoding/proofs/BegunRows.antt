@@ -40,7 +40,7 @@ module _ (t : ℕ) where
       go false h = omega arith
 
   -- row i begins before t exactly if it is one of the first so many
-  begun-are : (rows : List ℕ) → Rising rows → (i : ℕ) → i < length rows
+  pub begun-are : (rows : List ℕ) → Rising rows → (i : ℕ) → i < length rows
       → (i < begunBefore rows t → firsts rows i < t) × (firsts rows i < t → i < begunBefore rows t)
   begun-are [] r i h = absurd (omega arith)
   begun-are (row ∷ rows) r i h = go (decLt (first row) t) i h (begun-are rows (rising-rest row rows r))
@@ -92,6 +92,17 @@ module _ (rows : List ℕ) (s : Spans rows (firsts rows) (lasts rows)) (t : ℕ)
       go (inr (inl q)) = n (omega arith) (ap (firsts rows) q ∙ e)
       go (inr (inr l)) = omega (arith, begun-are t rows (s .rising) j h .0 l)
 
+  -- the row that begins is the next one to begin
+  pub begun-row : (b : Begins rows t) → begunBefore rows t ≡ b .row
+  begun-row b =
+      begun-is t rows (s .rising) (b .row) (le-of-lt (b .there)) (λ i l. omega (arith, s .rising i (b .row) l (b .there), b .here))
+      (λ i l h. from i (lt-tri i (b .row)) l h)
+    where
+      from : (i : ℕ) → (i < b .row) ⊎ ((i ≡ b .row) ⊎ (b .row < i)) → b .row ≤ i → i < length rows → t ≤ firsts rows i
+      from i (inl l) h g = absurd (omega arith)
+      from i (inr (inl q)) h g = omega (arith, ap (firsts rows) q, b .here)
+      from i (inr (inr l)) h g = omega (arith, s .rising (b .row) i l g, b .here)
+
   -- one row more has begun behind section t, where one begins there
   pub begun-next : begunBefore rows (suc t) ≡ more (sectionOf rows t .begins) (begunBefore rows t)
   begun-next = go (sectionOf rows t .begins) refl
@@ -102,17 +113,12 @@ module _ (rows : List ℕ) (s : Spans rows (firsts rows) (lasts rows)) (t : ℕ)
           one : Begins rows t → begunBefore rows (suc t) ≡ suc (begunBefore rows t)
           one b =
               begun-is (suc t) rows (s .rising) (suc (b .row)) (b .there) (λ i l. upto i (lt-tri i (b .row)) l) (λ i l h. omega (arith, s .rising (b .row) i l h, b .here))
-              ∙ ap suc (sym (begun-is t rows (s .rising) (b .row) (le-of-lt (b .there)) (λ i l. omega (arith, s .rising i (b .row) l (b .there), b .here)) (λ i l h. from i (lt-tri i (b .row)) l h)))
+              ∙ ap suc (sym (begun-row b))
             where
               upto : (i : ℕ) → (i < b .row) ⊎ ((i ≡ b .row) ⊎ (b .row < i)) → i < suc (b .row) → firsts rows i < suc t
               upto i (inl l) h = omega (arith, s .rising i (b .row) l (b .there), b .here)
               upto i (inr (inl q)) h = omega (arith, ap (firsts rows) q, b .here)
               upto i (inr (inr l)) h = absurd (omega arith)
-
-              from : (i : ℕ) → (i < b .row) ⊎ ((i ≡ b .row) ⊎ (b .row < i)) → b .row ≤ i → i < length rows → t ≤ firsts rows i
-              from i (inl l) h g = absurd (omega arith)
-              from i (inr (inl q)) h g = omega (arith, ap (firsts rows) q, b .here)
-              from i (inr (inr l)) h g = omega (arith, s .rising (b .row) i l g, b .here)
       go false e =
           begun-is (suc t) rows (s .rising) (begunBefore rows t) (begun-few t rows)
           (λ i l. omega (arith, begun-are t rows (s .rising) i (omega (arith, begun-few t rows)) .0 l))

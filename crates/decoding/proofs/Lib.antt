@@ -28,6 +28,8 @@ pub mod BegunRows
 pub mod PlateRowsOf
 pub mod EndsFound
 pub mod PassedRows
+pub mod MarkCounts
+pub mod TakenRows
 pub mod WalkSection
 pub mod WalkEnds
 pub mod Filled

@@ -2,15 +2,15 @@
 use lib.ListN.{getD, length, take}
 use lib.Pow.{pow-mono}
 use lib.Seq.{getD-take, length-take-le}
-use mathlib.Core.Bool.{false, true}
+use mathlib.Core.Bool.{Bool, cond, false, true}
 use mathlib.Core.List.{List}
 use mathlib.Core.Path.{ap, ap₂, refl, subst, sym, _∙_, _≡_}
 use native.Mathlib.Nat.{lt-of-lt-of-le}
 use native.Mathlib.Omega.{arith}
 use Prim.Native.Nat.{_%_, _*_, _+_, _-_, _<_, _^_, suc, zero, zero-le, ℕ, _≤_}
-use Rattle.decoding.proofs.BegunRows.{next-only, none-begins}
+use Rattle.decoding.proofs.BegunRows.{begun-row, next-only, none-begins}
 use Rattle.decoding.proofs.LiveMarks.{last-active, marks-below, marks-bit, with-beginning, with-ending, without-beginning}
-use Rattle.decoding.specs.LiveRows.{EndsAre, PassedTo, PlateRows, activeMarks, begunBefore, liveMarks, markOf}
+use Rattle.decoding.specs.LiveRows.{BeginsHere, EndsAre, PassedTo, PlateRows, activeMarks, begunBefore, liveMarks, markOf}
 use Rattle.plates.specs.Profile.{live}
 use Rattle.trellises.proofs.AmongRows.{among-first, section-of-active, shifted-one}
 use Rattle.trellises.proofs.OneBegins.{section-begins}
@@ -61,16 +61,34 @@ module _ {rows : List ℕ} {k : ℕ} (p : PlateRows rows k) where
 
     -- the next row to begin, where it begins here
     module _ {next : ℕ} (b : next ≡ begunBefore (take k rows) t) where
-      pub none-joins : (next < k → firsts (take k rows) next ≡ t → ⊥) → liveMarks (take k rows) t + 0 ≡ activeMarks (take k rows) t
+      none-joins : (next < k → firsts (take k rows) next ≡ t → ⊥) → liveMarks (take k rows) t + 0 ≡ activeMarks (take k rows) t
       none-joins n =
           let here : begunBefore plate t < length plate → firsts plate (begunBefore plate t) ≡ t → ⊥ =
           λ l e. n (omega (arith, counted)) (ap (firsts plate) b ∙ e) in
           omega (arith, without-beginning plate (p .spans) t (next-only plate (p .spans) t here))
 
-      pub next-joins : next < k → firsts (take k rows) next ≡ t → liveMarks (take k rows) t + 1 * 2 ^ next % 2 ^ 64 ≡ activeMarks (take k rows) t
+      next-joins : next < k → firsts (take k rows) next ≡ t → liveMarks (take k rows) t + 1 * 2 ^ next % 2 ^ 64 ≡ activeMarks (take k rows) t
       next-joins h e =
           ap (λ (m : ℕ). liveMarks plate t + m) (shifted-one next (omega (arith, p .few)))
           ∙ with-beginning plate (p .spans) t next (omega (arith, counted)) e
+
+      pub none-here : (next < k → firsts (take k rows) next ≡ t → ⊥) → BeginsHere (take k rows) t (record { row = 0; mark = 0 })
+      none-here n = record { row = go (sectionOf plate t .begins) refl; mark = none-joins n }
+        where
+          go : (g : Bool) → sectionOf (take k rows) t .begins ≡ g → 0 ≡ cond g (getD (take k rows) (begunBefore (take k rows) t) 0) 0
+          go false q = refl
+          go true q =
+              let a = section-begins plate (p .spans) t .0 q in
+              let e : next ≡ a .row = b ∙ begun-row plate (p .spans) t a in
+              absurd (n (omega (arith, e, a .there, counted)) (ap (firsts plate) e ∙ a .here))
+
+      pub next-here : next < k → firsts (take k rows) next ≡ t
+          → BeginsHere (take k rows) t (record { row = getD rows next 0; mark = 1 * 2 ^ next % 2 ^ 64 })
+      next-here h e = record {
+        row = sym (getD-take k rows next 0 h) ∙ ap (λ (j : ℕ). getD plate j 0) b
+            ∙ sym (ap (λ (g : Bool). cond g (getD plate (begunBefore plate t) 0) 0) (section-begins plate (p .spans) t .1 (record { row = next; there = omega (arith, counted); here = e })));
+        mark = next-joins h e;
+      }
 
     -- the row that ends here
     module _ {ends : List ℕ} (a : EndsAre (take k rows) ends) (h : t < 64) where
@@ -126,17 +144,6 @@ module _ {rows : List ℕ} {k : ℕ} (p : PlateRows rows k) where
         section = section-is;
         live = e ∙ sym (without-beginning plate (p .spans) t (none-begins plate (p .spans) t (begins-is ∙ b)));
       }
-
-      -- the row that ends
-      module _ {ends : List ℕ} (a : EndsAre (take k rows) ends) (h : t < 64) {mark : ℕ} (m : mark ≡ markOf (getD ends t 0)) where
-        ended-mark : liveMarks plate (suc t) + mark ≡ which
-        ended-mark = ending-joins a h refl m ∙ sym e
-
-        pub ended-among : mark ≤ which
-        ended-among = omega (arith, ended-mark)
-
-        pub ended-leaves : PassedTo (take k rows) t (suc t) (record { section = c; live = which - mark })
-        ended-leaves = record { section = section-is; live = omega (arith, ended-mark) }
 
 -- the bit of a row, by one more than the row
 pub mark-is : (n : ℕ) → (n ≡ 0 → ⊥) → n ≤ 64 → 1 * 2 ^ (n - 1) % 2 ^ 64 ≡ markOf n

@@ -1,22 +1,27 @@
 -- One section of the walk: the decided bit and the branch that has it carry the walk one depth on.
-use lib.Bits.{bitOr, or-shifted-r}
+use lib.Bits.{bitOr, bitXor, or-shifted-r}
+use lib.Count.{ones}
+use lib.Dec.{eqb}
 use lib.IntN.{pos, ℤ}
 use lib.ListN.{drop, getD, length, length-take, take}
 use lib.Pow.{pow-mono, pow-pos}
 use lib.Seq.{drop-cons}
+use mathlib.Core.Bool.{Bool, cond, false, true}
 use mathlib.Core.List.{List, _∷_}
-use mathlib.Core.Path.{ap, ap₂, subst, sym, _∙_, _≡_}
+use mathlib.Core.Path.{ap, ap₂, refl, subst, sym, _∙_, _≡_}
 use native.Mathlib.Nat.{le-trans, mod-eq-of-lt, mul-add, mul-assoc, mul-comm, mul-le-mul-left, mul-le-mul-right, pow-suc, suc-mul}
 use native.Mathlib.Omega.{arith}
 use Prim.Native.Nat.{_%_, _*_, _+_, _/_, _<_, _^_, suc, zero, ℕ, _≤_}
 use Rattle.decoding.proofs.BegunRows.{begun-few, begun-next}
 use Rattle.decoding.proofs.BestWay.{choice}
 use Rattle.decoding.proofs.Leaving.{BestBranch}
+use Rattle.decoding.proofs.LiveMarks.{with-ending}
+use Rattle.decoding.proofs.MarkCounts.{leads-by, live-ones}
+use Rattle.decoding.proofs.TakenRows.{branch-is, next-some, taken-on}
 use Rattle.decoding.specs.Backward.{best, branchBy, decided, follow, wordFrom}
 use Rattle.decoding.specs.declared.sweep.Sizes.{Sizes}
 use Rattle.decoding.specs.declared.walk.Walk.{Walk}
-use Rattle.decoding.specs.LiveRows.{liveMarks}
-use Rattle.decoding.specs.Running.{SourceFits}
+use Rattle.decoding.specs.LiveRows.{Taken, activeMarks, beginningRow, begunBefore, leadsBy, liveMarks, markOf}
 use Rattle.decoding.specs.Stepping.{SectionFits}
 use Rattle.decoding.specs.Sweeping.{BeforeWalk, Walked}
 use Rattle.trellises.specs.declared.Section.{Section}
@@ -64,8 +69,24 @@ module _ (table : List ℕ) (z : Sizes) (ends : List ℕ) (samples : List ℤ) (
   pub section-fits : SectionFits (sectionOf (take (z .k) table) t)
   section-fits = b .fit .chain .fits t (b .depth)
 
+  -- the marks of the live rows count them
+  live-number : ones (w .live) ≡ sectionOf (take (z .k) table) t .live
+  live-number = ap ones (b .walked .live) ∙ live-ones (take (z .k) table) t
+
+  pub live-few : ones (w .live) ≤ 12
+  live-few = omega (arith, live-number, section-fits .narrow)
+
   pub next-few : w .next ≤ 64
   next-few = omega (arith, b .walked .next, begun-few t (take (z .k) table), length-take (z .k) table, b .fit .plate .few)
+
+  -- the rows that are active in section t, and the mark of the one that ends
+  module _ (mark : ℕ) (m : liveMarks (take (z .k) table) t + mark ≡ activeMarks (take (z .k) table) t) where
+    pub active-is : w .live + mark ≡ activeMarks (take (z .k) table) t
+    active-is = ap (λ (l : ℕ). l + mark) (b .walked .live) ∙ m
+
+    pub ended-among : {ended : ℕ} → ended ≡ markOf (getD ends t 0) → ended ≤ w .live + mark
+    ended-among e =
+        omega (arith, active-is, e, with-ending (take (z .k) table) (b .fit .plate .spans) ends t (b .ends-are) (omega (arith, b .depth, b .fit .short)))
 
   -- the branch chosen
   abbrev chosen-branch : (x : ℕ) × BestBranch (sectionOf (take (z .k) table) t) (b .fit .chain .fits t (b .depth)) (w .state) (b .walked .state) sample (best (sectionOf (take (z .k) table)) behind (suc t)) x
@@ -126,31 +147,43 @@ module _ (table : List ℕ) (z : Sizes) (ends : List ℕ) (samples : List ℤ) (
         ∙ sym (arrange (w .word) (2 ^ t) (wordFrom sections behind (suc t) (follow (sections t) (w .state) d)) d)
         ∙ ap (λ (x : ℕ). w .word + 2 ^ t * x) (sym word-here) ∙ b .walked .rest
 
-    pub walked-on : (state′ live′ next′ : ℕ) → state′ ≡ 0 + follow (sectionOf (take (z .k) table) t) (w .state) d → live′ ≡ liveMarks (take (z .k) table) (suc t)
-        → next′ ≡ more ((sectionOf (take (z .k) table) t) .begins) (w .next)
-        → Walked (take (z .k) table) samples (suc t) (record { word = bitOr (w .word) (d * 2 ^ t % 2 ^ 64); state = state′; live = live′; next = next′ })
-    walked-on state′ live′ next′ e l n =
-        let s : state′ ≡ follow (sections t) (w .state) d = omega (arith, e) in
-        record {
-          state = subst (λ (x : ℕ). x < 2 ^ (sections (suc t)) .live) (sym s) next-inside;
-          short = subst (λ (x : ℕ). x < 2 ^ suc t) (sym word-now) short-now;
-          rest = ap₂ (λ (x y : ℕ). x + 2 ^ suc t * wordFrom sections behind (suc t) y) word-now s ∙ rest-now;
-          live = l;
-          next = n ∙ ap (more ((sections t) .begins)) (b .walked .next) ∙ sym (begun-next (take (z .k) table) (b .fit .plate .spans) t);
-        }
+    -- the row taken, as the code has it
+    module _ (row : ℕ) (row-is : row ≡ beginningRow (take (z .k) table) t) (r : ℕ) (r-is : r ≡ cond (eqb (bit (w .sum) t) d) 0 row) where
+      abbrev plate : List ℕ
+      plate = take (z .k) table
 
-    -- the section, the branch and the state as the code has them
-    module _ (c : Section) (c-is : c ≡ sectionOf (take (z .k) table) t) (x : ℕ) (x-is : x ≡ branchBy c (w .state) d) where
-      branch-is : x ≡ branchBy (sectionOf (take (z .k) table) t) (w .state) d
-      branch-is = x-is ∙ ap (λ (e : Section). branchBy e (w .state) d) c-is
+      taken-is : r ≡ cond (eqb (bit (w .sum) t) d) 0 (beginningRow (take (z .k) table) t)
+      taken-is = r-is ∙ ap (cond (eqb (bit (w .sum) t) d) 0) row-is
 
-      pub source-there : SourceFits 0 c x
-      source-there =
-          subst (λ (e : Section). SourceFits 0 e x) (sym c-is) (subst (SourceFits 0 (sections t)) (sym branch-is) (record {
-            section = section-fits;
-            branch = branch-there;
-            place = omega (arith, next-inside, b .fit .half-room (suc t) (b .depth), b .fit .half-small);
-          }))
+      -- the branch, as the code has it
+      module _ (x : ℕ) (x-is : x ≡ cond (eqb r 0) (w .state) (w .state + 2 ^ ones (w .live))) where
+        pub branch-by : x ≡ branchBy (sectionOf (take (z .k) table) t) (w .state) d
+        branch-by =
+            x-is ∙ ap₂ (λ (y n : ℕ). cond (eqb y 0) (w .state) (w .state + 2 ^ n)) taken-is live-number
+            ∙ branch-is plate (b .fit .plate .spans) t (b .walked .taken) d
 
-      pub state-is : (s : ℕ) → s ≡ 0 + leadsTo c x → s ≡ 0 + follow (sectionOf (take (z .k) table) t) (w .state) d
-      state-is s e = e ∙ ap₂ (λ (f : Section) (y : ℕ). 0 + leadsTo f y) c-is branch-is
+        -- behind the section
+        pub walked-on : (active following state′ live′ mark next′ : ℕ) → active ≡ activeMarks (take (z .k) table) t → following ≡ getD ends t 0
+            → state′ ≡ leadsBy active following x → mark ≡ markOf following → live′ + mark ≡ active → next′ ≡ cond (eqb row 0) (w .next) (suc (w .next))
+            → Walked (take (z .k) table) samples (suc t)
+            (record { word = bitOr (w .word) (d * 2 ^ t % 2 ^ 64); sum = bitXor (w .sum) r; state = state′; live = live′; next = next′ })
+        walked-on active following state′ live′ mark next′ a f e m l n =
+            let h : t < 64 = omega (arith, b .depth, b .fit .short) in
+            let s : state′ ≡ follow (sections t) (w .state) d =
+            e ∙ ap₂ (λ (p q : ℕ). leadsBy p q x) a f ∙ leads-by plate (b .fit .plate .spans) ends t (b .ends-are) h x ∙ ap (leadsTo (sections t)) branch-by in
+            record {
+              state = subst (λ (x : ℕ). x < 2 ^ (sections (suc t)) .live) (sym s) next-inside;
+              short = subst (λ (x : ℕ). x < 2 ^ suc t) (sym word-now) short-now;
+              rest = ap₂ (λ (x y : ℕ). x + 2 ^ suc t * wordFrom sections behind (suc t) y) word-now s ∙ rest-now;
+              taken = subst (Taken plate (suc t) (bitXor (w .sum) r)) (sym s)
+                  (subst (λ (y : ℕ). Taken plate (suc t) (bitXor (w .sum) y) (follow (sections t) (w .state) d)) (sym taken-is)
+                  (taken-on plate (b .fit .plate .spans) t (b .walked .taken) d));
+              live = omega (arith, l, a, m, ap markOf f, with-ending plate (b .fit .plate .spans) ends t (b .ends-are) h);
+              next = n ∙ ap (λ (y : ℕ). cond (eqb y 0) (w .next) (suc (w .next))) row-is ∙ one-more (sections t .begins) refl
+                  ∙ ap (more (sections t .begins)) (b .walked .next) ∙ sym (begun-next plate (b .fit .plate .spans) t);
+            }
+          where
+            one-more : (g : Bool) → sectionOf (take (z .k) table) t .begins ≡ g
+                → cond (eqb (cond g (getD (take (z .k) table) (begunBefore (take (z .k) table) t) 0) 0) 0) (w .next) (suc (w .next)) ≡ more g (w .next)
+            one-more true g = ap (λ (y : Bool). cond y (w .next) (suc (w .next))) (next-some plate (b .fit .plate .spans) t g)
+            one-more false g = refl

@@ -1,15 +1,20 @@
 -- The live rows of a plate as the bits of one number, kept from section to section.
+use lib.Count.{ones}
 use lib.Dec.{leb, ltb}
 use lib.ListN.{getD, length, take}
 use mathlib.Core.Bool.{_&&_, Bool, cond}
 use mathlib.Core.List.{List, [], _∷_}
 use mathlib.Core.Path.{_≡_}
-use Prim.Native.Nat.{_*_, _+_, _<_, _^_, suc, zero, ℕ, _≤_}
+use Prim.Native.Nat.{_%_, _*_, _+_, _<_, _^_, suc, zero, ℕ, _≤_}
+use Rattle.decoding.specs.declared.live.Beginning.{Beginning}
 use Rattle.decoding.specs.declared.live.Passed.{Passed}
+use Rattle.trellises.specs.Numbers.{without}
 use Rattle.trellises.specs.SectionOf.{isActive, sectionOf}
+use Rattle.trellises.specs.States.{stateOf}
 use Rattle.words.specs.Choice.{more}
 use Rattle.words.specs.Ends.{first, firsts, last, lasts}
 use Rattle.words.specs.Span.{Spans}
+use Rattle.words.specs.Sum.{sumOf}
 
 -- a row is live at depth t
 abbrev pub isLive : ℕ → ℕ → Bool
@@ -48,6 +53,27 @@ pub record EndsAre (rows ends : List ℕ) : Type 0 where
 abbrev pub begunBefore : List ℕ → ℕ → ℕ
 begunBefore [] t = 0
 begunBefore (row ∷ rows) t = more (ltb (first row) t) (begunBefore rows t)
+
+-- the row that begins in section t; 0 where none begins
+abbrev pub beginningRow : List ℕ → ℕ → ℕ
+beginningRow rows t = cond (sectionOf rows t .begins) (getD rows (begunBefore rows t) 0) 0
+
+-- the row that begins in section t, and the mark that it adds to the live rows
+pub record BeginsHere (rows : List ℕ) (t : ℕ) (r : Beginning) : Type 0 where
+  pub row : r .row ≡ beginningRow rows t
+  pub mark : liveMarks rows t + r .mark ≡ activeMarks rows t
+
+-- where branch x leads, by the active rows and one more than the row that ends
+abbrev pub leadsBy : ℕ → ℕ → ℕ → ℕ
+leadsBy active zero x = x
+leadsBy active (suc j) x = without (ones (active % 2 ^ j)) x
+
+-- the rows taken by depth t, all of them begun: their sum, and the state that they make
+pub record Taken (rows : List ℕ) (t sum state : ℕ) : Type 0 where
+  pub by : ℕ
+  pub begun : by < 2 ^ begunBefore rows t
+  pub sum-is : sum ≡ sumOf rows by
+  pub state-is : state ≡ stateOf rows (firsts rows) (lasts rows) t by
 
 -- a section passed: its numbers, and the live rows on the other side
 pub record PassedTo (rows : List ℕ) (t depth : ℕ) (r : Passed) : Type 0 where

@@ -11,7 +11,7 @@ use Rattle.decoding.specs.declared.sweep.Sizes.{Sizes}
 use Rattle.decoding.specs.declared.sweep.Standing.{Standing}
 use Rattle.decoding.specs.declared.walk.Walk.{Walk}
 use Rattle.decoding.specs.Backward.{Chain, best, counted, decided, wordFrom}
-use Rattle.decoding.specs.LiveRows.{EndsAre, PlateRows, begunBefore, liveMarks}
+use Rattle.decoding.specs.LiveRows.{EndsAre, PlateRows, Taken, begunBefore, liveMarks}
 use Rattle.decoding.specs.Metric.{limit}
 use Rattle.decoding.specs.Stepping.{olds}
 
@@ -51,11 +51,12 @@ pub record Kept (z : Sizes) (metrics : List ℤ) (decisions : List ℕ) (metrics
   pub decisions-size : length decisions′ ≡ length decisions
   pub decisions-rest : (i : ℕ) → z .n * z .words ≤ i → getD decisions′ i 0 ≡ getD decisions i 0
 
--- what the walk has when it has come to depth t: the word's first t positions, and the state and the live rows there
+-- what the walk has when it has come to depth t: the word's first t positions, the rows taken, the state and the live rows there
 pub record Walked (rows : List ℕ) (samples : List ℤ) (t : ℕ) (w : Walk) : Type 0 where
   pub state : w .state < 2 ^ (sectionOf rows t) .live
   pub short : w .word < 2 ^ t
   pub rest : w .word + 2 ^ t * wordFrom (sectionOf rows) (drop t samples) t (w .state) ≡ wordFrom (sectionOf rows) samples 0 0
+  pub taken : Taken rows t (w .sum) (w .state)
   pub live : w .live ≡ liveMarks rows t
   pub next : w .next ≡ begunBefore rows t
 

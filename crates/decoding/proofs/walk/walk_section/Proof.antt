@@ -1,64 +1,88 @@
 -- `decoding::walk::walk_section` meets its contract, by the laws of proofs/WalkSection.
 use borrow.Author.Needs.{needs}
-use mathlib.Core.Path.{_≡_, _∙_, ap, subst, sym}
+use mathlib.Core.Path.{_≡_, refl}
 use native.Mathlib.Omega.{arith}
-use Prim.Native.Nat.{ℕ, _<_, _^_}
-use Rattle.trellises.specs.declared.Section.{Section}
-use Rattle.words.specs.Choice.{more}
-use Rattle.decoding.specs.Stepping.{SectionFits}
-use Rattle.decoding.proofs.WalkSection.{decision-there, next-few, section-fits, source-there, state-is, state-small, walk-begin-small, walked-on}
+use Prim.Native.Nat.{_<_}
+use Rattle.decoding.proofs.PassedRows.{active-fits, ending-few}
+use Rattle.decoding.proofs.WalkSection.{active-is, decision-there, ended-among, live-few, next-few, state-small, walk-begin-small, walked-on}
 use Rattle.decoding.proofs.walk.walk_section.Statement.{statement}
 use Rattle.decoding.proofs.walk.walk_section.Tie as tie
 
-pass-on-requires : tie.Need-pass-on-requires
-pass-on-requires c κs =
-    let s = c .before in
-    (s .pre .fit .plate, (s .pre .ends-are, (omega (arith, s .pre .depth, s .pre .fit .short), s .pre .walked .live, s .pre .walked .next)))
+row-beginning-requires : tie.Need-row-beginning-requires
+row-beginning-requires c κs = search needs
 
 mul-decision : tie.Need-mul-decision
-mul-decision c = let s = c .before .before .before .before in record { fits = omega (arith, walk-begin-small (s .args .rows .now) (s .args .sizes) (s .args .ends .now) (s .args .samples .now) (s .args .decisions .now) (s .args .t) (s .args .at) (s .pre)) }
+mul-decision c = let s = c .before .before .before in record { fits = omega (arith, walk-begin-small (s .args .rows .now) (s .args .sizes) (s .args .ends .now) (s .args .samples .now) (s .args .decisions .now) (s .args .t) (s .args .at) (s .pre)) }
 
 decision-requires : tie.Need-decision-requires
 decision-requires c κs =
-    let s = c .before .before .before .before in
+    let s = c .before .before .before in
     (walk-begin-small (s .args .rows .now) (s .args .sizes) (s .args .ends .now) (s .args .samples .now) (s .args .decisions .now) (s .args .t) (s .args .at) (s .pre), state-small (s .args .rows .now) (s .args .sizes) (s .args .ends .now) (s .args .samples .now) (s .args .decisions .now) (s .args .t) (s .args .at) (s .pre), decision-there (s .args .rows .now) (s .args .sizes) (s .args .ends .now) (s .args .samples .now) (s .args .decisions .now) (s .args .t) (s .args .at) (s .pre))
 
-branch-by-requires : tie.Need-branch-by-requires
-branch-by-requires c κs =
+row-taken-requires : tie.Need-row-taken-requires
+row-taken-requires c κs = search needs
+
+branch-taking-requires : tie.Need-branch-taking-requires
+branch-taking-requires c κs =
     let s = c .before .before .before .before .before in
-    let e = c .before .before .before .pass-on .ensures .section in
-    subst (λ (d : Section). SectionFits d × (s .args .at .state < 2 ^ d .live)) (sym e) (section-fits (s .args .rows .now) (s .args .sizes) (s .args .ends .now) (s .args .samples .now) (s .args .decisions .now) (s .args .t) (s .args .at) (s .pre), s .pre .walked .state)
+    (state-small (s .args .rows .now) (s .args .sizes) (s .args .ends .now) (s .args .samples .now) (s .args .decisions .now) (s .args .t) (s .args .at) (s .pre), live-few (s .args .rows .now) (s .args .sizes) (s .args .ends .now) (s .args .samples .now) (s .args .decisions .now) (s .args .t) (s .args .at) (s .pre))
 
-shl-t14 : tie.Need-shl-t14
-shl-t14 c = search needs
+add-active : tie.Need-add-active
+add-active c =
+    let s = c .before .before .before .before .before .before .before .before in
+    record { fits = active-fits (s .pre .fit .plate) (s .args .t) (active-is (s .args .rows .now) (s .args .sizes) (s .args .ends .now) (s .args .samples .now) (s .args .decisions .now) (s .args .t) (s .args .at) (s .pre) _ (c .before .before .before .before .before .before .row-beginning .ensures .mark)) }
 
-source-requires : tie.Need-source-requires
-source-requires c κs =
-    let s = c .before .before .before .before .before .before .before in
-    source-there (s .args .rows .now) (s .args .sizes) (s .args .ends .now) (s .args .samples .now) (s .args .decisions .now) (s .args .t) (s .args .at) (s .pre)
-    (c .before .before .decision .result) (c .before .before .decision .ensures) _ (c .before .before .before .before .before .pass-on .ensures .section) _ (c .before .branch-by .ensures)
+element-copy-out-following : tie.Need-element-copy-out-following
+element-copy-out-following c = search needs
+
+shl-t20 : tie.Need-shl-t20
+shl-t20 c = search needs
+
+leads-requires : tie.Need-leads-requires
+leads-requires c κs =
+    let s = c .before .before .before .before .before .before .before .before .before .before .before in
+    ending-few (s .pre .fit .plate) (s .args .t) (s .pre .ends-are) (omega (arith, s .pre .depth, s .pre .fit .short))
+
+mark-of-requires : tie.Need-mark-of-requires
+mark-of-requires c κs =
+    let s = c .before .before .before .before .before .before .before .before .before .before .before .before in
+    ending-few (s .pre .fit .plate) (s .args .t) (s .pre .ends-are) (omega (arith, s .pre .depth, s .pre .fit .short))
+
+sub-t24 : tie.Need-sub-t24
+sub-t24 c =
+    let s = c .before .before .before .before .before .before .before .before .before .before .before .before .before in
+    ended-among (s .args .rows .now) (s .args .sizes) (s .args .ends .now) (s .args .samples .now) (s .args .decisions .now) (s .args .t) (s .args .at) (s .pre) _ (c .before .before .before .before .before .before .before .before .before .before .before .row-beginning .ensures .mark) (c .mark-of .ensures)
 
 begun-requires : tie.Need-begun-requires
-begun-requires c κs = let s = c .before .before .before .before .before .before .before .before in next-few (s .args .rows .now) (s .args .sizes) (s .args .ends .now) (s .args .samples .now) (s .args .decisions .now) (s .args .t) (s .args .at) (s .pre)
+begun-requires c κs =
+    let s = c .before .before .before .before .before .before .before .before .before .before .before .before .before in
+    next-few (s .args .rows .now) (s .args .sizes) (s .args .ends .now) (s .args .samples .now) (s .args .decisions .now) (s .args .t) (s .args .at) (s .pre)
 
 returns : tie.Need-returns
 returns c =
-    let s = c .before .before .before .before .before .before .before .before .before in
-    let d = c .before .before .before .before .decision in
-    let p = c .before .before .before .before .before .before .before .pass-on .ensures in
-    walked-on (s .args .rows .now) (s .args .sizes) (s .args .ends .now) (s .args .samples .now) (s .args .decisions .now) (s .args .t) (s .args .at) (s .pre) (d .result) (d .ensures) _ _ _
-    (state-is (s .args .rows .now) (s .args .sizes) (s .args .ends .now) (s .args .samples .now) (s .args .decisions .now) (s .args .t) (s .args .at) (s .pre) (d .result) (d .ensures) _ (p .section) _ (c .before .before .before .branch-by .ensures) _ (c .before .source .ensures))
-    (p .live) (c .begun .ensures ∙ ap (λ (e : Section). more (e .begins) (s .args .at .next)) (p .section))
+    let s = c .before .before .before .before .before .before .before .before .before .before .before .before .before .before in
+    let d = c .before .before .before .before .before .before .before .before .before .before .decision in
+    let r = c .before .before .before .before .before .before .before .before .before .before .before .before .row-beginning in
+    let k = c .before .before .before .before .before .before .before .before .before .row-taken in
+    let x = c .before .before .before .before .before .before .before .before .branch-taking in
+    walked-on (s .args .rows .now) (s .args .sizes) (s .args .ends .now) (s .args .samples .now) (s .args .decisions .now) (s .args .t) (s .args .at) (s .pre) (d .result) (d .ensures) _ (r .ensures .row) (k .result) (k .ensures) (x .result) (x .ensures) _ _ _ _ _ _
+    (active-is (s .args .rows .now) (s .args .sizes) (s .args .ends .now) (s .args .samples .now) (s .args .decisions .now) (s .args .t) (s .args .at) (s .pre) _ (r .ensures .mark)) refl (c .before .before .leads .ensures) (c .before .mark-of .ensures)
+    (omega (arith, ended-among (s .args .rows .now) (s .args .sizes) (s .args .ends .now) (s .args .samples .now) (s .args .decisions .now) (s .args .t) (s .args .at) (s .pre) _ (r .ensures .mark) (c .before .mark-of .ensures))) (c .begun .ensures)
 
 pub walk-section-spec : {M : Type 1} → statement M
 walk-section-spec =
     tie.close
     (tie.spec
-    pass-on-requires
+    row-beginning-requires
     mul-decision
     decision-requires
-    branch-by-requires
-    shl-t14
-    source-requires
+    row-taken-requires
+    branch-taking-requires
+    add-active
+    element-copy-out-following
+    shl-t20
+    leads-requires
+    mark-of-requires
+    sub-t24
     begun-requires
     returns)

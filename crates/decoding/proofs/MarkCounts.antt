@@ -1,0 +1,129 @@
+-- How many rows are live, and where a section's branches lead, by the rows' marks.
+use borrow.Author.Tests.{le-leb, le-ltb, ltb-false}
+use lib.Count.{ones, ones-le, ones-step}
+use lib.Dec.{leb, ltb}
+use lib.ListN.{getD, length}
+use lib.Pow.{pow-pos}
+use mathlib.Core.Bool.{Bool, cond, false, true}
+use mathlib.Core.List.{List, [], _∷_}
+use mathlib.Core.Path.{ap, ap₂, refl, subst, sym, _∙_, _≡_}
+use native.Mathlib.Nat.{mod-lt}
+use native.Mathlib.Numerals.{one-add}
+use native.Mathlib.Omega.{arith}
+use Prim.Native.Nat.{_%_, _*_, _+_, _-_, _/_, _<_, _^_, suc, suc-le-suc, zero, zero-le, ℕ, _≤_}
+use Rattle.decoding.proofs.LiveMarks.{in-order}
+use Rattle.decoding.proofs.PassedRows.{mark-is}
+use Rattle.decoding.specs.LiveRows.{EndsAre, activeMarks, isLive, leadsBy, liveMarks, marks}
+use Rattle.trellises.proofs.Digits.{mod-digit}
+use Rattle.trellises.proofs.OneMoreRow.{LastsApart, active-ends, apart-rest, taking, with-row}
+use Rattle.trellises.proofs.SectionAgrees.{live-count}
+use Rattle.trellises.specs.declared.Section.{Section}
+use Rattle.trellises.specs.Numbers.{leadsTo, without}
+use Rattle.trellises.specs.SectionOf.{isActive, sectionOf}
+use Rattle.words.proofs.Word.{half}
+use Rattle.words.specs.Choice.{count, more}
+use Rattle.words.specs.Ends.{first, firsts, last, lasts}
+use Rattle.words.specs.Span.{Spans}
+use Rattle.words.specs.Word.{bit}
+
+ones-zero : ones 0 ≡ 0
+unfolding ones
+ones-zero = refl
+
+mod-one : (x : ℕ) → x % 1 ≡ 0
+mod-one x = omega arith
+
+ones-digit : (m d : ℕ) → d < 2 → ones (m * 2 + d) ≡ d + ones m
+ones-digit m d h =
+    let e : (m * 2 + d) % 2 ≡ d = omega arith in
+    ones-step (m * 2 + d) ∙ ap₂ (λ (x y : ℕ). x + ones y) e (half m d h)
+
+-- one mark more, where the test passes
+marked : (m : ℕ) (b : Bool) → ones (m * 2 + cond b 1 0) ≡ more b (ones m)
+marked m true = ones-digit m 1 (omega arith) ∙ one-add (ones m)
+marked m false = omega (arith, ones-digit m 0 (omega arith))
+
+-- as many marks as rows that pass
+ones-marks : (P : ℕ → Bool) (rows : List ℕ) → ones (marks P rows) ≡ count (length rows) (λ j. P (getD rows j 0))
+ones-marks P [] = ones-zero
+ones-marks P (row ∷ rows) = marked (marks P rows) (P row) ∙ ap (more (P row)) (ones-marks P rows)
+
+pub live-ones : (rows : List ℕ) (t : ℕ) → ones (liveMarks rows t) ≡ sectionOf rows t .live
+live-ones rows t = ones-marks (isLive t) rows ∙ sym (live-count t rows)
+
+module _ (t : ℕ) where
+  -- no row ends: each active row is counted
+  pub none-ending : (rows : List ℕ) → ((j : ℕ) → j < length rows → lasts rows j ≡ t → ⊥)
+      → (sectionOf rows t .ends ≡ false) × (sectionOf rows t .ending ≡ ones (activeMarks rows t))
+  none-ending [] h = (refl, sym ones-zero)
+  none-ending (row ∷ rows) h =
+      rw (with-row t row (sectionOf rows t)) (go (isActive t row) (ltb t (last row)) refl refl (none-ending rows (λ j l. h (suc j) (suc-le-suc l))))
+    where
+      c : Section
+      c = sectionOf rows t
+
+      m : ℕ
+      m = activeMarks rows t
+
+      go : (a g : Bool) → isActive t row ≡ a → ltb t (last row) ≡ g → (c .ends ≡ false) × (c .ending ≡ ones m)
+          → (taking a (ltb (first row) t) g (bit row t) c .ends ≡ false) × (taking a (ltb (first row) t) g (bit row t) c .ending ≡ ones (m * 2 + cond a 1 0))
+      go false g p q ih = (ih .0, ih .1 ∙ sym (marked m false))
+      go true true p q ih = (ih .0, ap suc (ih .1) ∙ sym (marked m true))
+      go true false p q ih = absurd (h 0 (suc-le-suc zero-le) (omega (arith, ltb-false t (last row) q, active-ends t row p)))
+
+  -- row j ends: the active rows below it are counted
+  pub one-ending : (rows : List ℕ) → LastsApart rows → (j : ℕ) → j < length rows → firsts rows j ≤ t → lasts rows j ≡ t
+      → (sectionOf rows t .ends ≡ true) × (sectionOf rows t .ending ≡ ones (activeMarks rows t % 2 ^ j))
+  one-ending [] h j l f e = absurd (omega arith)
+  one-ending (row ∷ rows) h zero l f e =
+      rw (with-row t row (sectionOf rows t), le-leb (first row) t f, le-leb t (last row) (omega arith), le-ltb t (last row) (omega arith))
+      (refl, sym (ap ones (mod-one (activeMarks rows t * 2 + 1)) ∙ ones-zero))
+  one-ending (row ∷ rows) h (suc j) l f e =
+      rw (with-row t row (sectionOf rows t)) (go (isActive t row) (ltb t (last row)) refl refl (one-ending rows (apart-rest row rows h) j (omega arith) f e))
+    where
+      c : Section
+      c = sectionOf rows t
+
+      m : ℕ
+      m = activeMarks rows t
+
+      low : (b : Bool) → ones ((m * 2 + cond b 1 0) % 2 ^ suc j) ≡ more b (ones (m % 2 ^ j))
+      low b = ap ones (mod-digit (m * 2 + cond b 1 0) j ∙ ap₂ (λ (x y : ℕ). x % 2 ^ j * 2 + y) (half m (cond b 1 0) (small b)) (odd b)) ∙ marked (m % 2 ^ j) b
+        where
+          small : (b : Bool) → cond b 1 0 < 2
+          small true = omega arith
+          small false = omega arith
+
+          odd : (b : Bool) → (m * 2 + cond b 1 0) % 2 ≡ cond b 1 0
+          odd b = let k = small b in omega arith
+
+      go : (a g : Bool) → isActive t row ≡ a → ltb t (last row) ≡ g → (c .ends ≡ true) × (c .ending ≡ ones (m % 2 ^ j))
+          → (taking a (ltb (first row) t) g (bit row t) c .ends ≡ true)
+          × (taking a (ltb (first row) t) g (bit row t) c .ending ≡ ones ((m * 2 + cond a 1 0) % 2 ^ suc j))
+      go false g p q ih = (ih .0, ih .1 ∙ sym (low false))
+      go true true p q ih = (ih .0, ap suc (ih .1) ∙ sym (low true))
+      go true false p q ih =
+          absurd (omega (arith, h 0 (suc j) (suc-le-suc zero-le) l (omega (arith, e, ltb-false t (last row) q, active-ends t row p))))
+
+module _ (rows : List ℕ) (s : Spans rows (firsts rows) (lasts rows)) (ends : List ℕ) (t : ℕ) (a : EndsAre rows ends) (h : t < 64) where
+  pub leads-by : (x : ℕ) → leadsBy (activeMarks rows t) (getD ends t 0) x ≡ leadsTo (sectionOf rows t) x
+  leads-by x = go (getD ends t 0) refl
+    where
+      go : (n : ℕ) → getD ends t 0 ≡ n → leadsBy (activeMarks rows t) n x ≡ leadsTo (sectionOf rows t) x
+      go zero q = sym (ap (λ (b : Bool). cond b (without (sectionOf rows t .ending) x) x) (none-ending t rows (a .none t h q) .0))
+      go (suc j) q =
+          let m = a .some t j h q in
+          let e = one-ending t rows (s .apart) j (m .0) (omega (arith, in-order rows s j (m .0))) (m .1) in
+          sym (ap₂ (λ (b : Bool) (n : ℕ). cond b (without n x) x) (e .0) (e .1))
+
+-- ---- the same as the code has it
+
+-- the active rows below the row that ends are few
+pub below-few : (active n : ℕ) → (n ≡ 0 → ⊥) → n ≤ 64 → ones (active % (1 * 2 ^ (n - 1) % 2 ^ 64)) < 64
+below-few active zero z h = absurd (z refl)
+below-few active (suc j) z h =
+    subst (λ (x : ℕ). ones (active % x) < 64) (sym (mark-is (suc j) z h)) (omega (arith, ones-le j (active % 2 ^ j) (mod-lt active (pow-pos j))))
+
+pub leads-is : (active n x r : ℕ) → (n ≡ 0 → ⊥) → n ≤ 64 → r ≡ without (ones (active % (1 * 2 ^ (n - 1) % 2 ^ 64))) x → r ≡ leadsBy active n x
+leads-is active zero x r z h e = absurd (z refl)
+leads-is active (suc j) x r z h e = e ∙ ap (λ (y : ℕ). without (ones (active % y)) x) (mark-is (suc j) z h)
