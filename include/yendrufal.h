@@ -4,7 +4,7 @@
  * How the calls are alike:
  * - A run of numbers crosses as a pointer and the number of its cells. No pointer is NULL, and a run
  *   that a call may write overlaps no other run.
- * - The reply is YENDRUFAL_DONE, the number of a refusal (1 to 15), or one of the two codes above 99.
+ * - The reply is YENDRUFAL_DONE, the number of a refusal (1 to 15, 21), or one of the two codes above 99.
  * - YENDRUFAL_SHAPE comes before everything else: a run is shorter than its use fixes, or `kind` is
  *   neither G nor H. A run may be longer than its use; the cells beyond are not touched.
  * - Unless the reply is YENDRUFAL_DONE nothing lent changes, but for `place` beside a refusal.
@@ -39,6 +39,7 @@ extern "C" {
 #define YENDRUFAL_INFORMATION 13    /* information has a one at k or beyond */
 #define YENDRUFAL_NO_CODEWORD 14    /* word read back is no codeword */
 #define YENDRUFAL_SHEET_LENGTH 15   /* sheet over 32,768 bytes (in a listing only) */
+#define YENDRUFAL_POSITION 21       /* the position is n or beyond */
 #define YENDRUFAL_NO_BRANCH 100     /* an ordinary reply: no branch with this bit leaves the state */
 #define YENDRUFAL_SHAPE 101         /* a run is too short for its fixed use, or `kind` is over 1 */
 
@@ -53,7 +54,7 @@ extern "C" {
 #define YENDRUFAL_PLATE_ROWS 2
 #define YENDRUFAL_PLATE_PROFILE 66
 
-/* Rooms that decoding needs, in cells; m is the largest profile entry, at most 12. */
+/* Rooms that decoding and firmness need, in cells; m is the largest profile entry, at most 12. */
 #define YENDRUFAL_METRICS(m) ((size_t)2 << (m))
 #define YENDRUFAL_DECISIONS(n, m) ((size_t)(n) << ((m) < 6 ? 0 : (m) - 6))
 #define YENDRUFAL_METRICS_MOST 8192   /* enough for every plate */
@@ -92,6 +93,17 @@ uint64_t yendrufal_decode(const uint64_t *plate, size_t plate_length, const int1
                           size_t word_length, int32_t *metric, size_t metric_length,
                           uint64_t *counts, size_t counts_length, uint64_t *place,
                           size_t place_length);
+
+/* How firmly a position was received. Where every codeword has the same bit there, `fixed` receives 1
+   and `value` that bit; else `fixed` receives 0 and `value` the margin: the best metric among the
+   codewords with 0 there minus the best among those with 1, within 16,256 either way. Positive means
+   that decoding gives 0 there, negative 1; zero decides nothing. Both rooms are left as by decoding.
+   Refusals 5, 6, 7, 21, 8, 9, in this order. Fixed: plate 131, fixed 1, value 1, place 1. */
+uint64_t yendrufal_firmness(const uint64_t *plate, size_t plate_length, const int16_t *samples,
+                            size_t sample_count, uint64_t position, int32_t *metrics,
+                            size_t metric_count, uint64_t *decisions, size_t decision_count,
+                            uint64_t *fixed, size_t fixed_length, int32_t *value,
+                            size_t value_length, uint64_t *place, size_t place_length);
 
 /* The five kinds of listing line. Each begins at the start of `line`; `written` receives its bytes,
    the line feed included. Refusals 5 (where a plate is taken), 11. Fixed: plate 131, written 1. */

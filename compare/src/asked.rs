@@ -58,6 +58,26 @@ pub fn decode(flat: &[u64], samples: &[i16], metrics: usize, decisions: usize, r
     Call { name: Name::Decode, numbers: vec![], runs }
 }
 
+pub fn firmness(
+    flat: &[u64],
+    samples: &[i16],
+    position: u64,
+    metrics: usize,
+    decisions: usize,
+    rooms: Rooms,
+) -> Call {
+    let runs = vec![
+        lent_plate(flat, rooms),
+        Run::of_samples("samples", samples),
+        Run::room_metrics("metrics", metrics),
+        Run::room_words("decisions", decisions),
+        Run::room_words("fixed", rooms.single),
+        Run::room_metrics("value", rooms.single),
+        Run::room_words("place", rooms.place),
+    ];
+    Call { name: Name::Firmness, numbers: vec![position], runs }
+}
+
 pub fn write_plate(flat: &[u64], line: usize, rooms: Rooms) -> Call {
     let runs = vec![
         lent_plate(flat, rooms),

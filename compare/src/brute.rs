@@ -83,6 +83,11 @@ pub fn section(code: &BTreeSet<u64>, rows: &[u64], t: usize) -> Vec<(u64, u64, u
     branches
 }
 
+/// The greatest metric of the codewords with a bit at a position.
+pub fn best_with(code: &BTreeSet<u64>, samples: &[i16], position: usize, digit: u64) -> Option<i32> {
+    code.iter().filter(|&&word| bit(word, position) == digit).map(|&word| metric(word, samples)).max()
+}
+
 /// The greatest metric of all codewords and the earliest codeword that has it.
 pub fn best(code: &BTreeSet<u64>, samples: &[i16]) -> (i32, u64) {
     let found = code.iter().map(|&word| (metric(word, samples), word));

@@ -17,6 +17,7 @@ pub enum Name {
     WriteWord,
     WriteRefused,
     WriteEnd,
+    Firmness,
     Listing,
 }
 

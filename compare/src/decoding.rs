@@ -56,14 +56,22 @@ pub fn of_all_codewords(plate: &Plate, samples: &[i16]) -> (i32, u64) {
     best
 }
 
-/// One position more on every beginning, those kept that some codeword continues.
-fn lengthened(begun: &Beginnings, position: usize, sample: i16, column: u64, rest: &Basis) -> Beginnings {
+/// One position more on every beginning, with this bit only where one is given, those kept that some
+/// codeword continues.
+fn lengthened(
+    begun: &Beginnings,
+    position: usize,
+    only: Option<u64>,
+    sample: i16,
+    column: u64,
+    rest: &Basis,
+) -> Beginnings {
     let mut longer = Beginnings::with_capacity_and_hasher(2 * begun.len(), Default::default());
     for (&syndrome, &(value, word)) in begun {
         let with_zero = (syndrome, (value + i32::from(sample), word));
         let with_one = (syndrome ^ column, (value - i32::from(sample), word | 1 << position));
-        for (syndrome, found) in [with_zero, with_one] {
-            if rest.express(syndrome).is_none() {
+        for (digit, (syndrome, found)) in [(0, with_zero), (1, with_one)] {
+            if only.is_some_and(|only| only != digit) || rest.express(syndrome).is_none() {
                 continue;
             }
             let kept = longer.entry(syndrome).or_insert(found);
@@ -78,6 +86,15 @@ fn lengthened(begun: &Beginnings, position: usize, sample: i16, column: u64, res
 /// The best codeword by a forward pass. Beginnings with equal syndromes go on alike, so of each such
 /// class only the best beginning, and of equals the earliest, can begin the answer.
 pub fn by_forward_pass(plate: &Plate, samples: &[i16]) -> (i32, u64) {
+    by_forward_pass_with(plate, samples, None).unwrap()
+}
+
+/// The same among the codewords that have a bit at a position; none where no codeword has it.
+pub fn by_forward_pass_with(
+    plate: &Plate,
+    samples: &[i16],
+    wanted: Option<(usize, u64)>,
+) -> Option<(i32, u64)> {
     let mut rests = vec![Basis::new()];
     for &column in plate.columns.iter().rev() {
         let mut longer = rests.last().unwrap().clone();
@@ -87,9 +104,10 @@ pub fn by_forward_pass(plate: &Plate, samples: &[i16]) -> (i32, u64) {
     let mut begun = Beginnings::default();
     begun.insert(0, (0, 0));
     for (t, &sample) in samples.iter().enumerate() {
-        begun = lengthened(&begun, t, sample, plate.columns[t], &rests[plate.n - t - 1]);
+        let only = wanted.filter(|&(position, _)| position == t).map(|(_, digit)| digit);
+        begun = lengthened(&begun, t, only, sample, plate.columns[t], &rests[plate.n - t - 1]);
     }
-    begun[&0]
+    begun.get(&0).copied()
 }
 
 /// The paper's two formulas over the profile: additions and comparisons.
@@ -101,19 +119,19 @@ pub fn counts(plate: &Plate) -> (u64, u64) {
     (additions, additions - entered)
 }
 
-/// Refusals 6 to 9, in this order, for samples and rooms of these lengths.
-pub fn refused(
-    plate: &Plate,
-    samples: &[i16],
-    metric_count: usize,
-    decision_count: usize,
-) -> Result<(), Refusal> {
+/// Refusals 6 and 7.
+pub fn bad_samples(plate: &Plate, samples: &[i16]) -> Result<(), Refusal> {
     if samples.len() != plate.n {
         return refuse(6, 0);
     }
     if let Some(place) = samples.iter().position(|&y| !(-127..=127).contains(&y)) {
         return refuse(7, place);
     }
+    Ok(())
+}
+
+/// Refusals 8 and 9, for rooms of these lengths.
+pub fn short_rooms(plate: &Plate, metric_count: usize, decision_count: usize) -> Result<(), Refusal> {
     if metric_count < plate.metrics_needed() {
         return refuse(8, 0);
     }
@@ -121,6 +139,17 @@ pub fn refused(
         return refuse(9, 0);
     }
     Ok(())
+}
+
+/// Refusals 6 to 9, in this order.
+pub fn refused(
+    plate: &Plate,
+    samples: &[i16],
+    metric_count: usize,
+    decision_count: usize,
+) -> Result<(), Refusal> {
+    bad_samples(plate, samples)?;
+    short_rooms(plate, metric_count, decision_count)
 }
 
 /// The answer for `n` permitted samples.

@@ -30,6 +30,7 @@ pub fn answer(call: &mut Call) -> u64 {
             }
         }
         Name::Decode => decode(call),
+        Name::Firmness => firmness(call),
         Name::WriteRefused | Name::WriteEnd => {
             let ((line, a), (written, b)) = (lent!(r[0], bytes), lent!(r[1], words));
             match call.name {
@@ -51,6 +52,19 @@ fn decode(call: &mut Call) -> u64 {
     unsafe {
         yendrufal_decode(
             plate, a, samples, b, metrics, c, decisions, d, word, e, metric, f, counts, g, place, h,
+        )
+    }
+}
+
+fn firmness(call: &mut Call) -> u64 {
+    let position = call.numbers[0];
+    let r = &mut call.runs[..];
+    let ((plate, a), (samples, b)) = (lent!(r[0], words), lent!(r[1], samples));
+    let ((metrics, c), (decisions, d)) = (lent!(r[2], metrics), lent!(r[3], words));
+    let ((fixed, e), (value, f), (place, g)) = (lent!(r[4], words), lent!(r[5], metrics), lent!(r[6], words));
+    unsafe {
+        yendrufal_firmness(
+            plate, a, samples, b, position, metrics, c, decisions, d, fixed, e, value, f, place, g,
         )
     }
 }

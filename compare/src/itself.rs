@@ -3,6 +3,7 @@
 use crate::brute;
 use crate::coding::{encode, read_back};
 use crate::decoding::{by_forward_pass, counts, decode, of_all_codewords};
+use crate::firmness::{best_by_pass, best_of_all};
 use crate::model::Model;
 use crate::plate::{prepare, Kind, Plate};
 use crate::random::{matrix, samples, Random};
@@ -57,6 +58,11 @@ fn one_small(n: u64, kind: Kind, rows: &[u64], blocks: &[Vec<i16>]) {
         let best = brute::best(&code, block);
         assert_eq!(of_all_codewords(&plate, block), best);
         assert_eq!(by_forward_pass(&plate, block), best);
+        for (position, digit) in (0..plate.n).flat_map(|position| [(position, 0), (position, 1)]) {
+            let best = brute::best_with(&code, block, position, digit);
+            assert_eq!(best_of_all(&plate, block, position, digit), best);
+            assert_eq!(best_by_pass(&plate, block, position, digit), best);
+        }
     }
 }
 

@@ -52,6 +52,23 @@ extern "C" {
         place: *mut u64,
         place_length: usize,
     ) -> u64;
+    pub fn yendrufal_firmness(
+        plate: *const u64,
+        plate_length: usize,
+        samples: *const i16,
+        sample_count: usize,
+        position: u64,
+        metrics: *mut i32,
+        metric_count: usize,
+        decisions: *mut u64,
+        decision_count: usize,
+        fixed: *mut u64,
+        fixed_length: usize,
+        value: *mut i32,
+        value_length: usize,
+        place: *mut u64,
+        place_length: usize,
+    ) -> u64;
     pub fn yendrufal_write_plate(
         plate: *const u64,
         plate_length: usize,

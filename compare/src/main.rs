@@ -11,6 +11,7 @@ mod damage;
 mod decoding;
 #[cfg(linked)]
 mod direct;
+mod firmness;
 mod itself;
 #[cfg(linked)]
 mod library;

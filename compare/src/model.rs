@@ -3,6 +3,7 @@
 use crate::call::{Call, Name, Run};
 use crate::coding::{encode, read_back};
 use crate::decoding;
+use crate::firmness::{self, Reading};
 use crate::listing::{end_line, plate_line, profile_line, refused_line, word_line};
 use crate::plate::{prepare, Kind, Plate, Refusal, PLATE_WORDS};
 use crate::sheet;
@@ -78,6 +79,7 @@ impl Model {
                 reply_into(self.plate(plate.words()).and_then(|p| read_back(&p, numbers[0])), word.words())
             }
             (Name::Decode, runs) => self.answer_decode(runs),
+            (Name::Firmness, runs) => self.answer_firmness(numbers[0], runs),
             (Name::WriteRefused, [line, written]) => {
                 let refusal = Refusal { number: numbers[0], place: numbers[1] };
                 put_line(Ok(refused_line(refusal)), line.bytes(), written.words())
@@ -128,6 +130,35 @@ impl Model {
     }
 }
 
+impl Model {
+    fn answer_firmness(&mut self, position: u64, runs: &mut [Run]) -> u64 {
+        let [plate, samples, metrics, decisions, fixed, value, place] = runs else {
+            unreachable!("firmness has seven runs")
+        };
+        let samples = samples.samples();
+        let accepted = self.plate(plate.words()).and_then(|plate| {
+            let rooms = (metrics.metrics().len(), decisions.words().len());
+            firmness::refused(&plate, samples, position, rooms.0, rooms.1)?;
+            Ok(plate)
+        });
+        let plate = match accepted {
+            Ok(plate) => plate,
+            Err(refusal) => {
+                place.words()[0] = refusal.place;
+                return refusal.number;
+            }
+        };
+        let reading = firmness::firmness(&plate, samples, position as usize);
+        clear_rooms(&plate, metrics.metrics(), decisions.words());
+        (fixed.words()[0], value.metrics()[0]) = match reading {
+            Reading::Fixed(digit) => (1, digit as i32),
+            Reading::Open(margin) => (0, margin),
+        };
+        place.words()[0] = 0;
+        DONE
+    }
+}
+
 /// Whether a run is shorter than its use fixes, or a matrix is of neither kind.
 fn misshapen(call: &mut Call) -> bool {
     let kind_unknown = call.name == Name::Prepare && call.numbers[1] > 1;
@@ -135,8 +166,8 @@ fn misshapen(call: &mut Call) -> bool {
         || call.runs.iter_mut().any(|run| match run.name {
             "plate" => run.words().len() < PLATE_WORDS,
             "counts" => run.words().len() < 2,
-            "metric" => run.metrics().is_empty(),
-            "next" | "word" | "information" | "written" | "place" => run.words().is_empty(),
+            "metric" | "value" => run.metrics().is_empty(),
+            "next" | "word" | "fixed" | "information" | "written" | "place" => run.words().is_empty(),
             _ => false,
         })
 }
@@ -156,7 +187,7 @@ fn answer_prepare(numbers: &[u64], rows: &mut Run, plate: &mut Run, place: &mut 
     }
 }
 
-/// After decoding, the needed part of both rooms is zero.
+/// After decoding and judging, the needed part of both rooms is zero.
 fn clear_rooms(plate: &Plate, metrics: &mut [i32], decisions: &mut [u64]) {
     metrics[..plate.metrics_needed()].fill(0);
     decisions[..plate.decisions_needed()].fill(0);

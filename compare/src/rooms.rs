@@ -24,6 +24,8 @@ fn working_rooms(comparison: &mut Comparison, random: &mut Random, plate: &Plate
         for decisions in about(plate.decisions_needed()) {
             let block = samples(random, plate.n);
             comparison.agree(asked::decode(&flat, &block, metrics, decisions, FIXED));
+            let position = random.below(plate.n) as u64;
+            comparison.agree(asked::firmness(&flat, &block, position, metrics, decisions, FIXED));
         }
     }
 }
@@ -42,8 +44,11 @@ fn bad_samples(comparison: &mut Comparison, random: &mut Random, plate: &Plate) 
         comparison.agree(asked::decode(&flat, &block, metrics, decisions, FIXED));
         comparison.agree(asked::decode(&flat, &block, 0, decisions, FIXED));
         comparison.agree(asked::decode(&flat, &block, metrics, 0, FIXED));
+        comparison.agree(asked::firmness(&flat, &block, place as u64, metrics, decisions, FIXED));
+        comparison.agree(asked::firmness(&flat, &block, plate.n as u64, 0, 0, FIXED));
         block.push(value);
         comparison.agree(asked::decode(&flat, &block, 0, 0, FIXED));
+        comparison.agree(asked::firmness(&flat, &block, u64::MAX, 0, 0, FIXED));
     }
 }
 
@@ -55,6 +60,22 @@ fn plain_samples(comparison: &mut Comparison, plate: &Plate) {
             let (metrics, decisions) = (plate.metrics_needed(), plate.decisions_needed());
             comparison.agree(asked::decode(&flat, &vec![value; count], metrics, decisions, FIXED));
         }
+    }
+}
+
+/// Every position and some beyond, with good rooms and with none.
+fn positions(comparison: &mut Comparison, random: &mut Random, plate: &Plate) {
+    let (flat, n) = (plate.flat(), plate.n as u64);
+    let (metrics, decisions) = (plate.metrics_needed(), plate.decisions_needed());
+    let block = samples(random, plate.n);
+    for position in (0..=n + 1).chain([63, 64, 65, 1 << 32, 1 << 63, u64::MAX]) {
+        comparison.agree(asked::firmness(&flat, &block, position, metrics, decisions, FIXED));
+        comparison.agree(asked::firmness(&flat, &block, position, metrics - 1, decisions, FIXED));
+        comparison.agree(asked::firmness(&flat, &block, position, metrics, decisions - 1, FIXED));
+    }
+    for value in [127, -127, 0] {
+        let block = vec![value; plate.n];
+        comparison.agree(asked::firmness(&flat, &block, n / 2, metrics, decisions, FIXED));
     }
 }
 
@@ -125,6 +146,8 @@ fn shapes(comparison: &mut Comparison, plate: &Plate) {
         comparison.agree(asked::read_back(&flat, 0, rooms));
         comparison.agree(asked::decode(&flat, &block, metrics, decisions, rooms));
         comparison.agree(asked::decode(&flat, &[300], 0, 0, rooms));
+        comparison.agree(asked::firmness(&flat, &block, 0, metrics, decisions, rooms));
+        comparison.agree(asked::firmness(&flat, &[300], 64, 0, 0, rooms));
         comparison.agree(asked::write_plate(&flat, 256, rooms));
         comparison.agree(asked::write_profile(&flat, 256, rooms));
         comparison.agree(asked::write_word(&flat, (0, 0, 0, 0), 256, rooms));
@@ -150,6 +173,7 @@ pub fn run(comparison: &mut Comparison, random: &mut Random) {
         working_rooms(comparison, random, &plate);
         bad_samples(comparison, random, &plate);
         plain_samples(comparison, &plate);
+        positions(comparison, random, &plate);
         bad_arguments(comparison, &plate);
         lines(comparison, &plate);
         if plate.widest() < 3 {

@@ -24,7 +24,7 @@ pub fn all_samples(n: usize) -> impl Iterator<Item = Vec<i16>> {
     all_lists(3, n).map(|list| list.iter().map(|&y| y as i16 - 1).collect())
 }
 
-/// Every branch, information and word of a small plate, with some that are refused.
+/// Every branch, information, word and position of a small plate, with some that are refused.
 fn all_questions(comparison: &mut Comparison, plate: &Plate, flat: &[u64]) {
     let n = plate.n as u64;
     for depth in 0..=n + 1 {
@@ -37,6 +37,12 @@ fn all_questions(comparison: &mut Comparison, plate: &Plate, flat: &[u64]) {
     }
     for word in 0..2 << n {
         comparison.agree(asked::read_back(flat, word, FIXED));
+    }
+    let (metrics, decisions) = (plate.metrics_needed(), plate.decisions_needed());
+    for samples in all_samples(plate.n) {
+        for position in 0..=n {
+            comparison.agree(asked::firmness(flat, &samples, position, metrics, decisions, FIXED));
+        }
     }
 }
 

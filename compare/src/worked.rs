@@ -51,6 +51,13 @@ impl Checked<'_> {
         assert_eq!(left.runs[6].words(), counts);
     }
 
+    /// The reading of a position: whether it is fixed, and its bit or margin.
+    fn reads(&mut self, plate: &[u64], samples: &[i16], position: u64, fixed: u64, value: i32) {
+        let call = asked::firmness(plate, samples, position, METRICS_MOST, DECISIONS_MOST, FIXED);
+        let mut left = self.expect(call, 0, Some((4, 0, fixed)));
+        assert_eq!(left.runs[5].metrics(), [value]);
+    }
+
     fn lists(&mut self, sheet: &[u8], listing: &[u8]) {
         let room = LINE_MOST * listing.iter().filter(|byte| **byte == b'\n').count();
         let call = asked::listing(sheet, METRICS_MOST, DECISIONS_MOST, room, FIXED);
@@ -62,13 +69,16 @@ impl Checked<'_> {
     fn small_codes(&mut self) {
         let zero = self.plate(1, 0, &[]);
         self.decodes(&zero, &[-5], "0", -5, [1, 0]);
+        self.reads(&zero, &[-5], 0, 1, 0);
         let whole = self.plate(1, 1, &[]);
         self.decodes(&whole, &[-5], "1", 5, [2, 1]);
+        self.reads(&whole, &[-5], 0, 0, -10);
         let even = self.plate(3, 1, &[7]);
         assert_eq!(even[66..70], [0, 1, 1, 0]);
         self.decodes(&even, &[-1, -1, -1], "011", 1, [8, 3]);
         let thrice = self.plate(3, 0, &[7]);
         self.decodes(&thrice, &[2, -1, -1], "000", 0, [6, 1]);
+        self.reads(&thrice, &[2, -1, -1], 1, 0, 0);
     }
 
     fn the_sheet(&mut self) {
@@ -77,6 +87,9 @@ impl Checked<'_> {
         let plate = self.plate(8, 0, &ROWS.map(word));
         assert_eq!(plate[66..75], [0, 1, 2, 3, 2, 3, 2, 1, 0]);
         self.decodes(&plate, &SAMPLES, "11110000", 19, [44, 11]);
+        for (position, margin) in [-4, -4, -4, -4, 6, 6, 6, 6].into_iter().enumerate() {
+            self.reads(&plate, &SAMPLES, position as u64, 0, margin);
+        }
         for (depth, state, bit, next) in [(4, 1, 0, 5), (4, 1, 1, 1), (3, 1, 1, 0), (3, 6, 0, 3)] {
             self.expect(asked::branch(&plate, depth, state, bit, FIXED), 0, Some((1, 0, next)));
         }
@@ -92,6 +105,9 @@ impl Checked<'_> {
         let plate = self.plate(8, 0, &ROWS.map(word));
         for (metrics, decisions, reply) in [(15, 8, 8), (16, 7, 9), (16, 8, 0)] {
             self.expect(asked::decode(&plate, &SAMPLES, metrics, decisions, FIXED), reply, None);
+        }
+        for (position, metrics, reply) in [(7, 16, 0), (8, 15, 21), (7, 15, 8)] {
+            self.expect(asked::firmness(&plate, &SAMPLES, position, metrics, 8, FIXED), reply, None);
         }
         for (sample, reply) in [(127, 0), (-127, 0), (128, 7), (-128, 7)] {
             let mut samples = SAMPLES;

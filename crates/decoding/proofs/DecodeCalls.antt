@@ -1,20 +1,21 @@
 -- The replies of `decode`, case by case.
 use lib.IntN.{natAbs, pos, ℤ}
-use lib.ListN.{drop, getD, length, length-drop, replicate}
-use lib.Seq.{ext-getD, getD-drop}
+use lib.ListN.{drop, getD, length, replicate}
 use mathlib.Core.List.{_++_, List}
 use mathlib.Core.Logic.{inl, inr}
-use mathlib.Core.Path.{ap, ap₂, refl, sym, _∙_, _≡_}
+use mathlib.Core.Path.{refl, _≡_}
 use native.Mathlib.Omega.{arith}
-use Prim.Native.Nat.{_+_, _-_, _<_, ℕ, _≤_}
+use Prim.Native.Nat.{_<_, ℕ, _≤_}
 use Rattle.decoding.proofs.BestWord.{best-word}
 use Rattle.decoding.proofs.PlateSizes.{plateSizes}
+use Rattle.decoding.proofs.SampleLimits.{within-passes}
+use Rattle.decoding.proofs.ZeroedRooms.{zeroed}
 use Rattle.decoding.specs.declared.Answer.{Answer}
 use Rattle.decoding.specs.declared.Decoded.the-variants.{Found, Refused}
 use Rattle.decoding.specs.Decode.{Decodes, SampleOver, decisionNeed, decodeConditions, metricNeed}
 use Rattle.decoding.specs.Metric.{limit}
 use Rattle.decoding.specs.Searching.{FirstOver, Searched}
-use Rattle.decoding.specs.Sweeping.{Kept, RoomsFit}
+use Rattle.decoding.specs.Sweeping.{RoomsFit}
 use Rattle.plates.specs.declared.Plate.{Plate}
 use Rattle.plates.specs.declared.Refusal.{Refusal}
 use Rattle.plates.specs.declared.Refusal.the-variants.{DecisionRoom, MetricRoom, NotPrepared, SampleCount, SampleRange}
@@ -44,7 +45,7 @@ module _ (plate : Plate) (samples metrics : List ℤ) (decisions : List ℕ) whe
         samples-within i k = found .before i (omega (arith, k, size))
 
         no-sample-over : (q : Refusal) → SampleOver samples q → ⊥
-        no-sample-over q o = omega (arith, o .over, samples-within (o .position) (o .there))
+        no-sample-over = within-passes samples samples-within
 
         pub refused-8 : length metrics < metricNeed plate → Decodes plate samples metrics decisions metrics decisions (Refused MetricRoom)
         refused-8 h = (inr ((λ q b. b .0 given), inr ((λ q b. b .0 size), inr (no-sample-over, inl (h, refl)))), refl, refl)
@@ -55,21 +56,10 @@ module _ (plate : Plate) (samples metrics : List ℤ) (decisions : List ℕ) whe
 
           module _ (decision-room : decisionNeed plate ≤ length decisions) where
             pub rooms-fit : RoomsFit (plateSizes plate given) samples metrics decisions
-            rooms-fit = record { size = size; within = samples-within; metric-room = omega (arith, metric-room); decision-room = decision-room }
+            rooms-fit = record { size = size; within = λ i k. omega (arith, samples-within i k); metric-room = omega (arith, metric-room); decision-room = decision-room }
 
             passes : Passes (decodeConditions plate samples metrics decisions)
             passes = ((λ q b. b .0 given), ((λ q b. b .0 size), (no-sample-over, ((λ q b. omega (arith, b .0, metric-room)), ((λ q b. omega (arith, b .0, decision-room)), tt)))))
-
-            -- what stands behind the needed places is as it was
-            metrics-behind : (metrics′ : List ℤ) (decisions′ : List ℕ) → Kept (plateSizes plate given) metrics decisions metrics′ decisions′ → (need : ℕ) → need ≡ metricNeed plate → drop need metrics′ ≡ drop need metrics
-            metrics-behind metrics′ decisions′ k need e =
-                ext-getD (pos 0) (drop need metrics′) (drop need metrics) (length-drop need metrics′ ∙ ap (λ (x : ℕ). x - need) (k .metrics-size) ∙ sym (length-drop need metrics))
-                (λ i h. getD-drop need metrics′ i (pos 0) ∙ k .metrics-rest (need + i) (omega (arith, e)) ∙ sym (getD-drop need metrics i (pos 0)))
-
-            decisions-behind : (metrics′ : List ℤ) (decisions′ : List ℕ) → Kept (plateSizes plate given) metrics decisions metrics′ decisions′ → (need : ℕ) → need ≡ decisionNeed plate → drop need decisions′ ≡ drop need decisions
-            decisions-behind metrics′ decisions′ k need e =
-                ext-getD 0 (drop need decisions′) (drop need decisions) (length-drop need decisions′ ∙ ap (λ (x : ℕ). x - need) (k .decisions-size) ∙ sym (length-drop need decisions))
-                (λ i h. getD-drop need decisions′ i 0 ∙ k .decisions-rest (need + i) (omega (arith, e)) ∙ sym (getD-drop need decisions i 0))
 
             pub decoded : (metrics′ : List ℤ) (decisions′ : List ℕ) (a : Answer) → Searched (plate .rows) (plateSizes plate given) samples metrics decisions metrics′ decisions′ a
                 → (m d : ℕ) → m ≡ metricNeed plate → d ≡ decisionNeed plate → (metrics″ : List ℤ) → metrics″ ≡ replicate m (pos 0) ++ drop m metrics′ → (decisions″ : List ℕ) → decisions″ ≡ replicate d 0 ++ drop d decisions′
@@ -77,8 +67,5 @@ module _ (plate : Plate) (samples metrics : List ℤ) (decisions : List ℕ) whe
             decoded metrics′ decisions′ a f m d em ed metrics″ x decisions″ y = (
               passes,
               best-word plate given samples size a (f .word) (f .metric) (f .counts),
-              record {
-                metrics-zero = x ∙ ap₂ (λ (k : ℕ) (l : List ℤ). replicate k (pos 0) ++ l) em (metrics-behind metrics′ decisions′ (f .kept) m em ∙ ap (λ (k : ℕ). drop k metrics) em);
-                decisions-zero = y ∙ ap₂ (λ (k : ℕ) (l : List ℕ). replicate k 0 ++ l) ed (decisions-behind metrics′ decisions′ (f .kept) d ed ∙ ap (λ (k : ℕ). drop k decisions) ed);
-              },
+              zeroed plate given metrics decisions metrics′ decisions′ (f .kept) m d em ed metrics″ x decisions″ y,
             )

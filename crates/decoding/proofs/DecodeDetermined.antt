@@ -26,7 +26,7 @@ module _ (plate : Plate) (samples metrics : List ℤ) (decisions : List ℕ) whe
   conditions = decodeConditions plate samples metrics decisions
 
   -- the first sample that is over is one
-  sample-once : (p q : Refusal) → SampleOver samples p → SampleOver samples q → p ≡ q
+  pub sample-once : (p q : Refusal) → SampleOver samples p → SampleOver samples q → p ≡ q
   sample-once p q x y = x .is ∙ ap SampleRange (go (lt-tri (x .position) (y .position))) ∙ sym (y .is)
     where
       go : (x .position < y .position) ⊎ ((x .position ≡ y .position) ⊎ (y .position < x .position)) → x .position ≡ y .position

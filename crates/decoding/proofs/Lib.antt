@@ -41,6 +41,7 @@ pub mod ExampleCounted
 pub mod SampleLimits
 pub mod SearchEnds
 pub mod PlateSizes
+pub mod ZeroedRooms
 pub mod DecodeCalls
 pub mod DecodeDetermined
 pub mod Gathering
@@ -49,3 +50,11 @@ pub mod Storing
 pub mod Picks
 pub mod StripParts
 pub mod TwoStrips
+pub mod ForcedRows
+pub mod ForcedMetrics
+pub mod ForcedSweep
+pub mod ForcedReading
+pub mod FirmnessRead
+pub mod FirmnessCalls
+pub mod FirmnessDetermined
+pub mod FirmnessMargin

@@ -4,14 +4,15 @@ use lib.ListN.{getD, length}
 use mathlib.Core.Bool.{Bool, cond, false, true}
 use mathlib.Core.List.{List, [], _∷_}
 use mathlib.Core.Path.{refl, _≡_}
-use mir.Syntax.{w16, w32}
+use mir.Syntax.{w32}
 use mir.Val.{SFits}
 use native.Mathlib.Nat.{mul-suc}
 use native.Mathlib.Omega.{arith}
 use Prim.Native.Nat.{_%_, _*_, _+_, _/_, _<_, _^_, suc, suc-le-suc, zero, zero-le, ℕ, _≤_}
 use Rattle.decoding.proofs.Integers.{abs-add, abs-neg, mag-abs}
 use Rattle.decoding.specs.Backward.{best}
-use Rattle.decoding.specs.Metric.{limit, metricOf}
+use Rattle.decoding.specs.Metric.{metricOf}
+use Rattle.decoding.specs.Stepping.{gainLimit}
 use Rattle.decoding.specs.Taking.{added, atState, preferred, signed, taking, takingAlso}
 use Rattle.trellises.specs.declared.Section.{Section}
 use Rattle.trellises.specs.Numbers.{bitOf, leadsTo}
@@ -27,11 +28,8 @@ Within most ys = (i : ℕ) → i < length ys → natAbs (getD ys i (pos 0)) ≤ 
 pub within-rest : (most : ℕ) (y : ℤ) (ys : List ℤ) → Within most (y ∷ ys) → Within most ys
 within-rest most y ys h i k = h (suc i) (suc-le-suc k)
 
--- a sample within the limit fits its 16 bits, and a gain's 32
-pub sample-fits : {y : ℤ} → natAbs y ≤ limit → SFits w16 y
-sample-fits {y} h = record { sfits = omega (arith, mag-abs y) }
-
-pub gain-fits : {y : ℤ} → natAbs y ≤ limit → SFits w32 y
+-- a gain fits its 32 bits
+pub gain-fits : {y : ℤ} → natAbs y ≤ gainLimit → SFits w32 y
 gain-fits {y} h = record { sfits = omega (arith, mag-abs y) }
 
 -- the metric of a word lies within the limit times the number of samples

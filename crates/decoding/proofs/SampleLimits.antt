@@ -1,17 +1,22 @@
--- A sample is outside the limit exactly if it is above it or below its negation.
+-- A sample is outside the limit exactly if it is above it or below its negation, and samples are not refused exactly if all are within.
 use borrow.Author.Tests.{ltb-false, ltb-true}
 use lib.IntN.{natAbs, negsuc, pos, ℤ}
-use lib.ListN.{getD}
+use lib.ListN.{getD, length}
 use lib.Signed.{ltZ}
 use mathlib.Core.Bool.{false, false≢true, true}
 use mathlib.Core.List.{List}
 use mathlib.Core.Logic.{inl, inr, _⊎_}
-use mathlib.Core.Path.{subst, sym, _≡_}
+use mathlib.Core.Path.{refl, subst, sym, _≡_}
+use native.Mathlib.Decide.{decLe}
+use native.Mathlib.Nat.{le-refl}
 use native.Mathlib.Omega.{arith}
-use Prim.Native.Nat.{_+_, _<_, ℕ, _≤_}
+use Prim.Native.Nat.{_+_, _<_, suc, zero, ℕ, _≤_}
+use Rattle.decoding.proofs.MetricBounds.{Within}
+use Rattle.decoding.specs.Decode.{SampleOver}
 use Rattle.decoding.specs.Metric.{limit}
 use Rattle.decoding.specs.Searching.{IsOver}
-use Rattle.plates.specs.Counts.{before, here}
+use Rattle.plates.specs.declared.Refusal.{Refusal}
+use Rattle.plates.specs.declared.Refusal.the-variants.{SampleRange}
 use Rattle.words.proofs.Span.{lt-tri}
 
 pub over-high : (y : ℤ) → ltZ (pos limit) y ≡ true → limit < natAbs y
@@ -31,3 +36,19 @@ passed samples i before here j h = go (lt-tri j i)
     go (inl l) = before j l
     go (inr (inl e)) = subst (λ (x : ℕ). natAbs (getD samples x (pos 0)) ≤ limit) (sym e) here
     go (inr (inr l)) = absurd (omega arith)
+
+-- samples within the limit are not refused
+pub within-passes : (samples : List ℤ) → Within limit samples → (q : Refusal) → SampleOver samples q → ⊥
+within-passes samples h q o = omega (arith, o .over, h (o .position) (o .there))
+
+-- where no sample is over, all are within the limit
+pub none-over : (samples : List ℤ) → ((q : Refusal) → SampleOver samples q → ⊥) → Within limit samples
+none-over samples n i k = upto (length samples) (le-refl (length samples)) i k
+  where
+    here : (j : ℕ) → j < length samples → ((i : ℕ) → i < j → natAbs (getD samples i (pos 0)) ≤ limit) → Dec (natAbs (getD samples j (pos 0)) ≤ limit) → natAbs (getD samples j (pos 0)) ≤ limit
+    here j h before (yes l) = l
+    here j h before (no l) = absurd (n (SampleRange j) (record { position = j; there = h; over = omega (arith, l); first = before; is = refl }))
+
+    upto : (j : ℕ) → j ≤ length samples → (i : ℕ) → i < j → natAbs (getD samples i (pos 0)) ≤ limit
+    upto zero h i k = absurd (omega arith)
+    upto (suc j) h i k = passed samples j (upto j (omega arith)) (here j h (upto j (omega arith)) (decLe (natAbs (getD samples j (pos 0))) limit)) i (omega arith)

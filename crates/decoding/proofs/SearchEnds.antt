@@ -4,18 +4,35 @@ use lib.ListN.{getD, length, take}
 use lib.Pow.{pow-pos}
 use mathlib.Core.List.{List}
 use mathlib.Core.Logic.{inl, inr, _⊎_}
-use mathlib.Core.Path.{ap, _∙_, _≡_}
+use lib.Seq.{set-out}
+use mathlib.Core.Path.{ap, subst, sym, _∙_, _≡_}
 use native.Mathlib.Omega.{arith}
 use Prim.Native.Nat.{_+_, _<_, zero-le, ℕ, _≤_}
-use Rattle.decoding.specs.Backward.{wordFrom}
+use Rattle.decoding.specs.Backward.{best, wordFrom}
 use Rattle.decoding.specs.declared.Answer.{Answer}
+use Rattle.decoding.specs.declared.sweep.Forced.{Forced}
 use Rattle.decoding.specs.declared.sweep.Sizes.{Sizes}
 use Rattle.decoding.specs.LiveRows.{EndsAre}
 use Rattle.decoding.specs.Searching.{Searched}
-use Rattle.decoding.specs.Sweeping.{RoomsFit, SectionSwept, SizesFit, WalkFits}
+use Rattle.decoding.specs.Sweeping.{RoomsFit, SectionSwept, SizesFit, WalkFits, forcedTo}
 use Rattle.decoding.specs.declared.sweep.Standing.{Standing}
 use Rattle.trellises.specs.SectionOf.{sectionOf}
 use Rattle.trellises.specs.States.{table}
+
+-- where nothing is forced the gains are the samples
+abbrev unforced : Sizes → Forced
+unforced z = record { position = z .n; gain = pos 0 }
+
+none-forced : (z : Sizes) (samples : List ℤ) → length samples ≡ z .n → forcedTo samples (unforced z) ≡ samples
+none-forced z samples size = set-out samples (z .n) (pos 0) (omega (arith, size))
+
+pub rooms-unforced : {z : Sizes} {samples metrics : List ℤ} {decisions : List ℕ} → RoomsFit z samples metrics decisions → RoomsFit z (forcedTo samples (unforced z)) metrics decisions
+rooms-unforced {z} {samples} {metrics} {decisions} r = subst (λ (ys : List ℤ). RoomsFit z ys metrics decisions) (sym (none-forced z samples (r .size))) r
+
+pub swept-unforced : {table : List ℕ} {z : Sizes} {samples metrics metrics′ : List ℤ} {decisions decisions′ : List ℕ} {s : Standing} → RoomsFit z samples metrics decisions
+    → SectionSwept table z (forcedTo samples (unforced z)) 0 metrics decisions metrics′ decisions′ s → SectionSwept table z samples 0 metrics decisions metrics′ decisions′ s
+swept-unforced {table} {z} {samples} {metrics} {metrics′} {decisions} {decisions′} {s} r w =
+    subst (λ (ys : List ℤ). SectionSwept table z ys 0 metrics decisions metrics′ decisions′ s) (none-forced z samples (r .size)) w
 
 module _ (table : List ℕ) (z : Sizes) (samples metrics : List ℤ) (decisions : List ℕ) (fit : SizesFit table z) (rooms : RoomsFit z samples metrics decisions)
     (ends : List ℕ) (ends-are : EndsAre (take (z .k) table) ends) (metrics′ : List ℤ) (decisions′ : List ℕ) (s : Standing)
@@ -40,13 +57,16 @@ module _ (table : List ℕ) (z : Sizes) (samples metrics : List ℤ) (decisions 
   metric-there =
       omega (arith, first-side (w .swept .side), rooms .metric-room, w .kept .metrics-size, fit .half-room 0 zero-le, pow-pos ((sectionOf (take (z .k) table) 0) .live))
 
+  pub metric-is : getD metrics′ (s .from) (pos 0) ≡ best (sectionOf (take (z .k) table)) samples 0 0
+  metric-is =
+      let o : s .from ≡ s .from + 0 = omega arith in
+      ap (λ (i : ℕ). getD metrics′ i (pos 0)) o ∙ w .swept .metric 0 (pow-pos ((sectionOf (take (z .k) table) 0) .live))
+
   pub searched : (a : Answer) → a .word ≡ wordFrom (sectionOf (take (z .k) table)) samples 0 0 → a .metric ≡ getD metrics′ (s .from) (pos 0) → a .counts ≡ s .counts
       → Searched table z samples metrics decisions metrics′ decisions′ a
   searched a e m k = record {
     word = e;
-    metric =
-        let o : s .from ≡ s .from + 0 = omega arith in
-        m ∙ ap (λ (i : ℕ). getD metrics′ i (pos 0)) o ∙ w .swept .metric 0 (pow-pos ((sectionOf (take (z .k) table) 0) .live));
+    metric = m ∙ metric-is;
     counts = k ∙ w .swept .counts;
     kept = w .kept;
   }

@@ -17,8 +17,7 @@ use Rattle.decoding.specs.declared.Counts.{Counts}
 use Rattle.decoding.specs.declared.sweep.Sizes.{Sizes}
 use Rattle.decoding.specs.declared.sweep.Standing.{Standing}
 use Rattle.decoding.specs.LiveRows.{liveMarks}
-use Rattle.decoding.specs.Metric.{limit}
-use Rattle.decoding.specs.Stepping.{StepFits, Stepped, olds}
+use Rattle.decoding.specs.Stepping.{StepFits, Stepped, gainLimit, olds}
 use Rattle.decoding.specs.Sweeping.{RoomsFit, SectionSwept, SizesFit, Swept}
 use Rattle.decoding.specs.Taking.{Taken, atState, counting}
 use Rattle.trellises.specs.declared.Section.{Section}
@@ -77,8 +76,8 @@ module _ (table : List ℕ) (z : Sizes) (samples metrics : List ℤ) (decisions 
   behind-size : length (drop (suc t) samples) ≤ 64
   behind-size = omega (arith, length-drop (suc t) samples, rooms .size, fit .short)
 
-  behind-within : (i : ℕ) → i < length (drop (suc t) samples) → natAbs (getD (drop (suc t) samples) i (pos 0)) ≤ limit
-  behind-within i k = subst (λ (x : ℤ). natAbs x ≤ limit) (sym (getD-drop (suc t) samples i (pos 0))) (rooms .within (suc t + i) (omega (arith, length-drop (suc t) samples)))
+  behind-within : (i : ℕ) → i < length (drop (suc t) samples) → natAbs (getD (drop (suc t) samples) i (pos 0)) ≤ gainLimit
+  behind-within i k = subst (λ (x : ℤ). natAbs x ≤ gainLimit) (sym (getD-drop (suc t) samples i (pos 0))) (rooms .within (suc t + i) (omega (arith, length-drop (suc t) samples)))
 
   apart : (s .from ≡ 0) ⊎ (s .from ≡ z .half) → (s .from + 2 ^ (sectionOf (take (z .k) table) (suc t)) .live ≤ z .half - s .from) ⊎ (z .half - s .from + 2 ^ (sectionOf (take (z .k) table) t) .live ≤ s .from)
   apart (inl e) = inl (omega (arith, e, fit .half-room (suc t) h))
@@ -104,7 +103,7 @@ module _ (table : List ℕ) (z : Sizes) (samples metrics : List ℤ) (decisions 
         old-room = omega (arith, from-room (w .side), fit .half-room (suc t) h, rooms .metric-room);
         new-room = omega (arith, fit .half-room t (omega arith), rooms .metric-room);
         gain = omega (arith, rooms .within t (omega (arith, rooms .size)));
-        small = λ i k. omega (arith, ap natAbs (w .metric i k), best-within sections limit behind behind-within (suc t) i, mul-le-mul-left limit behind-size);
+        small = λ i k. omega (arith, ap natAbs (w .metric i k), best-within sections gainLimit behind behind-within (suc t) i, mul-le-mul-left gainLimit behind-size);
         wanted = inr (omega (arith, part-size, fit .words-room t h));
         additions = small-counts .0;
         comparisons = small-counts .1;

@@ -16,3 +16,5 @@ pub mod Strips
 pub mod Tables
 pub mod Picking
 pub mod Halves
+pub mod Forcing
+pub mod Firmness

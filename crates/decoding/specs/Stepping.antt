@@ -12,6 +12,10 @@ use Rattle.trellises.specs.Numbers.{branchCount, leadsTo}
 use Rattle.decoding.specs.declared.Counts.{Counts}
 use Rattle.decoding.specs.Taking.{atState, counting}
 
+-- the gains with which a section may be taken
+abbrev pub gainLimit : ℕ
+gainLimit = 2 ^ 20
+
 -- the metrics of the next depth, which begin at `from`
 abbrev pub olds : List ℤ → ℕ → ℕ → ℤ
 olds metrics from i = getD metrics (from + i) (pos 0)
@@ -32,7 +36,7 @@ pub record StepFits (metrics : List ℤ) (from to : ℕ) (decisions : List ℕ) 
   pub apart : (from + next ≤ to) ⊎ (to + 2 ^ c .live ≤ from)
   pub old-room : from + next ≤ length metrics
   pub new-room : to + 2 ^ c .live ≤ length metrics
-  pub gain : natAbs y ≤ 2 ^ 20
+  pub gain : natAbs y ≤ gainLimit
   pub small : (i : ℕ) → i < next → natAbs (olds metrics from i) ≤ 2 ^ 27
   pub wanted : (length decisions ≡ 0) ⊎ (2 ^ c .live ≤ length decisions * 64)
   pub additions : k .additions ≤ 2 ^ 40

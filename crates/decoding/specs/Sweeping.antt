@@ -1,19 +1,19 @@
 -- The sweep from the far end to the start, and the walk back: what holds at each depth on the way.
 use Prim.Native.Nat.{ℕ, suc, _+_, _*_, _/_, _%_, _^_, _≤_, _<_}
 use lib.IntN.{ℤ, pos, natAbs}
-use lib.ListN.{length, getD, take, drop}
+use lib.ListN.{length, getD, set, take, drop}
 use mathlib.Core.List.{List}
 use mathlib.Core.Logic.{_⊎_}
 use mathlib.Core.Path.{_≡_}
 use Rattle.words.specs.Word.{bit}
 use Rattle.trellises.specs.SectionOf.{sectionOf}
+use Rattle.decoding.specs.declared.sweep.Forced.{Forced}
 use Rattle.decoding.specs.declared.sweep.Sizes.{Sizes}
 use Rattle.decoding.specs.declared.sweep.Standing.{Standing}
 use Rattle.decoding.specs.declared.walk.Walk.{Walk}
 use Rattle.decoding.specs.Backward.{Chain, best, counted, decided, wordFrom}
 use Rattle.decoding.specs.LiveRows.{EndsAre, PlateRows, Taken, begunBefore, liveMarks}
-use Rattle.decoding.specs.Metric.{limit}
-use Rattle.decoding.specs.Stepping.{olds}
+use Rattle.decoding.specs.Stepping.{gainLimit, olds}
 
 -- the sizes of a decode fit its rows: half the metric room has a place for each state, and a section's decision words a bit for each
 pub record SizesFit (table : List ℕ) (z : Sizes) : Type 0 where
@@ -27,10 +27,14 @@ pub record SizesFit (table : List ℕ) (z : Sizes) : Type 0 where
   pub end-state : (sectionOf (take (z .k) table) (z .n)) .live ≡ 0
   pub end-live : liveMarks (take (z .k) table) (z .n) ≡ 0
 
--- the samples are n, each within the limit, and the rooms are long enough
+-- the gains with which the sections are taken: the samples, but at the forced position its own gain; beyond the samples nothing is forced
+abbrev pub forcedTo : List ℤ → Forced → List ℤ
+forcedTo samples f = set samples (f .position) (f .gain)
+
+-- the gains are n, each within what a step takes, and the rooms are long enough
 pub record RoomsFit (z : Sizes) (samples metrics : List ℤ) (decisions : List ℕ) : Type 0 where
   pub size : length samples ≡ z .n
-  pub within : (i : ℕ) → i < length samples → natAbs (getD samples i (pos 0)) ≤ limit
+  pub within : (i : ℕ) → i < length samples → natAbs (getD samples i (pos 0)) ≤ gainLimit
   pub metric-room : z .half + z .half ≤ length metrics
   pub decision-room : z .n * z .words ≤ length decisions
 

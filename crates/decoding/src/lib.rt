@@ -10,6 +10,7 @@ ghost use Rattle.decoding.specs.Decode.{Decodes};
 
 mod blocks;
 mod choices;
+pub mod firmness;
 mod live;
 mod patterns;
 mod rooms;

@@ -1,6 +1,7 @@
 // The best codeword of a plate, before the rooms are put to zero.
 use crate::Answer;
 use crate::live::ending_rows;
+use crate::sweep::Forced;
 use crate::sweep::Sizes;
 use crate::sweep::sweep;
 use crate::walk::read_off;
@@ -19,7 +20,19 @@ pub fn search(
     ensures { λ r. ⌜ Searched (now (rows .entry)) sizes (now (samples .entry)) (now (metrics .entry)) (now (decisions .entry)) (now (metrics .exit)) (now (decisions .exit)) r ⌝ }
 {
     let ends = ending_rows(rows, sizes.k);
-    let at = sweep(rows, sizes, &ends, samples, &mut *metrics, &mut *decisions);
+    let none = Forced {
+        position: sizes.n,
+        gain: 0,
+    };
+    let at = sweep(
+        rows,
+        sizes,
+        &ends,
+        samples,
+        none,
+        &mut *metrics,
+        &mut *decisions,
+    );
     let word = read_off(rows, sizes, &ends, samples, &*decisions);
     let from = at.from;
     let metric = metrics[from];

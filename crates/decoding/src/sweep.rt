@@ -2,10 +2,12 @@
 use crate::Counts;
 use crate::live::pass_back;
 use crate::step::step;
+ghost use lib.IntN.{pos};
+ghost use lib.ListN.{getD, length, take};
 ghost use mathlib.Core.Path.{_≡_};
-ghost use lib.ListN.{take};
+ghost use Prim.Native.Nat.{_<_};
 ghost use Rattle.decoding.specs.LiveRows.{EndsAre};
-ghost use Rattle.decoding.specs.Sweeping.{BeforeSection, RoomsFit, SectionSwept, SizesFit};
+ghost use Rattle.decoding.specs.Sweeping.{BeforeSection, RoomsFit, SectionSwept, SizesFit, forcedTo};
 
 // How large a decode is: positions, rows, metrics in each half of the room, and decision words a section.
 pub struct Sizes {
@@ -22,11 +24,28 @@ pub struct Standing {
     pub counts: Counts,
 }
 
+// A position that is taken with a gain of its own in the place of its sample; a position beyond the samples forces nothing.
+pub struct Forced {
+    pub position: usize,
+    pub gain: i32,
+}
+
 // A sample as a gain.
-fn gain(sample: i16) -> i32
+pub fn gain(sample: i16) -> i32
     ensures { λ r. ⌜ r ≡ sample ⌝ }
 {
     sample as i32
+}
+
+// The gain with which section t is taken.
+fn gain_at(samples: &[i16], forced: Forced, t: usize) -> i32
+    requires { ⌜ t < length (now samples) ⌝ }
+    ensures { λ r. ⌜ r ≡ getD (forcedTo (now (samples .entry)) forced) t (pos 0) ⌝ }
+{
+    if t == forced.position {
+        return forced.gain;
+    }
+    gain(samples[t])
 }
 
 // Section t: its step, from one half of the metric room to the other, with its own part of the decision words.
@@ -35,13 +54,14 @@ fn sweep_section(
     sizes: Sizes,
     ends: &[u8; 64],
     samples: &[i16],
+    forced: Forced,
     t: usize,
     metrics: &mut [i32],
     decisions: &mut [u64],
     at: Standing,
 ) -> Standing
-    requires { ⌜ BeforeSection (now rows) sizes (now ends) (now samples) t (now metrics) (now decisions) at ⌝ }
-    ensures { λ r. ⌜ SectionSwept (now (rows .entry)) sizes (now (samples .entry)) t (now (metrics .entry)) (now (decisions .entry)) (now (metrics .exit)) (now (decisions .exit)) r ⌝ }
+    requires { ⌜ BeforeSection (now rows) sizes (now ends) (forcedTo (now samples) forced) t (now metrics) (now decisions) at ⌝ }
+    ensures { λ r. ⌜ SectionSwept (now (rows .entry)) sizes (forcedTo (now (samples .entry)) forced) t (now (metrics .entry)) (now (decisions .entry)) (now (metrics .exit)) (now (decisions .exit)) r ⌝ }
 {
     let passed = pass_back(rows, sizes.k, ends, at.live, t);
     let to = sizes.half - at.from;
@@ -53,7 +73,7 @@ fn sweep_section(
         to,
         &mut decisions[begin..end],
         passed.section,
-        gain(samples[t]),
+        gain_at(samples, forced, t),
         at.counts,
     );
     Standing {
@@ -63,19 +83,20 @@ fn sweep_section(
     }
 }
 
-// All sections.
+// All sections, the forced one with its own gain.
 pub fn sweep(
     rows: &[u64; 64],
     sizes: Sizes,
     ends: &[u8; 64],
     samples: &[i16],
+    forced: Forced,
     metrics: &mut [i32],
     decisions: &mut [u64],
 ) -> Standing
     requires { ⌜ SizesFit (now rows) sizes ⌝ }
     requires { ⌜ EndsAre (take (sizes .k) (now rows)) (now ends) ⌝ }
-    requires { ⌜ RoomsFit sizes (now samples) (now metrics) (now decisions) ⌝ }
-    ensures { λ r. ⌜ SectionSwept (now (rows .entry)) sizes (now (samples .entry)) 0 (now (metrics .entry)) (now (decisions .entry)) (now (metrics .exit)) (now (decisions .exit)) r ⌝ }
+    requires { ⌜ RoomsFit sizes (forcedTo (now samples) forced) (now metrics) (now decisions) ⌝ }
+    ensures { λ r. ⌜ SectionSwept (now (rows .entry)) sizes (forcedTo (now (samples .entry)) forced) 0 (now (metrics .entry)) (now (decisions .entry)) (now (metrics .exit)) (now (decisions .exit)) r ⌝ }
 {
     metrics[0] = 0;
     let mut at = Standing {
@@ -94,6 +115,7 @@ pub fn sweep(
             sizes,
             ends,
             samples,
+            forced,
             t,
             &mut *metrics,
             &mut *decisions,

@@ -9,8 +9,11 @@ use Rattle.coding.specs.Coding.{Encodes, ReadsBack}
 use Rattle.coding.specs.declared.Encoded.{Encoded}
 use Rattle.coding.specs.declared.ReadBack.{ReadBack}
 use Rattle.decoding.proofs.DecodeDetermined.{decode-determined}
+use Rattle.decoding.proofs.FirmnessDetermined.{firmness-determined}
 use Rattle.decoding.specs.declared.Decoded.{Decoded}
+use Rattle.decoding.specs.declared.firmness.Judged.{Judged}
 use Rattle.decoding.specs.Decode.{Decodes}
+use Rattle.decoding.specs.Firmness.{Judges}
 use Rattle.listings.proofs.Determined.{write-end-determined, write-plate-determined, write-profile-determined, write-refused-determined, write-word-determined}
 use Rattle.listings.specs.declared.Written.{Written}
 use Rattle.listings.specs.Writing.{WritesEnd, WritesPlate, WritesProfile, WritesRefused, WritesWord}
@@ -99,6 +102,11 @@ read-back = read-back-determined
 pub decode : (plate : Plate) (samples metrics : List ℤ) (decisions : List ℕ) (r s : Decoded) (m n : List ℤ) (d e : List ℕ)
     → Decodes plate samples metrics decisions m d r → Decodes plate samples metrics decisions n e s → (r ≡ s) × (m ≡ n) × (d ≡ e)
 decode = decode-determined
+
+-- a position judged, with both rooms
+pub firmness : (plate : Plate) (samples : List ℤ) (position : ℕ) (metrics : List ℤ) (decisions : List ℕ) (r s : Judged) (m n : List ℤ) (d e : List ℕ)
+    → Judges plate samples position metrics decisions m d r → Judges plate samples position metrics decisions n e s → (r ≡ s) × (m ≡ n) × (d ≡ e)
+firmness = firmness-determined
 
 -- ---- listings
 

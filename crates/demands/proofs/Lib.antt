@@ -2,6 +2,7 @@ pub mod Demand1
 pub mod Demand2
 pub mod Demand3
 pub mod Determined
+pub mod Firmness
 pub mod Checking
 pub mod CodeWords
 pub mod PlatesChecked

@@ -6,10 +6,13 @@ use mathlib.Core.Path.{ap, ap₂, sym, _∙_, _≡_}
 use Prim.Native.Nat.{ℕ}
 use Rattle.coding.proofs.CodingDetermined.{encode-determined, read-back-determined}
 use Rattle.decoding.proofs.DecodeDetermined.{decode-determined}
+use Rattle.decoding.proofs.FirmnessDetermined.{firmness-determined}
 use Rattle.decoding.specs.declared.Decoded.{Decoded}
+use Rattle.decoding.specs.declared.firmness.Judged.{Judged}
 use Rattle.exports.specs.Calls.{Calls, Crossing, Replies, misshapen}
 use Rattle.exports.specs.Crossing.{DecodeCells, Decoding, Listing, ListingCells, Writing, listingCells}
 use Rattle.exports.specs.Flat.{plateOf}
+use Rattle.exports.specs.Judging.{CallsFirmness, FirmnessCells, Judging, JudgesTo}
 use Rattle.exports.specs.Promises.{CallsBranch, CallsDecode, CallsEncode, CallsListing, CallsPrepare, CallsReadBack, CallsWrite, CallsWriteEnd, CallsWritePlate, CallsWriteProfile, CallsWriteRefused, CallsWriteWord, DecodesTo, kindOf}
 use Rattle.listings.proofs.Determined.{write-end-determined, write-plate-determined, write-profile-determined, write-refused-determined, write-word-determined}
 use Rattle.listings.specs.declared.Written.{Written}
@@ -66,6 +69,16 @@ decode-call-determined words samples lent a b r s = calls-determined one
     one x y p q =
         let same = decode-determined (plateOf words) samples (lent .metrics) (lent .decisions) (x .reply) (y .reply) (x .metrics) (y .metrics) (x .decisions) (y .decisions) p q in
         ap₂ (λ (u : Decoded) (m : List ℤ). record { reply = u; metrics = m; decisions = x .decisions }) (same .0) (same .1)
+        ∙ ap (λ (d : List ℕ). record { reply = y .reply; metrics = y .metrics; decisions = d }) (same .2)
+
+pub firmness-call-determined : (words : List ℕ) (samples : List ℤ) (position : ℕ) (lent a b : FirmnessCells) (r s : ℕ) → CallsFirmness words samples position lent r a
+    → CallsFirmness words samples position lent s b → _≡_ {A = Crossing FirmnessCells} (record { code = r; cells = a }) (record { code = s; cells = b })
+firmness-call-determined words samples position lent a b r s = calls-determined one
+  where
+    one : (x y : Judging) → JudgesTo (plateOf words) samples position lent x → JudgesTo (plateOf words) samples position lent y → x ≡ y
+    one x y p q =
+        let same = firmness-determined (plateOf words) samples position (lent .metrics) (lent .decisions) (x .reply) (y .reply) (x .metrics) (y .metrics) (x .decisions) (y .decisions) p q in
+        ap₂ (λ (u : Judged) (m : List ℤ). record { reply = u; metrics = m; decisions = x .decisions }) (same .0) (same .1)
         ∙ ap (λ (d : List ℕ). record { reply = y .reply; metrics = y .metrics; decisions = d }) (same .2)
 
 module _ (room cell : List ℕ) (r s : ℕ) (a b c d : List ℕ) where

@@ -3,4 +3,6 @@ pub mod PlateStands
 pub mod PromisesCarried
 pub mod CallsMade
 pub mod DecodeCrossed
+pub mod FirmnessCrossed
+pub mod ReadingCells
 pub mod CallsDetermined

@@ -8,7 +8,9 @@ use Rattle.coding.specs.Coding.{Encodes, ReadsBack}
 use Rattle.coding.specs.declared.Encoded.{Encoded}
 use Rattle.coding.specs.declared.ReadBack.{ReadBack}
 use Rattle.decoding.specs.declared.Decoded.{Decoded}
+use Rattle.decoding.specs.declared.firmness.Judged.{Judged}
 use Rattle.decoding.specs.Decode.{Decodes}
+use Rattle.decoding.specs.Firmness.{Judges}
 use Rattle.exports.specs.Flat.{StandsFor, plateOf}
 use Rattle.listings.specs.declared.Written.{Written}
 use Rattle.listings.specs.Writing.{WritesAs, WritesOf, lineRoom}
@@ -21,6 +23,7 @@ use Rattle.trellises.specs.declared.Next.{Next}
 use Rattle.coding.specs.declared.Encoded.the-variants as E
 use Rattle.coding.specs.declared.ReadBack.the-variants as R
 use Rattle.decoding.specs.declared.Decoded.the-variants as D
+use Rattle.decoding.specs.declared.firmness.Judged.the-variants as J
 use Rattle.listings.specs.declared.Written.the-variants as W
 use Rattle.trellises.specs.declared.Next.the-variants as N
 
@@ -73,6 +76,15 @@ module _ {words : List ℕ} {plate : Plate} (stands : StandsFor words plate) whe
           → Decodes plate samples metrics decisions metrics′ decisions′ x → Decodes (plateOf words) samples metrics decisions metrics′ decisions′ x
       go (D.Found a) na nb h = absurd (never-passes na (h .0))
       go (D.Refused q) na nb h = (refuses-still na nb (h .0), h .1, h .2)
+
+  pub firmness-carried : (samples : List ℤ) (position : ℕ) (metrics metrics′ : List ℤ) (decisions decisions′ : List ℕ) (r : Judged)
+      → Judges plate samples position metrics decisions metrics′ decisions′ r → Judges (plateOf words) samples position metrics decisions metrics′ decisions′ r
+  firmness-carried samples position metrics metrics′ decisions decisions′ r = carried (λ (p : Plate). Judges p samples position metrics decisions metrics′ decisions′ r) (go r)
+    where
+      go : (x : Judged) → (IsPrepared plate → ⊥) → (IsPrepared (plateOf words) → ⊥)
+          → Judges plate samples position metrics decisions metrics′ decisions′ x → Judges (plateOf words) samples position metrics decisions metrics′ decisions′ x
+      go (J.Found flag) na nb h = absurd (never-passes na (h .0))
+      go (J.Refused q) na nb h = (refuses-still na nb (h .0), h .1, h .2)
 
   -- a line that is made from the plate
   pub write-carried : (line : Plate → List ℕ) (room room′ : List ℕ) (r : Written)

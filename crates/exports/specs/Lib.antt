@@ -2,3 +2,4 @@ pub mod Flat
 pub mod Calls
 pub mod Crossing
 pub mod Promises
+pub mod Judging

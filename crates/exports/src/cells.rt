@@ -4,8 +4,11 @@ ghost use Prim.Native.Nat.{_≤_};
 ghost use lib.ListN.{length};
 ghost use Rattle.exports.specs.Calls.{RefusedAt};
 ghost use Rattle.exports.specs.Crossing.{AnswerPut, LengthPut};
+ghost use Rattle.exports.specs.Judging.{FirmnessTested, FixedFits, ReadingPut};
 ghost use Rattle.exports.specs.Promises.{ShapeTested, kindOf};
 use decoding::Answer;
+use decoding::firmness::Flag;
+use decoding::firmness::Reading;
 use listings::Written;
 use plates::Kind;
 use plates::Refusal;
@@ -48,6 +51,22 @@ pub fn decode_shaped(plate: usize, word: usize, metric: usize, counts: usize, at
     1 <= at
 }
 
+// Whether the runs that are lent to firmness are long enough for their fixed use.
+pub fn firmness_shaped(plate: usize, fixed: usize, value: usize, at: usize) -> bool
+    ensures { λ r. ⌜ FirmnessTested plate fixed value at r ⌝ }
+{
+    if plate < 131 {
+        return false;
+    }
+    if fixed < 1 {
+        return false;
+    }
+    if value < 1 {
+        return false;
+    }
+    1 <= at
+}
+
 // The answer of decoding into its cells.
 pub fn put_answer(answer: Answer, word: &mut [u64], metric: &mut [i32], counts: &mut [u64])
     requires { ⌜ (1 ≤ length (now word)) × (1 ≤ length (now metric)) × (2 ≤ length (now counts)) ⌝ }
@@ -59,6 +78,25 @@ pub fn put_answer(answer: Answer, word: &mut [u64], metric: &mut [i32], counts: 
     metric[0] = best;
     counts[0] = counted.additions;
     counts[1] = counted.comparisons;
+}
+
+// A reading into its cells: 1 where it is fixed and 0 where it is open, and its bit or its margin.
+pub fn put_reading(flag: Flag, fixed: &mut [u64], value: &mut [i32])
+    requires { ⌜ (1 ≤ length (now fixed)) × (1 ≤ length (now value)) × FixedFits (flag .reading) ⌝ }
+    ensures { λ _. ⌜ ReadingPut (flag .reading) (now (fixed .entry)) (now (value .entry)) (now (fixed .exit)) (now (value .exit)) ⌝ }
+{
+    let reading = flag.reading;
+    match reading {
+        Reading::Fixed(bit) => {
+            let shown = bit as i32;
+            fixed[0] = 1;
+            value[0] = shown;
+        }
+        Reading::Open(margin) => {
+            fixed[0] = 0;
+            value[0] = margin;
+        }
+    }
 }
 
 // The length of a line that was written, in the first cell, or why it was refused.

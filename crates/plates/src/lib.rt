@@ -44,6 +44,7 @@ pub enum Refusal {
     Information,
     NoCodeword,
     InputTooLong,
+    PositionBeyond,
 }
 
 // What preparing says of a matrix.
@@ -78,6 +79,7 @@ pub fn refusal_number(refusal: Refusal) -> u64
         Refusal::Information => 13,
         Refusal::NoCodeword => 14,
         Refusal::InputTooLong => 15,
+        Refusal::PositionBeyond => 21,
     }
 }
 
@@ -101,6 +103,7 @@ pub fn refusal_place(refusal: Refusal) -> usize
         Refusal::Information => 0,
         Refusal::NoCodeword => 0,
         Refusal::InputTooLong => 0,
+        Refusal::PositionBeyond => 0,
     }
 }
 

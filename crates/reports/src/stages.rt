@@ -149,6 +149,7 @@ fn is_of_block(refusal: Refusal) -> bool
         Refusal::Information => false,
         Refusal::NoCodeword => false,
         Refusal::InputTooLong => false,
+        Refusal::PositionBeyond => false,
     }
 }
 

@@ -1,0 +1,181 @@
+// How firmly one position of a block was received.
+use crate::choices::sign_of;
+use crate::live::ending_rows;
+use crate::rooms::clear_decisions;
+use crate::rooms::clear_metrics;
+use crate::rooms::sizes_of;
+use crate::samples::first_over;
+use crate::sweep::Forced;
+use crate::sweep::Sizes;
+use crate::sweep::gain;
+use crate::sweep::sweep;
+use plates::Plate;
+use plates::Refusal;
+ghost use lib.ListN.{take};
+ghost use Prim.Native.Nat.{_<_, _≤_};
+ghost use Rattle.decoding.specs.Firmness.{Judges};
+ghost use Rattle.decoding.specs.Forcing.{BestForced, FirstWith, ReadAt};
+ghost use Rattle.decoding.specs.LiveRows.{EndsAre};
+ghost use Rattle.decoding.specs.Sweeping.{RoomsFit, SizesFit};
+
+// What forces a position: more than all other positions together can add or take.
+const FORCING: i32 = 262144;
+
+// A position's reading: the bit that every codeword has there, or the margin by which 0 scores more there than 1.
+pub enum Reading {
+    Fixed(u64),
+    Open(i32),
+}
+
+// A position, and its reading.
+pub struct Flag {
+    pub position: usize,
+    pub reading: Reading,
+}
+
+// The flag asked for, or why there is none.
+pub enum Judged {
+    Found(Flag),
+    Refused(Refusal),
+}
+
+// The first row with a one at a position; k where there is none.
+fn first_with(rows: &[u64; 64], k: usize, position: usize) -> usize
+    requires { ⌜ k ≤ 64 ⌝ }
+    ensures { λ r. ⌜ FirstWith (now (rows .entry)) k position r ⌝ }
+{
+    let mut j = 0;
+    while j < k {
+        if words::bit_at(rows[j], position) == 1 {
+            return j;
+        }
+        j += 1;
+    }
+    j
+}
+
+// The best metric among the codewords that have a bit at a position: the position is forced to the bit, and its own sample added.
+fn best_with(
+    rows: &[u64; 64],
+    sizes: Sizes,
+    ends: &[u8; 64],
+    samples: &[i16],
+    position: usize,
+    bit: u64,
+    metrics: &mut [i32],
+    decisions: &mut [u64],
+) -> i32
+    requires { ⌜ SizesFit (now rows) sizes ⌝ }
+    requires { ⌜ EndsAre (take (sizes .k) (now rows)) (now ends) ⌝ }
+    requires { ⌜ RoomsFit sizes (now samples) (now metrics) (now decisions) ⌝ }
+    requires { ⌜ position < sizes .n ⌝ }
+    ensures { λ r. ⌜ BestForced (now (rows .entry)) sizes (now (samples .entry)) position bit (now (metrics .entry)) (now (decisions .entry)) (now (metrics .exit)) (now (decisions .exit)) r ⌝ }
+{
+    let forced = Forced {
+        position,
+        gain: sign_of(bit, FORCING),
+    };
+    let own = sign_of(bit, gain(samples[position]));
+    let at = sweep(
+        rows,
+        sizes,
+        ends,
+        samples,
+        forced,
+        &mut *metrics,
+        &mut *decisions,
+    );
+    let from = at.from;
+    let best = metrics[from];
+    (best - FORCING) + own
+}
+
+// The reading of a position, before the rooms are put to zero.
+fn reading_at(
+    rows: &[u64; 64],
+    sizes: Sizes,
+    samples: &[i16],
+    position: usize,
+    metrics: &mut [i32],
+    decisions: &mut [u64],
+) -> Reading
+    requires { ⌜ SizesFit (now rows) sizes ⌝ }
+    requires { ⌜ RoomsFit sizes (now samples) (now metrics) (now decisions) ⌝ }
+    requires { ⌜ position < sizes .n ⌝ }
+    ensures { λ r. ⌜ ReadAt (now (rows .entry)) sizes (now (samples .entry)) position (now (metrics .entry)) (now (decisions .entry)) (now (metrics .exit)) (now (decisions .exit)) r ⌝ }
+{
+    let row = first_with(rows, sizes.k, position);
+    if sizes.k <= row {
+        return Reading::Fixed(0);
+    }
+    let ends = ending_rows(rows, sizes.k);
+    let zero = best_with(
+        rows,
+        sizes,
+        &ends,
+        samples,
+        position,
+        0,
+        &mut *metrics,
+        &mut *decisions,
+    );
+    let one = best_with(
+        rows,
+        sizes,
+        &ends,
+        samples,
+        position,
+        1,
+        &mut *metrics,
+        &mut *decisions,
+    );
+    let margin = zero - one;
+    Reading::Open(margin)
+}
+
+// How firmly a position was received: its bit where every codeword has the same there, else the best metric among the codewords with 0
+// there minus the best among those with 1.
+pub fn firmness(
+    plate: Plate,
+    samples: &[i16],
+    position: usize,
+    metrics: &mut [i32],
+    decisions: &mut [u64],
+) -> Judged
+    ensures { λ r. ⌜ Judges plate (now (samples .entry)) position (now (metrics .entry)) (now (decisions .entry)) (now (metrics .exit)) (now (decisions .exit)) r ⌝ }
+{
+    if !plates::is_prepared(plate) {
+        return Judged::Refused(Refusal::NotPrepared);
+    }
+    let n = plate.n;
+    if samples.len() != n {
+        return Judged::Refused(Refusal::SampleCount);
+    }
+    let over = first_over(samples);
+    if over < n {
+        return Judged::Refused(Refusal::SampleRange(over));
+    }
+    if n <= position {
+        return Judged::Refused(Refusal::PositionBeyond);
+    }
+    let sizes = sizes_of(n, plate.k, &plate.profile);
+    let metric_need = sizes.half + sizes.half;
+    if metrics.len() < metric_need {
+        return Judged::Refused(Refusal::MetricRoom);
+    }
+    let decision_need = n * sizes.words;
+    if decisions.len() < decision_need {
+        return Judged::Refused(Refusal::DecisionRoom);
+    }
+    let reading = reading_at(
+        &plate.rows,
+        sizes,
+        samples,
+        position,
+        &mut *metrics,
+        &mut *decisions,
+    );
+    clear_metrics(&mut *metrics, metric_need);
+    clear_decisions(&mut *decisions, decision_need);
+    Judged::Found(Flag { position, reading })
+}
