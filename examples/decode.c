@@ -8,7 +8,7 @@
 /* Four rows of a generator. Position 0 is the lowest bit, so the row 11110000 on paper is 0x0f. */
 static const uint64_t rows[4] = {0x0f, 0x5a, 0x3c, 0xf0};
 
-/* One sample a position: positive favours 0, negative favours 1, and -127 to 127 is permitted. */
+/* One sample a position: positive favours 0, negative favours 1, and -2047 to 2047 is permitted. */
 static const int16_t samples[8] = {-3, -2, 4, -1, 5, 6, -1, 7};
 
 /* The library has no memory of its own: the plate and the working rooms are ours. These rooms are

@@ -30,7 +30,7 @@ extern "C" {
 #define YENDRUFAL_TOO_WIDE 4        /* some profile entry exceeds 12 */
 #define YENDRUFAL_NO_PLATE 5        /* the plate is not one that preparing gives */
 #define YENDRUFAL_SAMPLE_COUNT 6    /* the number of samples is not n */
-#define YENDRUFAL_SAMPLE_RANGE 7    /* a sample outside -127 to 127; place: the first such position */
+#define YENDRUFAL_SAMPLE_RANGE 7    /* a sample outside -2047 to 2047; place: the first such position */
 #define YENDRUFAL_METRIC_ROOM 8     /* metric room too short */
 #define YENDRUFAL_DECISION_ROOM 9   /* decision room too short */
 #define YENDRUFAL_SHEET_LINE 10     /* sheet line not of its form (in a listing only) */
@@ -96,7 +96,7 @@ uint64_t yendrufal_decode(const uint64_t *plate, size_t plate_length, const int1
 
 /* How firmly a position was received. Where every codeword has the same bit there, `fixed` receives 1
    and `value` that bit; else `fixed` receives 0 and `value` the margin: the best metric among the
-   codewords with 0 there minus the best among those with 1, within 16,256 either way. Positive means
+   codewords with 0 there minus the best among those with 1, within 262,016 either way. Positive means
    that decoding gives 0 there, negative 1; zero decides nothing. Both rooms are left as by decoding.
    Refusals 5, 6, 7, 21, 8, 9, in this order. Fixed: plate 131, fixed 1, value 1, place 1. */
 uint64_t yendrufal_firmness(const uint64_t *plate, size_t plate_length, const int16_t *samples,

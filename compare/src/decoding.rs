@@ -124,7 +124,7 @@ pub fn bad_samples(plate: &Plate, samples: &[i16]) -> Result<(), Refusal> {
     if samples.len() != plate.n {
         return refuse(6, 0);
     }
-    if let Some(place) = samples.iter().position(|&y| !(-127..=127).contains(&y)) {
+    if let Some(place) = samples.iter().position(|&y| !(-2047..=2047).contains(&y)) {
         return refuse(7, place);
     }
     Ok(())

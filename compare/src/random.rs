@@ -119,10 +119,10 @@ pub fn samples(random: &mut Random, n: usize) -> Vec<i16> {
     let temper = random.below(5);
     let mut one = |_| match temper {
         0 => random.pick(&[-1, 0, 1]),
-        1 => random.pick(&[-127, 127]),
+        1 => random.pick(&[-2047, 2047]),
         2 => random.pick(&[0, 0, 0, 5, -5]),
         3 => random.pick(&[-2, -1, 1, 2]),
-        _ => random.below(255) as i16 - 127,
+        _ => random.below(4095) as i16 - 2047,
     };
     (0..n).map(&mut one).collect()
 }

@@ -34,7 +34,7 @@ fn working_rooms(comparison: &mut Comparison, random: &mut Random, plate: &Plate
 fn bad_samples(comparison: &mut Comparison, random: &mut Random, plate: &Plate) {
     let flat = plate.flat();
     let (metrics, decisions) = (plate.metrics_needed(), plate.decisions_needed());
-    for value in [127, -127, 128, -128, 129, 255, 256, -256, i16::MAX, i16::MIN] {
+    for value in [2047, -2047, 2048, -2048, 2049, 4095, 4096, -4096, i16::MAX, i16::MIN] {
         let mut block = samples(random, plate.n);
         let place = random.below(plate.n);
         block[place] = value;
@@ -56,7 +56,7 @@ fn bad_samples(comparison: &mut Comparison, random: &mut Random, plate: &Plate) 
 fn plain_samples(comparison: &mut Comparison, plate: &Plate) {
     let flat = plate.flat();
     for count in [0, plate.n - 1, plate.n, plate.n + 1, 65, 200] {
-        for value in [127, -127, 0, 1, -1] {
+        for value in [2047, -2047, 0, 1, -1] {
             let (metrics, decisions) = (plate.metrics_needed(), plate.decisions_needed());
             comparison.agree(asked::decode(&flat, &vec![value; count], metrics, decisions, FIXED));
         }
@@ -73,7 +73,7 @@ fn positions(comparison: &mut Comparison, random: &mut Random, plate: &Plate) {
         comparison.agree(asked::firmness(&flat, &block, position, metrics - 1, decisions, FIXED));
         comparison.agree(asked::firmness(&flat, &block, position, metrics, decisions - 1, FIXED));
     }
-    for value in [127, -127, 0] {
+    for value in [2047, -2047, 0] {
         let block = vec![value; plate.n];
         comparison.agree(asked::firmness(&flat, &block, n / 2, metrics, decisions, FIXED));
     }

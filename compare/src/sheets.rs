@@ -90,7 +90,7 @@ fn sheet(random: &mut Random) -> Vec<u8> {
         let count = if random.one_in(6) { random.below(70) } else { n };
         let mut block = samples(random, count);
         if random.one_in(5) && count > 0 {
-            block[random.below(count)] = random.pick(&[128, -128, 999, -9999]);
+            block[random.below(count)] = random.pick(&[2048, -2048, 2999, -9999]);
         }
         let fields: String = block.iter().map(|y| format!("\t{y}")).collect();
         text += &format!("block{fields}\n");

@@ -109,7 +109,7 @@ impl Checked<'_> {
         for (position, metrics, reply) in [(7, 16, 0), (8, 15, 21), (7, 15, 8)] {
             self.expect(asked::firmness(&plate, &SAMPLES, position, metrics, 8, FIXED), reply, None);
         }
-        for (sample, reply) in [(127, 0), (-127, 0), (128, 7), (-128, 7)] {
+        for (sample, reply) in [(2047, 0), (-2047, 0), (2048, 7), (-2048, 7)] {
             let mut samples = SAMPLES;
             samples[5] = sample;
             let place = if reply == 7 { 5 } else { 0 };

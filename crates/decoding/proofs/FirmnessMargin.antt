@@ -94,11 +94,11 @@ margin-size plate samples position m h o =
       metric-within limit samples h (o .one-best .word),
     )
 
--- the bound on margins: 16,256
+-- the bound on margins: 262,016
 abbrev pub marginLimit : ℕ
 marginLimit = 2 * (limit * 64)
 
-pub margin-limit-is : marginLimit ≡ 16256
+pub margin-limit-is : marginLimit ≡ 262016
 margin-limit-is = refl
 
 -- a margin that is replied lies within it

@@ -23,9 +23,9 @@ pub over-high : (y : ℤ) → ltZ (pos limit) y ≡ true → limit < natAbs y
 over-high (pos a) e = ltb-true limit a e
 over-high (negsuc a) e = absurd (false≢true e)
 
-pub over-low : (y : ℤ) → ltZ (pos limit) y ≡ false → IsOver y (ltZ y (negsuc 126))
+pub over-low : (y : ℤ) → ltZ (pos limit) y ≡ false → IsOver y (ltZ y (negsuc 2046))
 over-low (pos a) e = record { yes-is = λ f. absurd (false≢true f); no-is = λ f. ltb-false limit a e }
-over-low (negsuc a) e = record { yes-is = λ f. omega (arith, ltb-true 126 a f); no-is = λ f. omega (arith, ltb-false 126 a f) }
+over-low (negsuc a) e = record { yes-is = λ f. omega (arith, ltb-true 2046 a f); no-is = λ f. omega (arith, ltb-false 2046 a f) }
 
 -- one more sample within the limit
 pub passed : (samples : List ℤ) (i : ℕ) → ((j : ℕ) → j < i → natAbs (getD samples j (pos 0)) ≤ limit) → natAbs (getD samples i (pos 0)) ≤ limit

@@ -4,9 +4,9 @@ use lib.IntN.{ℤ, pos, _+ℤ_}
 use mathlib.Core.List.{List, [], _∷_}
 use Rattle.decoding.specs.Taking.{signed}
 
--- the samples permitted are from -127 to 127
+-- the samples permitted are from -2047 to 2047
 abbrev pub limit : ℕ
-limit = 127
+limit = 2047
 
 -- the sample added where the word's bit is 0 and subtracted where it is 1, over all positions
 abbrev pub metricOf : List ℤ → ℕ → ℤ

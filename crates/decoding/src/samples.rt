@@ -2,7 +2,7 @@
 ghost use Rattle.decoding.specs.Searching.{FirstOver, IsOver};
 
 // The greatest sample that is permitted; the least is its negation.
-const LIMIT: i16 = 127;
+const LIMIT: i16 = 2047;
 
 // Whether a sample is outside the limit.
 fn is_over(sample: i16) -> bool

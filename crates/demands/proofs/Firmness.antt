@@ -1,5 +1,5 @@
 -- How firm one flag is (document 02, A3): `firmness` refuses exactly under 5, 6, 7, 21, 8 and 9 in this order and changes nothing then; its
--- reply carries the position; its reading agrees with decoding; its margin lies within 16,256 either way; both rooms are left as by decoding.
+-- reply carries the position; its reading agrees with decoding; its margin lies within 262,016 either way; both rooms are left as by decoding.
 use lib.IntN.{natAbs, pos, ℤ}
 use lib.ListN.{drop, getD, length, replicate}
 use mathlib.Core.Bool.{false}
@@ -86,8 +86,8 @@ module _ (plate : Plate) (samples : List ℤ) (position : ℕ) (metrics : List �
     firmness-agrees f e a m d x =
         margin-sign plate samples position a (x .1) f (subst (Judges plate samples position metrics decisions metrics′ decisions′) e p .1)
 
-    -- an open margin lies within 16,256 either way
-    pub firmness-margin : (f : Flag) → r ≡ Found f → isFixed (f .reading) ≡ false → natAbs (value (f .reading)) ≤ 16256
+    -- an open margin lies within 262,016 either way
+    pub firmness-margin : (f : Flag) → r ≡ Found f → isFixed (f .reading) ≡ false → natAbs (value (f .reading)) ≤ 262016
     firmness-margin f e o =
         margin-bounds plate samples position metrics decisions metrics′ decisions′ f (subst (Judges plate samples position metrics decisions metrics′ decisions′) e p) o
 

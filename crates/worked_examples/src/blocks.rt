@@ -71,8 +71,8 @@ fn with_sample(asked: &[u8], sample: i16) {
 
 // Samples at the limits, and one beyond.
 pub fn ranges() {
-    with_sample(b"a sample of 127", 127);
-    with_sample(b"a sample of -127", -127);
-    with_sample(b"a sample of 128", 128);
-    with_sample(b"a sample of -128", -128);
+    with_sample(b"a sample of 2047", 2047);
+    with_sample(b"a sample of -2047", -2047);
+    with_sample(b"a sample of 2048", 2048);
+    with_sample(b"a sample of -2048", -2048);
 }

@@ -11,7 +11,7 @@ use Rattle.decoding.proofs.samples.is_over.Tie as tie
 
 returns : tie.Need-returns
 returns c =
-    let e : ltZ (pos 127) (c .before .args .sample) ≡ true = rw (toZ-ofZ (c .before .fits .sample)) at (c .if1 .taken) in
+    let e : ltZ (pos 2047) (c .before .args .sample) ≡ true = rw (toZ-ofZ (c .before .fits .sample)) at (c .if1 .taken) in
     record { yes-is = λ f. over-high (c .before .args .sample) e; no-is = λ f. absurd (true≢false f) }
 
 sub-result : tie.Need-sub-result
@@ -19,7 +19,7 @@ sub-result c = record { sfits = omega arith }
 
 returns-2 : tie.Need-returns-2
 returns-2 c =
-    let e : ltZ (pos 127) (c .before .args .sample) ≡ false = rw (toZ-ofZ (c .before .fits .sample)) at (c .if1 .left) in
+    let e : ltZ (pos 2047) (c .before .args .sample) ≡ false = rw (toZ-ofZ (c .before .fits .sample)) at (c .if1 .left) in
     rw (toZ-ofZ (c .before .fits .sample)) (over-low (c .before .args .sample) e)
 
 pub is-over-spec : {M : Type 1} → statement M
