@@ -29,6 +29,7 @@ pub mod PlateRowsOf
 pub mod EndsFound
 pub mod PassedRows
 pub mod MarkCounts
+pub mod PassedBack
 pub mod TakenRows
 pub mod WalkSection
 pub mod WalkEnds

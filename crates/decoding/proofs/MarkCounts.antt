@@ -1,19 +1,19 @@
 -- How many rows are live, and where a section's branches lead, by the rows' marks.
-use borrow.Author.Tests.{le-leb, le-ltb, ltb-false}
+use borrow.Author.Tests.{le-leb, le-ltb, lt-ltb, ltb-false}
 use lib.Count.{ones, ones-le, ones-step}
 use lib.Dec.{leb, ltb}
 use lib.ListN.{getD, length}
 use lib.Pow.{pow-pos}
 use mathlib.Core.Bool.{Bool, cond, false, true}
 use mathlib.Core.List.{List, [], _∷_}
-use mathlib.Core.Path.{ap, ap₂, refl, subst, sym, _∙_, _≡_}
+use mathlib.Core.Path.{ap, ap₂, refl, sym, _∙_, _≡_}
 use native.Mathlib.Nat.{mod-lt}
 use native.Mathlib.Numerals.{one-add}
 use native.Mathlib.Omega.{arith}
 use Prim.Native.Nat.{_%_, _*_, _+_, _-_, _/_, _<_, _^_, suc, suc-le-suc, zero, zero-le, ℕ, _≤_}
 use Rattle.decoding.proofs.LiveMarks.{in-order}
 use Rattle.decoding.proofs.PassedRows.{mark-is}
-use Rattle.decoding.specs.LiveRows.{EndsAre, activeMarks, isLive, leadsBy, liveMarks, marks}
+use Rattle.decoding.specs.LiveRows.{EndsAre, activeMarks, endingBy, isLive, leadsBy, liveMarks, marks}
 use Rattle.trellises.proofs.Digits.{mod-digit}
 use Rattle.trellises.proofs.OneMoreRow.{LastsApart, active-ends, apart-rest, taking, with-row}
 use Rattle.trellises.proofs.SectionAgrees.{live-count}
@@ -106,24 +106,46 @@ module _ (t : ℕ) where
           absurd (omega (arith, h 0 (suc j) (suc-le-suc zero-le) l (omega (arith, e, ltb-false t (last row) q, active-ends t row p))))
 
 module _ (rows : List ℕ) (s : Spans rows (firsts rows) (lasts rows)) (ends : List ℕ) (t : ℕ) (a : EndsAre rows ends) (h : t < 64) where
-  pub leads-by : (x : ℕ) → leadsBy (activeMarks rows t) (getD ends t 0) x ≡ leadsTo (sectionOf rows t) x
-  leads-by x = go (getD ends t 0) refl
+  -- whether a row ends, and the digit that is lost
+  pub ending-by : (ltb 0 (getD ends t 0) ≡ sectionOf rows t .ends) × (endingBy (activeMarks rows t) (getD ends t 0) ≡ sectionOf rows t .ending)
+  ending-by = go (getD ends t 0) refl
     where
-      go : (n : ℕ) → getD ends t 0 ≡ n → leadsBy (activeMarks rows t) n x ≡ leadsTo (sectionOf rows t) x
-      go zero q = sym (ap (λ (b : Bool). cond b (without (sectionOf rows t .ending) x) x) (none-ending t rows (a .none t h q) .0))
+      go : (n : ℕ) → getD ends t 0 ≡ n → (ltb 0 n ≡ sectionOf rows t .ends) × (endingBy (activeMarks rows t) n ≡ sectionOf rows t .ending)
+      go zero q = let e = none-ending t rows (a .none t h q) in (sym (e .0), sym (e .1))
       go (suc j) q =
           let m = a .some t j h q in
           let e = one-ending t rows (s .apart) j (m .0) (omega (arith, in-order rows s j (m .0))) (m .1) in
-          sym (ap₂ (λ (b : Bool) (n : ℕ). cond b (without n x) x) (e .0) (e .1))
+          (lt-ltb 0 (suc j) (suc-le-suc zero-le) ∙ sym (e .0), sym (e .1))
+
+  pub leads-by : (x : ℕ) → leadsBy (activeMarks rows t) (getD ends t 0) x ≡ leadsTo (sectionOf rows t) x
+  leads-by x = go (getD ends t 0) ending-by
+    where
+      go : (n : ℕ) → (ltb 0 n ≡ sectionOf rows t .ends) × (endingBy (activeMarks rows t) n ≡ sectionOf rows t .ending)
+          → leadsBy (activeMarks rows t) n x ≡ leadsTo (sectionOf rows t) x
+      go zero e = ap (λ (b : Bool). cond b (without (sectionOf rows t .ending) x) x) (sym (le-ltb 0 0 zero-le) ∙ e .0)
+      go (suc j) e = ap₂ (λ (b : Bool) (n : ℕ). cond b (without n x) x) (sym (lt-ltb 0 (suc j) (suc-le-suc zero-le)) ∙ e .0) (e .1)
 
 -- ---- the same as the code has it
 
--- the active rows below the row that ends are few
-pub below-few : (active n : ℕ) → (n ≡ 0 → ⊥) → n ≤ 64 → ones (active % (1 * 2 ^ (n - 1) % 2 ^ 64)) < 64
-below-few active zero z h = absurd (z refl)
-below-few active (suc j) z h =
-    subst (λ (x : ℕ). ones (active % x) < 64) (sym (mark-is (suc j) z h)) (omega (arith, ones-le j (active % 2 ^ j) (mod-lt active (pow-pos j))))
+module _ (active n : ℕ) (z : n ≡ 0 → ⊥) where
+  -- the active rows below the row that ends are few
+  pub below-few : n ≤ 64 → endingBy active n < 64
+  below-few h = go n z h
+    where
+      go : (n : ℕ) → (n ≡ 0 → ⊥) → n ≤ 64 → endingBy active n < 64
+      go zero z h = absurd (z refl)
+      go (suc j) z h = omega (arith, ones-le j (active % 2 ^ j) (mod-lt active (pow-pos j)))
 
-pub leads-is : (active n x r : ℕ) → (n ≡ 0 → ⊥) → n ≤ 64 → r ≡ without (ones (active % (1 * 2 ^ (n - 1) % 2 ^ 64))) x → r ≡ leadsBy active n x
-leads-is active zero x r z h e = absurd (z refl)
-leads-is active (suc j) x r z h e = e ∙ ap (λ (y : ℕ). without (ones (active % y)) x) (mark-is (suc j) z h)
+  pub below-is : n ≤ 64 → ones (active % (1 * 2 ^ (n - 1) % 2 ^ 64)) ≡ endingBy active n
+  below-is h = go n z h
+    where
+      go : (n : ℕ) → (n ≡ 0 → ⊥) → n ≤ 64 → ones (active % (1 * 2 ^ (n - 1) % 2 ^ 64)) ≡ endingBy active n
+      go zero z h = absurd (z refl)
+      go (suc j) z h = ap (λ (y : ℕ). ones (active % y)) (mark-is (suc j) z h)
+
+  pub leads-is : (x : ℕ) → without (endingBy active n) x ≡ leadsBy active n x
+  leads-is x = go n z
+    where
+      go : (n : ℕ) → (n ≡ 0 → ⊥) → without (endingBy active n) x ≡ leadsBy active n x
+      go zero z = absurd (z refl)
+      go (suc j) z = refl

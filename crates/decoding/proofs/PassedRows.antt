@@ -1,4 +1,4 @@
--- A section passed with the rows that are active in it: its numbers, and the rows that are live on either side.
+-- The rows that are active in a section, by those that are live on either side of it.
 use lib.ListN.{getD, length, take}
 use lib.Pow.{pow-mono}
 use lib.Seq.{getD-take, length-take-le}
@@ -53,7 +53,7 @@ module _ {rows : List ℕ} {k : ℕ} (p : PlateRows rows k) where
   -- ---- section t: what joins the live rows on one side, so that they are the active ones
 
   module _ (t : ℕ) where
-    active-below : activeMarks plate t < 2 ^ k
+    pub active-below : activeMarks (take k rows) t < 2 ^ k
     active-below = subst (λ (n : ℕ). activeMarks plate t < 2 ^ n) counted (marks-below (isActive t) plate)
 
     pub active-fits : {which : ℕ} → which ≡ activeMarks (take k rows) t → which < 2 ^ 64
@@ -101,49 +101,6 @@ module _ {rows : List ℕ} {k : ℕ} (p : PlateRows rows k) where
 
       pub ending-joins : {live mark : ℕ} → live ≡ liveMarks (take k rows) (suc t) → mark ≡ markOf (getD ends t 0) → live + mark ≡ activeMarks (take k rows) t
       ending-joins l m = ap₂ _+_ l m ∙ with-ending plate (p .spans) ends t a h
-
-    -- ---- and what leaves them on the other side
-
-    module _ {which : ℕ} {c : Section} (e : which ≡ activeMarks (take k rows) t) (q : c ≡ held (sectionOf (rowsAmong rows which) t)) where
-      -- the section of the active rows is the plate's
-      section-is : c ≡ sectionOf plate t
-      section-is =
-          q ∙ ap (λ (w : ℕ). held (sectionOf (rowsAmong rows w) t)) e
-          ∙ ap (λ (l : List ℕ). held (sectionOf l t)) (among-first k rows (activeMarks plate t) active-below)
-          ∙ section-of-active plate (activeMarks plate t) t (omega (arith, counted, p .few)) (marks-bit (isActive t) plate)
-
-      begins-is : sectionOf plate t .begins ≡ c .begins
-      begins-is = ap (λ (z : Section). z .begins) (sym section-is)
-
-      -- the row that begins is the last of the active rows
-      module _ (b : c .begins ≡ true) {r : ℕ} (l : LastOne which r) where
-        begun : Begins plate t
-        begun = section-begins plate (p .spans) t .0 (begins-is ∙ b)
-
-        is-row : r ≡ begun .row
-        is-row =
-            let m = last-active plate (p .spans) t (begun .row) (begun .there) (begun .here) in
-            last-unique (subst (λ (w : ℕ). Last w r) e (l .some (omega (arith, some-pos (activeMarks plate t) (begun .row) (m .one))))) m
-
-        pub begun-within : r < 64
-        begun-within = omega (arith, is-row, begun .there, counted, p .few)
-
-        begun-mark : liveMarks plate t + 1 * 2 ^ r % 2 ^ 64 ≡ which
-        begun-mark =
-            ap (λ (m : ℕ). liveMarks plate t + m) (shifted-one r begun-within ∙ ap (λ (j : ℕ). 2 ^ j) is-row)
-            ∙ with-beginning plate (p .spans) t (begun .row) (begun .there) (begun .here) ∙ sym e
-
-        pub begun-among : 1 * 2 ^ r % 2 ^ 64 ≤ which
-        begun-among = omega (arith, begun-mark)
-
-        pub begun-leaves : PassedTo (take k rows) t t (record { section = c; live = which - 1 * 2 ^ r % 2 ^ 64 })
-        begun-leaves = record { section = section-is; live = omega (arith, begun-mark) }
-
-      pub none-leaves : c .begins ≡ false → PassedTo (take k rows) t t (record { section = c; live = which })
-      none-leaves b = record {
-        section = section-is;
-        live = e ∙ sym (without-beginning plate (p .spans) t (none-begins plate (p .spans) t (begins-is ∙ b)));
-      }
 
 -- the bit of a row, by one more than the row
 pub mark-is : (n : ℕ) → (n ≡ 0 → ⊥) → n ≤ 64 → 1 * 2 ^ (n - 1) % 2 ^ 64 ≡ markOf n

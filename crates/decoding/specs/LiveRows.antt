@@ -2,7 +2,7 @@
 use lib.Count.{ones}
 use lib.Dec.{leb, ltb}
 use lib.ListN.{getD, length, take}
-use mathlib.Core.Bool.{_&&_, Bool, cond}
+use mathlib.Core.Bool.{_&&_, Bool, cond, true}
 use mathlib.Core.List.{List, [], _∷_}
 use mathlib.Core.Path.{_≡_}
 use Prim.Native.Nat.{_%_, _*_, _+_, _<_, _^_, suc, zero, ℕ, _≤_}
@@ -15,6 +15,7 @@ use Rattle.words.specs.Choice.{more}
 use Rattle.words.specs.Ends.{first, firsts, last, lasts}
 use Rattle.words.specs.Span.{Spans}
 use Rattle.words.specs.Sum.{sumOf}
+use Rattle.words.specs.Word.{bit}
 
 -- a row is live at depth t
 abbrev pub isLive : ℕ → ℕ → Bool
@@ -63,10 +64,23 @@ pub record BeginsHere (rows : List ℕ) (t : ℕ) (r : Beginning) : Type 0 where
   pub row : r .row ≡ beginningRow rows t
   pub mark : liveMarks rows t + r .mark ≡ activeMarks rows t
 
--- where branch x leads, by the active rows and one more than the row that ends
+-- the digit that a section's branches lose, by the active rows and one more than the row that ends: the active rows below that row
+abbrev pub endingBy : ℕ → ℕ → ℕ
+endingBy active zero = ones active
+endingBy active (suc j) = ones (active % 2 ^ j)
+
+-- where branch x leads
 abbrev pub leadsBy : ℕ → ℕ → ℕ → ℕ
 leadsBy active zero x = x
-leadsBy active (suc j) x = without (ones (active % 2 ^ j)) x
+leadsBy active (suc j) x = without (endingBy active (suc j)) x
+
+-- every row named is active in section t
+abbrev pub AllActive : List ℕ → ℕ → ℕ → Type 0
+AllActive rows which t = (j : ℕ) → j < length rows → bit which j ≡ 1 → isActive t (getD rows j 0) ≡ true
+
+-- where the rows named are the active rows of some plate rows, r has those of them that are live before section t
+pub record LiveBefore (table : List ℕ) (which t r : ℕ) : Type 0 where
+  pub live : (k : ℕ) → PlateRows table k → which ≡ activeMarks (take k table) t → r ≡ liveMarks (take k table) t
 
 -- the rows taken by depth t, all of them begun: their sum, and the state that they make
 pub record Taken (rows : List ℕ) (t sum state : ℕ) : Type 0 where

@@ -1,10 +1,12 @@
 // The live rows of a plate, kept from section to section as the bits of one number: a section costs as many steps as it has rows.
 use crate::states::target;
 use trellises::Section;
-ghost use lib.ListN.{take};
+ghost use lib.ListN.{length, take};
 ghost use mathlib.Core.Path.{_≡_};
 ghost use Prim.Native.Nat.{suc, _+_, _<_, _≤_};
-ghost use Rattle.decoding.specs.LiveRows.{BeginsHere, EndsAre, PassedTo, PlateRows, begunBefore, leadsBy, liveMarks, markOf};
+ghost use Rattle.decoding.specs.LiveRows.{AllActive, BeginsHere, EndsAre, LiveBefore, PassedTo, PlateRows, begunBefore, endingBy, leadsBy, liveMarks, markOf};
+ghost use Rattle.trellises.specs.RowsAmong.{rowsAmong};
+ghost use Rattle.trellises.specs.SectionOf.{held, sectionOf};
 
 // A section passed, and the rows that are live on its other side.
 pub struct Passed {
@@ -63,6 +65,18 @@ pub fn row_beginning(rows: &[u64; 64], k: usize, next: usize, t: usize) -> Begin
     }
 }
 
+// How many of the active rows stand below the row that ends, by one more than that row; all of them where none ends.
+fn rows_below(active: u64, following: u8) -> usize
+    requires { ⌜ following ≤ 64 ⌝ }
+    ensures { λ r. ⌜ r ≡ endingBy active following ⌝ }
+{
+    if following == 0 {
+        return u64::count_ones(active) as usize;
+    }
+    let below = active % (1 << (following - 1));
+    u64::count_ones(below) as usize
+}
+
 // Where a branch leads that takes some of the active rows: without the row that ends, by one more than it, where one does.
 pub fn leads(active: u64, following: u8, branch: usize) -> usize
     requires { ⌜ following ≤ 64 ⌝ }
@@ -71,8 +85,38 @@ pub fn leads(active: u64, following: u8, branch: usize) -> usize
     if following == 0 {
         return branch;
     }
-    let below = active % (1 << (following - 1));
-    target(u64::count_ones(below) as usize, branch)
+    target(rows_below(active, following), branch)
+}
+
+// The active rows but for the one that begins at t: it is the last of them.
+fn rows_before(rows: &[u64; 64], active: u64, t: usize) -> u64
+    requires { ⌜ length (now rows) ≡ 64 ⌝ }
+    ensures { λ r. ⌜ LiveBefore (now (rows .entry)) active t r ⌝ }
+{
+    if active == 0 {
+        return 0;
+    }
+    let last = words::last_one(active);
+    if words::first_one(rows[last]) == t {
+        return active - (1 << last);
+    }
+    active
+}
+
+// Position t of the active rows: the first of them has weight 1, the next 2, and so on.
+fn column_of(rows: &[u64; 64], active: u64, t: usize) -> u64
+    requires { ⌜ (length (now rows) ≡ 64) × (t < 64) × AllActive (now rows) active t ⌝ }
+    ensures { λ r. ⌜ r ≡ held (sectionOf (rowsAmong (now (rows .entry)) active) t) .column ⌝ }
+{
+    let mut column: u64 = 0;
+    let mut left = active;
+    while 0 < left {
+        let j = words::last_one(left);
+        let digit = (rows[j] >> t) % 2;
+        column = (column << 1) + digit;
+        left -= 1 << j;
+    }
+    column
 }
 
 // Section t passed from its far side: the row that ends there joins the live rows, and the row that begins there leaves them.
@@ -82,17 +126,18 @@ pub fn pass_back(rows: &[u64; 64], k: usize, ends: &[u8; 64], live: u64, t: usiz
     requires { ⌜ (t < 64) × (live ≡ liveMarks (take k (now rows)) (suc t)) ⌝ }
     ensures { λ r. ⌜ PassedTo (take k (now (rows .entry))) t t r ⌝ }
 {
-    let active = live + mark_of(ends[t]);
-    let section = trellises::sections::section_among(rows, active, t);
-    if section.begins {
-        let last = words::last_one(active);
-        return Passed {
-            section,
-            live: active - (1 << last),
-        };
-    }
+    let following = ends[t];
+    let active = live + mark_of(following);
+    let before = rows_before(rows, active, t);
+    let column = column_of(rows, active, t);
     Passed {
-        section,
-        live: active,
+        section: Section {
+            live: u64::count_ones(before) as usize,
+            begins: before < active,
+            ends: 0 < following,
+            ending: rows_below(active, following),
+            column,
+        },
+        live: before,
     }
 }

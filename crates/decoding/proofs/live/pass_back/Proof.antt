@@ -2,14 +2,16 @@
 use borrow.Author.Needs.{needs}
 use lib.ListN.{take}
 use mathlib.Core.Path.{_≡_}
+use native.Mathlib.Omega.{arith}
 use Prim.Native.Nat.{_+_}
-use Rattle.decoding.proofs.PassedRows.{active-fits, begun-among, begun-leaves, begun-within, ending-few, ending-joins, none-leaves}
-use Rattle.decoding.specs.LiveRows.{activeMarks}
+use Rattle.decoding.proofs.PassedBack.{all-active, before-few, passed-back}
+use Rattle.decoding.proofs.PassedRows.{active-fits, ending-few, ending-joins}
+use Rattle.decoding.specs.LiveRows.{activeMarks, liveMarks}
 use Rattle.decoding.proofs.live.pass_back.Statement.{statement}
 use Rattle.decoding.proofs.live.pass_back.Tie as tie
 
-element-copy-out-mark-of : tie.Need-element-copy-out-mark-of
-element-copy-out-mark-of c = search needs
+element-copy-out-following : tie.Need-element-copy-out-following
+element-copy-out-following c = search needs
 
 mark-of-requires : tie.Need-mark-of-requires
 mark-of-requires c κs = let s = c .before in ending-few (s .pre .0) (s .args .t) (s .pre .1 .0) (s .pre .1 .1 .0)
@@ -24,46 +26,44 @@ joined c =
 add-active : tie.Need-add-active
 add-active c = record { fits = active-fits (c .before .before .pre .0) (c .before .before .args .t) (joined c) }
 
-section-among-requires : tie.Need-section-among-requires
-section-among-requires c κs = search needs
+rows-before-requires : tie.Need-rows-before-requires
+rows-before-requires c κs = search needs
 
-last-one-requires : tie.Need-last-one-requires
-last-one-requires c κs = search needs
+-- those of them that are live before it
+before : (c : tie.After-rows-before)
+    → c .rows-before .result ≡ liveMarks (take (c .before .before .before .args .k) (c .before .before .before .args .rows .now)) (c .before .before .before .args .t)
+before c = let s = c .before .before .before in c .rows-before .ensures .live (s .args .k) (s .pre .0) (joined (c .before))
 
-shl-t17 : tie.Need-shl-t17
-shl-t17 c =
-    let g = c .before .before in
-    let s = g .before .before .before .before in
-    begun-within (s .pre .0) (s .args .t) (joined (g .before .before)) (g .section-among .ensures) (c .before .if1 .taken) (c .last-one .ensures)
+column-of-requires : tie.Need-column-of-requires
+column-of-requires c κs =
+    let s = c .before .before .before in
+    (s .pre .0 .table, s .pre .1 .1 .0, all-active (s .pre .0) (s .args .t) (joined (c .before)))
 
-sub-t18 : tie.Need-sub-t18
-sub-t18 c =
-    let g = c .before .before in
-    let s = g .before .before .before .before in
-    begun-among (s .pre .0) (s .args .t) (joined (g .before .before)) (g .section-among .ensures) (c .before .if1 .taken) (c .last-one .ensures)
+cast-t15 : tie.Need-cast-t15
+cast-t15 c =
+    let b = c .before in
+    let s = b .before .before .before in
+    record { fits = omega (arith, before-few (s .pre .0) (s .args .t) (joined (b .before)) (s .pre .1 .0) (s .pre .1 .1 .0) (before b)) }
+
+rows-below-requires : tie.Need-rows-below-requires
+rows-below-requires c κs =
+    let s = c .before .before .before .before in ending-few (s .pre .0) (s .args .t) (s .pre .1 .0) (s .pre .1 .1 .0)
 
 returns : tie.Need-returns
 returns c =
-    let g = c .before .before in
-    let s = g .before .before .before .before in
-    begun-leaves (s .pre .0) (s .args .t) (joined (g .before .before)) (g .section-among .ensures) (c .before .if1 .taken) (c .last-one .ensures)
-
-returns-2 : tie.Need-returns-2
-returns-2 c =
-    let g = c .before in
-    let s = g .before .before .before .before in
-    none-leaves (s .pre .0) (s .args .t) (joined (g .before .before)) (g .section-among .ensures) (c .if1 .left)
+    let b = c .before .before in
+    let s = b .before .before .before in
+    passed-back (s .pre .0) (s .args .t) (joined (b .before)) (s .pre .1 .0) (s .pre .1 .1 .0) (before b) (c .rows-below .ensures) (c .before .column-of .ensures)
 
 pub pass-back-spec : {M : Type 1} → statement M
 pass-back-spec =
     tie.close
     (tie.spec
-    element-copy-out-mark-of
+    element-copy-out-following
     mark-of-requires
     add-active
-    section-among-requires
-    last-one-requires
-    shl-t17
-    sub-t18
-    returns
-    returns-2)
+    rows-before-requires
+    column-of-requires
+    cast-t15
+    rows-below-requires
+    returns)
