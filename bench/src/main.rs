@@ -112,6 +112,20 @@ fn time_code(code: &Code, clock: f64) {
     println!("  library's prepare {prepared:.0} ns a call, plate test {tested:.0} ns a call\n");
 }
 
+/// Preparing 64 dense rows: the most that a matrix may have.
+fn time_dense() {
+    let mut state = 88_172_645_463_325_252u64;
+    let mut row = |_| {
+        state ^= state << 13;
+        state ^= state >> 7;
+        state ^= state << 17;
+        state
+    };
+    let code = Code { name: "dense", n: 64, rows: (0..64).map(&mut row).collect() };
+    let prepared = best(ROUNDS, || (0..100).for_each(|_| _ = black_box(prepare(&code)))) / 100.0;
+    println!("64 dense rows of length 64: library's prepare {prepared:.0} ns a call");
+}
+
 fn main() {
     let clock = clock();
     println!("core clock {clock:.2} GHz (sums that wait for each other, one a cycle)");
@@ -120,4 +134,5 @@ fn main() {
     println!("the library also tests plate and samples and counts branches, within its time\n");
     let wanted = std::env::args().nth(1).unwrap_or_default();
     codes().iter().filter(|code| code.name.contains(&wanted)).for_each(|code| time_code(code, clock));
+    time_dense();
 }
