@@ -45,6 +45,8 @@ pub enum Refusal {
     NoCodeword,
     InputTooLong,
     PositionBeyond,
+    BadSetting,
+    NotANumber(usize),
 }
 
 // What preparing says of a matrix.
@@ -80,6 +82,8 @@ pub fn refusal_number(refusal: Refusal) -> u64
         Refusal::NoCodeword => 14,
         Refusal::InputTooLong => 15,
         Refusal::PositionBeyond => 21,
+        Refusal::BadSetting => 24,
+        Refusal::NotANumber(_) => 25,
     }
 }
 
@@ -91,6 +95,7 @@ pub fn refusal_place(refusal: Refusal) -> usize
         Refusal::RowBeyond(row) => row,
         Refusal::SampleRange(position) => position,
         Refusal::SheetLine(line) => line,
+        Refusal::NotANumber(position) => position,
         Refusal::Length => 0,
         Refusal::TooManyRows => 0,
         Refusal::TooWide => 0,
@@ -104,6 +109,7 @@ pub fn refusal_place(refusal: Refusal) -> usize
         Refusal::NoCodeword => 0,
         Refusal::InputTooLong => 0,
         Refusal::PositionBeyond => 0,
+        Refusal::BadSetting => 0,
     }
 }
 

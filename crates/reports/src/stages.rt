@@ -150,6 +150,8 @@ fn is_of_block(refusal: Refusal) -> bool
         Refusal::NoCodeword => false,
         Refusal::InputTooLong => false,
         Refusal::PositionBeyond => false,
+        Refusal::BadSetting => false,
+        Refusal::NotANumber(_) => false,
     }
 }
 

@@ -1,0 +1,12 @@
+pub mod FloatOrder
+pub mod Products
+pub mod Narrowing
+pub mod Tests
+pub mod Signs
+pub mod RoomWritten
+pub mod Calls
+pub mod BlockLevels
+pub mod LevelsDetermined
+pub mod LevelsOrdered
+pub mod RepliesOrdered
+pub mod Unread
