@@ -7,6 +7,8 @@ use crate::firmness::{best_by_pass, best_of_all};
 use crate::model::Model;
 use crate::plate::{prepare, Kind, Plate};
 use crate::random::{matrix, samples, Random};
+use crate::sheet::listing;
+use crate::sheets::{sheet, turned};
 use crate::small::{all_matrices, all_samples};
 use crate::trellis::branch;
 use crate::worked;
@@ -106,10 +108,28 @@ fn larger_matrices(random: &mut Random) -> usize {
     count
 }
 
+/// A sheet and the sheet turned: the same listing, but for the words, which are printed from the other end.
+fn turned_sheets(random: &mut Random) -> usize {
+    let turned_word = |line: &str| {
+        let mut fields: Vec<String> = line.split('\t').map(String::from).collect();
+        if fields[0] == "word" {
+            fields[1] = fields[1].chars().rev().collect();
+        }
+        fields.join("\t") + "\n"
+    };
+    for _ in 0..600 {
+        let text = String::from_utf8(sheet(random)).unwrap();
+        let expected: String = listing(text.as_bytes()).0.lines().map(turned_word).collect();
+        assert_eq!(listing(turned(&text).as_bytes()).0, expected);
+    }
+    600
+}
+
 pub fn run(sheets: Option<&Path>) {
     let mut random = Random::new(1);
     println!("small matrices by the definitions: {} agree", small_matrices(&mut random));
     println!("larger matrices by two ways: {} agree", larger_matrices(&mut random));
+    println!("sheets and the sheets turned: {} agree", turned_sheets(&mut random));
     let mut model = Model::new();
     let mut answer = |mut call| (model.answer(&mut call), call);
     println!("calls of the paper's worked examples: {} agree", worked::examples(&mut answer));

@@ -1,4 +1,4 @@
-//! Sheets: the grammar with its refusals in the paper's order, and the whole listing.
+//! Sheets: the grammar with its refusals in the paper's order, and the whole listing. `last` turns rows, samples and printed words.
 
 use crate::decoding;
 use crate::listing::{end_line, plate_line, profile_line, refused_line, word_line};
@@ -15,6 +15,7 @@ struct Cover {
 }
 
 struct Sheet {
+    first: bool,
     plate: Plate,
     blocks: Vec<Vec<i16>>,
 }
@@ -71,12 +72,23 @@ fn row(characters: &str, cover: &Cover) -> Option<u64> {
     form.then(|| ones.map(|(i, _)| 1u64 << position(i)).sum())
 }
 
+/// Under `last` the sample listed first is that of position n-1, so the list is read from its far end. (Where it has another
+/// number of samples than n the block is refused for that.)
+fn by_position(listed: Vec<i16>, cover: &Cover) -> Vec<i16> {
+    if cover.first {
+        listed
+    } else {
+        listed.into_iter().rev().collect()
+    }
+}
+
 fn line(text: &str, cover: &Cover) -> Option<Line> {
     let fields: Vec<&str> = text.split('\t').collect();
     match fields[..] {
         ["row", characters] => row(characters, cover).map(Line::Row),
         ["block", ref samples @ ..] => {
-            samples.iter().map(|field| sample(field)).collect::<Option<_>>().map(Line::Block)
+            let listed = samples.iter().map(|field| sample(field)).collect::<Option<Vec<_>>>();
+            listed.map(|listed| Line::Block(by_position(listed, cover)))
         }
         ["end"] => Some(Line::End),
         _ => None,
@@ -115,14 +127,25 @@ fn read(bytes: &[u8]) -> Result<Sheet, Refusal> {
     }
     let (rows, blocks) = body(&lines, unended, &cover).or_else(|at| refuse(10, at))?;
     let plate = prepare(cover.n as u64, cover.kind, &rows)?;
-    Ok(Sheet { plate, blocks })
+    Ok(Sheet { first: cover.first, plate, blocks })
 }
 
-/// The line that answers a block.
-fn block_line(plate: &Plate, samples: &[i16]) -> Result<String, Refusal> {
+/// The word as it is handed to the listing line, which prints position 0 at the left: under `last` position n-1 is to stand there.
+fn to_print(word: u64, sheet: &Sheet) -> u64 {
+    let n = sheet.plate.n;
+    if sheet.first {
+        word
+    } else {
+        (0..n).filter(|i| word >> i & 1 == 1).map(|i| 1u64 << (n - 1 - i)).sum()
+    }
+}
+
+/// The line that answers a block, given by position.
+fn block_line(sheet: &Sheet, samples: &[i16]) -> Result<String, Refusal> {
+    let plate = &sheet.plate;
     decoding::refused(plate, samples, usize::MAX, usize::MAX)?;
     let found = decoding::decode(plate, samples);
-    Ok(word_line(plate, found.word, found.metric, found.additions, found.comparisons))
+    Ok(word_line(plate, to_print(found.word, sheet), found.metric, found.additions, found.comparisons))
 }
 
 /// The whole listing of a sheet, and the plate if some block was decoded with it.
@@ -134,7 +157,7 @@ pub fn listing(bytes: &[u8]) -> (String, Option<Plate>) {
     let mut text = plate_line(&sheet.plate) + &profile_line(&sheet.plate);
     let mut decoded = false;
     for samples in &sheet.blocks {
-        let line = block_line(&sheet.plate, samples);
+        let line = block_line(&sheet, samples);
         decoded |= line.is_ok();
         text += &line.unwrap_or_else(refused_line);
     }

@@ -78,7 +78,7 @@ fn list_in_rooms(comparison: &mut Comparison, sheet: &[u8], lines: usize) {
 }
 
 /// A sheet in order, but for matrices that are too wide and blocks that meet 6 or 7.
-fn sheet(random: &mut Random) -> Vec<u8> {
+pub fn sheet(random: &mut Random) -> Vec<u8> {
     let matrix = matrix(random);
     let n = matrix.n as usize;
     let (kind, order) = (random.pick(&["G", "H"]), random.pick(&["first", "last"]));
@@ -96,6 +96,21 @@ fn sheet(random: &mut Random) -> Vec<u8> {
         text += &format!("block{fields}\n");
     }
     (text + "end\n").into_bytes()
+}
+
+/// The sheet with every row and block reversed, under the other word of the cover.
+pub fn turned(sheet: &str) -> String {
+    let turn = |line: &str| {
+        let mut fields: Vec<String> = line.split('\t').map(String::from).collect();
+        match fields[0].as_str() {
+            "cover" => fields[3] = if fields[3] == "first" { "last" } else { "first" }.into(),
+            "row" => fields[1] = fields[1].chars().rev().collect(),
+            "block" => fields[1..].reverse(),
+            _ => {}
+        }
+        fields.join("\t") + "\n"
+    };
+    sheet.lines().map(turn).collect()
 }
 
 /// One small damage somewhere in the sheet.

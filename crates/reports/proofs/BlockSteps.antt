@@ -1,7 +1,9 @@
 -- The step of a block, by what was read of it.
 use Prim.Native.Nat.{ℕ, _≤_, _<_}
+use lib.Dec.{ltb}
 use lib.IntN.{ℤ}
 use lib.ListN.{length, take}
+use mathlib.Core.Bool.{Bool, true, false, cond}
 use mathlib.Core.List.{List}
 use mathlib.Core.Path.{_≡_, refl, sym, _∙_}
 use native.Mathlib.Omega.{arith}
@@ -10,7 +12,9 @@ use Rattle.decoding.specs.declared.Decoded.{Decoded}
 use Rattle.decoding.specs.Decode.{Decodes}
 use Rattle.listings.specs.Writing.{WritesEnd}
 use Rattle.sheets.specs.Room.{laid}
-use Rattle.sheets.specs.Blocks.{BlockFound, block, noBlock, blockReply, roomAfter}
+use Rattle.sheets.specs.Turning.{inOrder}
+use Rattle.sheets.specs.declared.Order.{Order}
+use Rattle.sheets.specs.Blocks.{BlockFound, block, noBlock, blockReply, placed, roomAfter}
 use Rattle.sheets.specs.declared.BlockReply.the-variants.{Read, NoBlock}
 use Rattle.reports.specs.declared.Report.{Report}
 use Rattle.reports.specs.declared.Step.{Step}
@@ -33,16 +37,17 @@ no-read e = let z : _≡_ {A = ℕ} 0 1 = cc in absurd (omega arith)
 
 module _ (zeros : List ℤ) (size : length zeros ≡ 64) {report : Report} {lent left : Lent} {step : Step} where
   -- the samples that were decoded are the block's
-  samples-are : (vs : List ℤ) (after : Report) → RoomStep (take (decodable (length vs)) (laid vs zeros)) report after lent step left → RoomStep vs report after lent step left
+  samples-are : (vs : List ℤ) (after : Report) → RoomStep (take (decodable (length vs)) (placed (report .order) vs zeros)) report after lent step left
+      → RoomStep (inOrder (report .order) vs) report after lent step left
   samples-are vs after (short h s) = short h s
   samples-are vs after (enough h s) = enough h (record {
     decoded = s .decoded;
-    decodes = places-decoded (report .plate) vs zeros (lent .metrics) (lent .decisions) size (left .metrics) (left .decisions) (s .decoded) (s .decodes);
+    decodes = places-decoded (report .plate) (report .order) vs zeros (lent .metrics) (lent .decisions) size (left .metrics) (left .decisions) (s .decoded) (s .decodes);
     line = s .line;
   })
 
   -- a block line was read
-  pub block-step : (found : BlockFound) (place count next : ℕ) (places : List ℤ) → Read count next ≡ blockReply place found → places ≡ roomAfter zeros found
+  pub block-step : (found : BlockFound) (place count next : ℕ) (places : List ℤ) → Read count next ≡ blockReply place found → places ≡ roomAfter (report .order) zeros found
       → RoomStep (take (decodable count) places) report (toBlocks next report) lent step left → BlocksStep found place report lent step left
   block-step (block vs) place count next places e p s =
       let c : count ≡ length vs = cc in
@@ -57,6 +62,10 @@ module _ (zeros : List ℤ) (size : length zeros ≡ 64) {report : Report} {lent
   end-step noBlock place e s = s
 
 -- the places keep their number
-pub places-size : (zeros : List ℤ) → length zeros ≡ 64 → (found : BlockFound) → length (roomAfter zeros found) ≡ 64
-places-size zeros size (block vs) = laid-length vs zeros ∙ size
-places-size zeros size noBlock = size
+pub places-size : (order : Order) (zeros : List ℤ) → length zeros ≡ 64 → (found : BlockFound) → length (roomAfter order zeros found) ≡ 64
+places-size order zeros size (block vs) = by (ltb 64 (length vs))
+  where
+    by : (t : Bool) → length (cond t zeros (laid (inOrder order vs) zeros)) ≡ 64
+    by true = size
+    by false = laid-length (inOrder order vs) zeros ∙ size
+places-size order zeros size noBlock = size

@@ -1,3 +1,5 @@
+pub mod PrintedWords
+pub mod PrintedMeaning
 pub mod WrittenSteps
 pub mod LongBlocks
 pub mod BlockSteps
@@ -11,3 +13,4 @@ pub mod ListingLines
 pub mod ListingReplies
 pub mod ListingDetermined
 pub mod LinesInTurn
+pub mod SameAnswers

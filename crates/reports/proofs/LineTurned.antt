@@ -13,6 +13,8 @@ use Rattle.listings.proofs.OfPlate.{entries-fit}
 use Rattle.listings.specs.Lines.{endLine}
 use Rattle.listings.specs.Writing.{entriesOf}
 use Rattle.sheets.proofs.Following.{block-first, block-none}
+use Rattle.sheets.specs.Turning.{byPosition, inOrder}
+use Rattle.sheets.specs.declared.Order.{Order}
 use Rattle.sheets.specs.Blocks.{BlockFound, block, blockAt, nextLine, noBlock}
 use Rattle.reports.specs.declared.Outcome.the-variants as O
 use Rattle.reports.specs.declared.Report.{Report}
@@ -32,9 +34,9 @@ pub data Turned (input : List ℕ) (report : Report) (lent : Lent) (step : Step)
       → ((lines : List (List ℕ)) → Left input after lines → Left input report (line ∷ lines)) → linesLeft input report ≡ suc (linesLeft input after)
       → ((w : Rooms) → Leaves input after (workingOf left) w → Leaves input report (workingOf lent) w) → Turned input report lent step left
 
-module _ (input : List ℕ) (plate : Plate) (at blocks : ℕ) (lent left : Lent) (step : Step) (enough : Enough lent) where
+module _ (input : List ℕ) (plate : Plate) (order : Order) (at blocks : ℕ) (lent left : Lent) (step : Step) (enough : Enough lent) where
   abbrev In : Stage → Report
-  In stage = record { stage = stage; plate = plate; at = at; blocks = blocks }
+  In stage = record { stage = stage; plate = plate; order = order; at = at; blocks = blocks }
 
   abbrev Turns-at : Stage → Type 0
   Turns-at stage = Turned input (In stage) lent step left
@@ -49,19 +51,19 @@ module _ (input : List ℕ) (plate : Plate) (at blocks : ℕ) (lent left : Lent)
 
   module _ (prepared : IsPrepared plate) where
     blocks-turned : (found : BlockFound) → blockAt input at ≡ found → BlocksStep found (nextLine input at) (In S.BlockLines) lent step left → Turns-at S.BlockLines
-    blocks-turned (block samples) e x =
-        let g = block-given samples (In S.BlockLines) (toBlocks (nextLine input at) (In S.BlockLines)) step lent left prepared enough x in
-        let f = block-first input at samples e in
+    blocks-turned (block listed) e x =
+        let g = block-given (inOrder order listed) (In S.BlockLines) (toBlocks (nextLine input at) (In S.BlockLines)) step lent left prepared enough x in
+        let f = ap (byPosition order) (block-first input at listed e) in
         gives (g .line) (toBlocks (nextLine input at) (In S.BlockLines)) (g .given) prepared
-        (λ lines l. subst (λ (b : List (List ℤ)). BlocksReport plate blocks b (g .line ∷ lines)) (sym f) (g .is, l))
+        (λ lines l. subst (λ (b : List (List ℤ)). BlocksReport order plate blocks b (g .line ∷ lines)) (sym f) (g .is, l))
         (omega (arith, ap length f))
         (λ w l. subst (λ (b : List (List ℤ)). BlocksLeave plate b (workingOf lent) w) (sym f) (workingOf left, g .leaves, l))
     blocks-turned noBlock e x =
-        let n = block-none input at e in
+        let n = ap (byPosition order) (block-none input at e) in
         gives (endLine blocks) (toNothing (In S.BlockLines))
         (line-given _ (endLine blocks) (lent .room) (left .room) _ _ step (end-fits-256 blocks) (fits (endLine blocks) (lent .room) (end-fits-256 blocks) (enough .room)) (x .line))
         tt
-        (λ lines l. subst (λ (b : List (List ℤ)). BlocksReport plate blocks b (endLine blocks ∷ lines)) (sym n) (ap (λ (ls : List (List ℕ)). endLine blocks ∷ ls) l))
+        (λ lines l. subst (λ (b : List (List ℤ)). BlocksReport order plate blocks b (endLine blocks ∷ lines)) (sym n) (ap (λ (ls : List (List ℕ)). endLine blocks ∷ ls) l))
         (omega (arith, ap length n))
         (λ w l. subst (λ (b : List (List ℤ)). BlocksLeave plate b (workingOf lent) w) (sym n) (l ∙ kept (x .working)))
 
@@ -87,4 +89,4 @@ module _ (input : List ℕ) (plate : Plate) (at blocks : ℕ) (lent left : Lent)
 pub step-turned : (input : List ℕ) (report : Report) (lent left : Lent) (step : Step) → Ready report → Enough lent → Steps report input lent step left
     → Turned input report lent step left
 step-turned input report lent left step ready enough x =
-    turned input (report .plate) (report .at) (report .blocks) lent left step enough (report .stage) ready (x .is)
+    turned input (report .plate) (report .order) (report .at) (report .blocks) lent left step enough (report .stage) ready (x .is)

@@ -26,6 +26,7 @@ use Rattle.reports.specs.declared.Outcome.the-variants as O
 use Rattle.reports.specs.declared.Report.{Report}
 use Rattle.reports.specs.declared.Step.{Step}
 use Rattle.reports.specs.Remaining.{BlockLeaves, rooms, untouched, workingOf, zeroed}
+use Rattle.reports.specs.Printed.{printedAs}
 use Rattle.reports.specs.Report.{BlockLine, blockConditions, lineOfAnswer, lineOfRefusal, refusedBlock, wordOfBlock}
 use Rattle.reports.specs.Steps.{DecodedStep, Lent, RefusedStep, RoomStep, WritesStep, enough, ofBlock, short, stepBy}
 use Rattle.reports.specs.Turns.{Enough}
@@ -67,7 +68,7 @@ plate-fits plate prepared line room l r = ((λ p x. x .0 prepared), fits line ro
 
 pub record BlockGiven (samples : List ℤ) (before after : Report) (step : Step) (lent left : Lent) : Type 0 where
   pub line : List ℕ
-  pub is : BlockLine (before .plate) samples line
+  pub is : BlockLine (before .order) (before .plate) samples line
   pub given : Given line after step (lent .room) (left .room)
   pub leaves : BlockLeaves (before .plate) samples (workingOf lent) (workingOf left)
 
@@ -103,12 +104,12 @@ module _ (samples : List ℤ) (before after : Report) (step : Step) (lent left :
       → DecodedStep d before after (lent .room) step (left .room) → Gives
   by-decoded (D.Refused q) p x = by-refusal q (ap₂ rooms (p .1) (p .2)) (p .0) x
   by-decoded (D.Found a) p x =
-      let l = word-fits-256 (before .plate .n) (a .word) (a .metric) (a .counts .additions) (a .counts .comparisons) (sound prepared .short) in
+      let l = word-fits-256 (before .plate .n) (printedAs (before .order) (before .plate .n) (a .word)) (a .metric) (a .counts .additions) (a .counts .comparisons) (sound prepared .short) in
       record {
-        line = lineOfAnswer (before .plate) a;
+        line = lineOfAnswer (before .order) (before .plate) a;
         is = wordOfBlock a (p .0 .1 .0, (p .0 .1 .1 .0, tt)) (p .1) refl;
-        given = line-given _ (lineOfAnswer (before .plate) a) (lent .room) (left .room) before after step l
-            (plate-fits (before .plate) prepared (lineOfAnswer (before .plate) a) (lent .room) l (enough-room .room)) x;
+        given = line-given _ (lineOfAnswer (before .order) (before .plate) a) (lent .room) (left .room) before after step l
+            (plate-fits (before .plate) prepared (lineOfAnswer (before .order) (before .plate) a) (lent .room) l (enough-room .room)) x;
         leaves = zeroed (p .0 .1 .0, (p .0 .1 .1 .0, tt)) (p .2);
       }
 

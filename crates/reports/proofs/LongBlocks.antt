@@ -18,7 +18,11 @@ use Rattle.plates.specs.Refusals.{Refuses}
 use Rattle.decoding.specs.declared.Decoded.{Decoded}
 use Rattle.decoding.specs.declared.Decoded.the-variants.{Found, Refused}
 use Rattle.decoding.specs.Decode.{Decodes, decodeConditions, sampleCount}
+use Rattle.sheets.proofs.Turns.{in-order-length}
+use Rattle.sheets.specs.Blocks.{placed}
 use Rattle.sheets.specs.Room.{laid}
+use Rattle.sheets.specs.Turning.{inOrder}
+use Rattle.sheets.specs.declared.Order.{Order}
 use Rattle.reports.specs.Steps.{decodable}
 
 module _ {A : Type 0} where
@@ -55,13 +59,17 @@ module _ (plate : Plate) (samples metrics : List ℤ) (decisions : List ℕ) (lo
       refuses (inr (n, inl s)) = inr (n, inl ((λ e. none-fits n .1 e), s .1))
       refuses (inr (n, inr s)) = absurd (no-count n (s .0))
 
-module _ (plate : Plate) (vs zeros metrics : List ℤ) (decisions : List ℕ) (size : length zeros ≡ 64) (metrics′ : List ℤ) (decisions′ : List ℕ) (r : Decoded) where
+module _ (plate : Plate) (order : Order) (vs zeros metrics : List ℤ) (decisions : List ℕ) (size : length zeros ≡ 64) (metrics′ : List ℤ) (decisions′ : List ℕ) (r : Decoded) where
   -- what was decoded of the places is what the block's samples decode to
-  pub places-decoded : Decodes plate (take (decodable (length vs)) (laid vs zeros)) metrics decisions metrics′ decisions′ r
-      → Decodes plate vs metrics decisions metrics′ decisions′ r
+  pub places-decoded : Decodes plate (take (decodable (length vs)) (placed order vs zeros)) metrics decisions metrics′ decisions′ r
+      → Decodes plate (inOrder order vs) metrics decisions metrics′ decisions′ r
   places-decoded = by (ltb 64 (length vs)) refl
     where
-      by : (t : Bool) → ltb 64 (length vs) ≡ t → Decodes plate (take (cond t 0 (length vs)) (laid vs zeros)) metrics decisions metrics′ decisions′ r
-          → Decodes plate vs metrics decisions metrics′ decisions′ r
-      by true e x = none-decoded plate vs metrics decisions (ltb-true 64 (length vs) e) metrics′ decisions′ r x
-      by false e x = rw (laid-start vs zeros (omega (arith, ltb-false 64 (length vs) e, size))) at x
+      l : length (inOrder order vs) ≡ length vs
+      l = in-order-length order vs
+
+      by : (t : Bool) → ltb 64 (length vs) ≡ t
+          → Decodes plate (take (cond t 0 (length vs)) (cond t zeros (laid (inOrder order vs) zeros))) metrics decisions metrics′ decisions′ r
+          → Decodes plate (inOrder order vs) metrics decisions metrics′ decisions′ r
+      by true e x = none-decoded plate (inOrder order vs) metrics decisions (omega (arith, l, ltb-true 64 (length vs) e)) metrics′ decisions′ r x
+      by false e x = rw (← l, laid-start (inOrder order vs) zeros (omega (arith, l, ltb-false 64 (length vs) e, size))) at x

@@ -15,9 +15,10 @@ use Rattle.plates.specs.declared.Verdict.{Verdict}
 use Rattle.plates.specs.declared.Verdict.the-variants as J
 use Rattle.plates.specs.Prepare.{Prepares}
 use Rattle.trellises.proofs.AcceptedIsPrepared.{accepted-prepared}
-use Rattle.sheets.proofs.Following.{blocks-from-start}
+use Rattle.sheets.proofs.Following.{blocks-counted, blocks-from-start}
 use Rattle.sheets.proofs.Ranges.{accepted, all-pass}
 use Rattle.sheets.specs.Blocks.{BlockFound, block, blockFront, blockThen, blocksOf, noBlock}
+use Rattle.sheets.specs.declared.Order.{Order}
 use Rattle.sheets.specs.Sheet.{Contents, Reading, says, refused, reading, startOf}
 use Rattle.sheets.specs.Text.{linesFrom, onto, parts, lineFeed}
 use Rattle.reports.specs.declared.Report.{Report}
@@ -32,16 +33,16 @@ use Rattle.reports.specs.Steps.{OpensAs, reportBy}
 
 module _ (input : List ℕ) (c : Contents) (e : reading input ≡ says c) (r : Prepared) (p : Prepares (c .n) (c .kind) (c .rows) r) where
   abbrev opened : Verdict → Report
-  opened v = reportBy v (r .plate) (startOf input c) (length (c .blocks))
+  opened v = reportBy v (r .plate) (c .order) (startOf input c) (length (c .blocks))
 
   sheet-ready : (v : Verdict) → r .verdict ≡ v → Ready (opened v)
   sheet-ready (J.Refused q) a = tt
   sheet-ready J.Accepted a = accepted-prepared (c .n) (c .kind) (c .rows) r p a
 
-  sheet-reports : (v : Verdict) (lines : List (List ℕ)) → Left input (opened v) lines → PreparedReports v (r .plate) (c .blocks) lines
+  sheet-reports : (v : Verdict) (lines : List (List ℕ)) → Left input (opened v) lines → PreparedReports v (c .order) (r .plate) (c .blocks) lines
   sheet-reports (J.Refused q) lines l = l
   sheet-reports J.Accepted lines l =
-      subst (λ (b : List (List ℤ)). PlateReports (r .plate) (length (c .blocks)) b lines) (blocks-from-start input c e) l
+      subst (λ (b : List (List ℤ)). PlateReports (c .order) (r .plate) (length (c .blocks)) b lines) (blocks-from-start input c e) l
 
   sheet-leaves : (v : Verdict) (before after : Rooms) → Leaves input (opened v) before after → PreparedLeaves v (r .plate) (c .blocks) before after
   sheet-leaves (J.Refused q) before after l = l
@@ -89,15 +90,15 @@ sheet-small input c e =
     let a = all-pass input (accepted input c e .0) in
     omega (
       arith,
-      ap length (blocks-from-start input c e),
+      blocks-counted input c e,
       blocks-few (linesFrom input (startOf input c)),
       from-count input (startOf input c) (leb (startOf input c) (length input)),
       short-case (length input) (ltb 32768 (length input)) refl (a .short),
     )
 
-verdict-small : (v : Verdict) (plate : Plate) (at blocks : ℕ) → blocks ≤ 32769 → (reportBy v plate at blocks) .blocks ≤ 32769
-verdict-small (J.Refused q) plate at blocks h = omega arith
-verdict-small J.Accepted plate at blocks h = h
+verdict-small : (v : Verdict) (plate : Plate) (order : Order) (at blocks : ℕ) → blocks ≤ 32769 → (reportBy v plate order at blocks) .blocks ≤ 32769
+verdict-small (J.Refused q) plate order at blocks h = omega arith
+verdict-small J.Accepted plate order at blocks h = h
 
 -- ---- by the reading of the input
 
@@ -136,4 +137,4 @@ module _ (input : List ℕ) where
   open-small (refused q) e report x = subst (λ (r : Report). r .blocks ≤ 32769) (sym x) (omega arith)
   open-small (says c) e report x =
       subst (λ (r : Report). r .blocks ≤ 32769) (sym (x .is))
-      (verdict-small (x .prepared .verdict) (x .prepared .plate) (startOf input c) (length (c .blocks)) (sheet-small input c e))
+      (verdict-small (x .prepared .verdict) (x .prepared .plate) (c .order) (startOf input c) (length (c .blocks)) (sheet-small input c e))

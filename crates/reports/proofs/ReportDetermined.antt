@@ -19,17 +19,14 @@ use Rattle.decoding.proofs.DecodeDetermined.{decode-determined}
 use Rattle.decoding.specs.declared.Decoded.{Decoded}
 use Rattle.decoding.specs.declared.Decoded.the-variants.{Found, Refused}
 use Rattle.decoding.specs.Decode.{Decodes, decisionNeed, decodeConditions, metricNeed}
+use Rattle.sheets.specs.declared.Order.{Order}
 use Rattle.sheets.specs.Sheet.{Contents, Reading, says, refused, reading}
-use Rattle.reports.specs.Report.{BlockLine, BlocksReport, Lists, PlateReports, PreparedReports, ProfileReports, Reports, ReportsAs, blockConditions, joined, lineOfAnswer, lineOfRefusal, refusedBlock, wordOfBlock}
+use Rattle.reports.specs.Answers.{lineOf}
+use Rattle.reports.specs.Report.{BlockLine, BlocksReport, Lists, PlateReports, PreparedReports, ProfileReports, Reports, ReportsAs, blockConditions, joined, lineOfRefusal, refusedBlock, wordOfBlock}
 
 -- ---- the line of a block
 
--- the line of what decoding replied
-abbrev lineOf : Plate → Decoded → List ℕ
-lineOf plate (Found a) = lineOfAnswer plate a
-lineOf plate (Refused q) = lineOfRefusal q
-
-module _ (plate : Plate) (prepared : IsPrepared plate) (samples : List ℤ) where
+module _ (order : Order) (plate : Plate) (prepared : IsPrepared plate) (samples : List ℤ) where
   -- working rooms that are just long enough
   abbrev metrics : List ℤ
   metrics = replicate (metricNeed plate) (pos 0)
@@ -43,14 +40,14 @@ module _ (plate : Plate) (prepared : IsPrepared plate) (samples : List ℤ) wher
     metrics′ : List ℤ
     decisions′ : List ℕ
     decodes : Decodes plate samples metrics decisions metrics′ decisions′ decoded
-    is : line ≡ lineOf plate decoded
+    is : line ≡ lineOf order plate decoded
 
   refuses : (q : Refusal) → Refuses (blockConditions plate samples) q → Refuses (decodeConditions plate samples metrics decisions) q
   refuses q (inl x) = inr ((λ p n. n .0 prepared), inl x)
   refuses q (inr (n, inl x)) = inr ((λ p m. m .0 prepared), inr (n, inl x))
   refuses q (inr (n, inr x)) = absurd (x .1)
 
-  in-rooms : (line : List ℕ) → BlockLine plate samples line → InRooms line
+  in-rooms : (line : List ℕ) → BlockLine order plate samples line → InRooms line
   in-rooms line (refusedBlock q r e) = record { decoded = Refused q; metrics′ = metrics; decisions′ = decisions; decodes = (refuses q r, refl, refl); is = e }
   in-rooms line (wordOfBlock a p b e) = record {
     decoded = Found a;
@@ -76,12 +73,12 @@ module _ (plate : Plate) (prepared : IsPrepared plate) (samples : List ℤ) wher
     is = e;
   }
 
-  block-line-determined : (a b : List ℕ) → BlockLine plate samples a → BlockLine plate samples b → a ≡ b
+  block-line-determined : (a b : List ℕ) → BlockLine order plate samples a → BlockLine order plate samples b → a ≡ b
   block-line-determined a b x y =
       let p = in-rooms a x in
       let q = in-rooms b y in
       p .is
-      ∙ ap (lineOf plate) (decode-determined plate samples metrics decisions (p .decoded) (q .decoded) _ _ _ _ (p .decodes) (q .decodes) .0)
+      ∙ ap (lineOf order plate) (decode-determined plate samples metrics decisions (p .decoded) (q .decoded) _ _ _ _ (p .decodes) (q .decodes) .0)
       ∙ sym (q .is)
 
 -- ---- all lines
@@ -89,36 +86,36 @@ module _ (plate : Plate) (prepared : IsPrepared plate) (samples : List ℤ) wher
 both : {a b : List ℕ} {ks ls : List (List ℕ)} → a ≡ b → ks ≡ ls → _≡_ {A = List (List ℕ)} (a ∷ ks) (b ∷ ls)
 both e f = ap₂ (λ (x : List ℕ) (xs : List (List ℕ)). x ∷ xs) e f
 
-module _ (plate : Plate) (prepared : IsPrepared plate) (count : ℕ) where
-  blocks-determined : (blocks : List (List ℤ)) (a b : List (List ℕ)) → BlocksReport plate count blocks a → BlocksReport plate count blocks b → a ≡ b
+module _ (order : Order) (plate : Plate) (prepared : IsPrepared plate) (count : ℕ) where
+  blocks-determined : (blocks : List (List ℤ)) (a b : List (List ℕ)) → BlocksReport order plate count blocks a → BlocksReport order plate count blocks b → a ≡ b
   blocks-determined [] a b x y = x ∙ sym y
   blocks-determined (samples ∷ blocks) [] b x y = absurd x
   blocks-determined (samples ∷ blocks) (k ∷ ks) [] x y = absurd y
   blocks-determined (samples ∷ blocks) (k ∷ ks) (l ∷ ls) x y =
-      both (block-line-determined plate prepared samples k l (x .0) (y .0)) (blocks-determined blocks ks ls (x .1) (y .1))
+      both (block-line-determined order plate prepared samples k l (x .0) (y .0)) (blocks-determined blocks ks ls (x .1) (y .1))
 
-  profile-determined : (blocks : List (List ℤ)) (a b : List (List ℕ)) → ProfileReports plate count blocks a → ProfileReports plate count blocks b → a ≡ b
+  profile-determined : (blocks : List (List ℤ)) (a b : List (List ℕ)) → ProfileReports order plate count blocks a → ProfileReports order plate count blocks b → a ≡ b
   profile-determined blocks [] b x y = absurd x
   profile-determined blocks (k ∷ ks) [] x y = absurd y
   profile-determined blocks (k ∷ ks) (l ∷ ls) x y = both (x .0 ∙ sym (y .0)) (blocks-determined blocks ks ls (x .1) (y .1))
 
-  plate-determined : (blocks : List (List ℤ)) (a b : List (List ℕ)) → PlateReports plate count blocks a → PlateReports plate count blocks b → a ≡ b
+  plate-determined : (blocks : List (List ℤ)) (a b : List (List ℕ)) → PlateReports order plate count blocks a → PlateReports order plate count blocks b → a ≡ b
   plate-determined blocks [] b x y = absurd x
   plate-determined blocks (k ∷ ks) [] x y = absurd y
   plate-determined blocks (k ∷ ks) (l ∷ ls) x y = both (x .0 ∙ sym (y .0)) (profile-determined blocks ks ls (x .1) (y .1))
 
 module _ (sheet : Contents) (r : Prepared) (p : Prepares (sheet .n) (sheet .kind) (sheet .rows) r) where
-  prepared-determined : (v : Verdict) → r .verdict ≡ v → (a b : List (List ℕ)) → PreparedReports v (r .plate) (sheet .blocks) a → PreparedReports v (r .plate) (sheet .blocks) b → a ≡ b
+  prepared-determined : (v : Verdict) → r .verdict ≡ v → (a b : List (List ℕ)) → PreparedReports v (sheet .order) (r .plate) (sheet .blocks) a → PreparedReports v (sheet .order) (r .plate) (sheet .blocks) b → a ≡ b
   prepared-determined (J.Refused q) e a b x y = x ∙ sym y
   prepared-determined J.Accepted e a b x y =
-      plate-determined (r .plate) (accepted-prepared (sheet .n) (sheet .kind) (sheet .rows) r p e) (length (sheet .blocks)) (sheet .blocks) a b x y
+      plate-determined (sheet .order) (r .plate) (accepted-prepared (sheet .n) (sheet .kind) (sheet .rows) r p e) (length (sheet .blocks)) (sheet .blocks) a b x y
 
 by-reading : (found : Reading) (a b : List (List ℕ)) → ReportsAs found a → ReportsAs found b → a ≡ b
 by-reading (refused q) a b x y = x ∙ sym y
 by-reading (says sheet) a b x y =
     let e = prepare-determined (sheet .n) (sheet .kind) (sheet .rows) (y .prepared) (x .prepared) (y .prepares) (x .prepares) in
     prepared-determined sheet (x .prepared) (x .prepares) (x .prepared .verdict) refl a b (x .is)
-    (subst (λ (r : Prepared). PreparedReports (r .verdict) (r .plate) (sheet .blocks) b) e (y .is))
+    (subst (λ (r : Prepared). PreparedReports (r .verdict) (sheet .order) (r .plate) (sheet .blocks) b) e (y .is))
 
 -- an input has one list of lines
 pub report-determined : (input : List ℕ) (a b : List (List ℕ)) → Reports input a → Reports input b → a ≡ b

@@ -15,8 +15,10 @@ use Rattle.decoding.specs.declared.Decoded.the-variants as D
 use Rattle.listings.proofs.Determined.{write-end-determined, write-plate-determined, write-profile-determined, write-refused-determined, write-word-determined}
 use Rattle.listings.specs.declared.Written.{Written}
 use Rattle.sheets.specs.Blocks.{BlockFound, block, blockAt, nextLine, noBlock}
+use Rattle.sheets.specs.Turning.{inOrder}
 use Rattle.sheets.specs.Sheet.{Reading, says, refused, reading, startOf}
 use lib.ListN.{length}
+use Rattle.reports.specs.Printed.{printedAs}
 use Rattle.reports.specs.declared.Stage.{Stage}
 use Rattle.reports.specs.declared.Stage.the-variants as S
 use Rattle.reports.specs.declared.Report.{Report}
@@ -29,7 +31,7 @@ opens-same : (input : List ℕ) (found : Reading) (a b : Report) → OpensAs inp
 opens-same input (refused q) a b x y = x ∙ sym y
 opens-same input (says c) a b x y =
     let e = prepare-determined (c .n) (c .kind) (c .rows) (x .prepared) (y .prepared) (x .prepares) (y .prepares) in
-    x .is ∙ ap (λ (r : Prepared). reportBy (r .verdict) (r .plate) (startOf input c) (length (c .blocks))) e ∙ sym (y .is)
+    x .is ∙ ap (λ (r : Prepared). reportBy (r .verdict) (r .plate) (c .order) (startOf input c) (length (c .blocks))) e ∙ sym (y .is)
 
 pub open-determined : (input : List ℕ) (a b : Report) → Opens input a → Opens input b → a ≡ b
 open-determined input a b x y = opens-same input (reading input) a b (x .is) (y .is)
@@ -56,7 +58,7 @@ module _ (before after : Report) (s t : Step) where
 
   decoded-same : (d : Decoded) (room a b : List ℕ) → DecodedStep d before after room s a → DecodedStep d before after room t b → (s ≡ t) × (a ≡ b)
   decoded-same (D.Found a) room c d x y =
-      written-same _ (λ w v e f. write-word-determined (before .plate) (a .word) (a .metric) (a .counts .additions) (a .counts .comparisons)) c d x y
+      written-same _ (λ w v e f. write-word-determined (before .plate) (printedAs (before .order) (before .plate .n) (a .word)) (a .metric) (a .counts .additions) (a .counts .comparisons)) c d x y
   decoded-same (D.Refused q) room a b x y = refused-same (ofBlock q) q room a b x y
 
   module _ (lent a b : Lent) where
@@ -86,7 +88,7 @@ module _ (before after : Report) (s t : Step) where
 
 module _ (report : Report) (s t : Step) (lent a b : Lent) where
   blocks-same : (found : BlockFound) (next : ℕ) → BlocksStep found next report lent s a → BlocksStep found next report lent t b → (s ≡ t) × (a ≡ b)
-  blocks-same (block samples) next x y = room-same report _ s t lent a b samples x y
+  blocks-same (block listed) next x y = room-same report _ s t lent a b (inOrder (report .order) listed) x y
   blocks-same noBlock next x y = line-same report _ s t lent a b _ (λ w v c d. write-end-determined (report .blocks)) x y
 
   stage-same : (input : List ℕ) (stage : Stage) → StepsAt stage input report lent s a → StepsAt stage input report lent t b → (s ≡ t) × (a ≡ b)

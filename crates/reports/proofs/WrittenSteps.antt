@@ -6,6 +6,7 @@ use mathlib.Core.Path.{_≡_, refl, subst, sym}
 use Rattle.plates.specs.declared.Refusal.{Refusal}
 use Rattle.plates.specs.Refusals.{number, place}
 use Rattle.decoding.specs.declared.Answer.{Answer}
+use Rattle.reports.specs.Printed.{printedAs}
 use Rattle.reports.specs.Report.{lineOfAnswer}
 use Rattle.listings.specs.declared.Written.{Written}
 use Rattle.listings.specs.Writing.{WritesOf, WritesRefused, WritesWord}
@@ -30,11 +31,12 @@ pub refusal-written : {before after : Report} {step : Step} {room room′ : List
 refusal-written written q e f w s = writes-step written refl (rw (← e, ← f) w) s
 
 -- the line of an answer, whose metric is passed on
-pub answer-written : {before after : Report} {step : Step} {room room′ : List ℕ} (written : Written) (a : Answer) {metric : ℤ} → metric ≡ a .metric
-    → WritesWord (before .plate) (a .word) metric (a .counts .additions) (a .counts .comparisons) room written room′ → step ≡ stepBy written before after
-    → WritesStep (WritesOf (before .plate) (lineOfAnswer (before .plate) a) room) before after step room′
-answer-written {before = before} {room = room} {room′ = room′} written a e w s = writes-step written refl
-    (subst (λ (m : ℤ). WritesWord (before .plate) (a .word) m (a .counts .additions) (a .counts .comparisons) room written room′) e w) s
+pub answer-written : {before after : Report} {step : Step} {room room′ : List ℕ} (written : Written) (a : Answer) {word : ℕ} {metric : ℤ}
+    → word ≡ printedAs (before .order) (before .plate .n) (a .word) → metric ≡ a .metric
+    → WritesWord (before .plate) word metric (a .counts .additions) (a .counts .comparisons) room written room′ → step ≡ stepBy written before after
+    → WritesStep (WritesOf (before .plate) (lineOfAnswer (before .order) (before .plate) a) room) before after step room′
+answer-written {before = before} {room = room} {room′ = room′} written a p e w s = writes-step written refl
+    (subst (λ (m : ℤ). WritesWord (before .plate) (printedAs (before .order) (before .plate .n) (a .word)) m (a .counts .additions) (a .counts .comparisons) room written room′) e (rw (← p) w)) s
 
 module _ (q : Refusal) (before after : Report) {room room′ : List ℕ} {step : Step} {r : Bool} (e : r ≡ ofBlock q) where
   -- a refusal that is printed

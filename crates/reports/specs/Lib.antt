@@ -1,4 +1,6 @@
+pub mod Printed
 pub mod Report
+pub mod Answers
 pub mod Steps
 pub mod Turns
 pub mod Remaining

@@ -11,15 +11,16 @@ use Rattle.plates.specs.Refusals.{Passes, Refuses}
 use Rattle.decoding.specs.Decode.{Zeroed}
 use Rattle.sheets.specs.Blocks.{blocksOf}
 use Rattle.sheets.specs.Text.{linesFrom}
+use Rattle.sheets.specs.Turning.{byPosition}
 use Rattle.reports.specs.declared.Report.{Report}
 use Rattle.reports.specs.declared.Stage.{Stage}
 use Rattle.reports.specs.declared.Stage.the-variants as S
 use Rattle.reports.specs.Steps.{Lent}
 use Rattle.reports.specs.Report.{BlocksReport, PlateReports, ProfileReports, blockConditions, lineOfRefusal}
 
--- the blocks that are left
+-- the blocks that are left, in order of position
 abbrev pub blocksAt : List ℕ → Report → List (List ℤ)
-blocksAt input report = blocksOf (linesFrom input (report .at))
+blocksAt input report = byPosition (report .order) (blocksOf (linesFrom input (report .at)))
 
 -- at a stage where the plate is used, it is prepared
 abbrev pub ReadyAt : Stage → Plate → Type 0
@@ -37,9 +38,9 @@ Ready report = ReadyAt (report .stage) (report .plate)
 -- the lines that are left
 abbrev pub LeftAt : Stage → List ℕ → Report → List (List ℕ) → Type 0
 LeftAt (S.Refused q) input report lines = lines ≡ lineOfRefusal q ∷ []
-LeftAt S.PlateLine input report lines = PlateReports (report .plate) (report .blocks) (blocksAt input report) lines
-LeftAt S.ProfileLine input report lines = ProfileReports (report .plate) (report .blocks) (blocksAt input report) lines
-LeftAt S.BlockLines input report lines = BlocksReport (report .plate) (report .blocks) (blocksAt input report) lines
+LeftAt S.PlateLine input report lines = PlateReports (report .order) (report .plate) (report .blocks) (blocksAt input report) lines
+LeftAt S.ProfileLine input report lines = ProfileReports (report .order) (report .plate) (report .blocks) (blocksAt input report) lines
+LeftAt S.BlockLines input report lines = BlocksReport (report .order) (report .plate) (report .blocks) (blocksAt input report) lines
 LeftAt S.Done input report lines = lines ≡ []
 
 abbrev pub Left : List ℕ → Report → List (List ℕ) → Type 0

@@ -15,7 +15,9 @@ use Rattle.decoding.specs.declared.Answer.{Answer}
 use Rattle.decoding.specs.Decode.{Best, SampleOver, sampleCount}
 use Rattle.listings.specs.Lines.{plateLine, profileLine, wordLine, refusedLine, endLine}
 use Rattle.listings.specs.Writing.{entriesOf}
+use Rattle.sheets.specs.declared.Order.{Order}
 use Rattle.sheets.specs.Sheet.{Contents, Reading, says, refused, reading}
+use Rattle.reports.specs.Printed.{printedAs}
 
 -- ---- the kinds of line
 
@@ -31,9 +33,9 @@ lineOfPlate plate = plateLine (plate .n) (plate .k) (entriesOf plate)
 abbrev pub lineOfProfile : Plate → List ℕ
 lineOfProfile plate = profileLine (entriesOf plate)
 
--- the answer of decoding: word, metric, additions, comparisons
-abbrev pub lineOfAnswer : Plate → Answer → List ℕ
-lineOfAnswer plate a = wordLine (plate .n) (a .word) (a .metric) (a .counts .additions) (a .counts .comparisons)
+-- the answer of decoding: word in the cover's order, metric, additions, comparisons
+abbrev pub lineOfAnswer : Order → Plate → Answer → List ℕ
+lineOfAnswer order plate a = wordLine (plate .n) (printedAs order (plate .n) (a .word)) (a .metric) (a .counts .additions) (a .counts .comparisons)
 
 -- ---- blocks
 
@@ -41,39 +43,39 @@ lineOfAnswer plate a = wordLine (plate .n) (a .word) (a .metric) (a .counts .add
 abbrev pub blockConditions : Plate → List ℤ → List (Refusal → Type 0)
 blockConditions plate samples = sampleCount plate samples ∷ SampleOver samples ∷ []
 
--- the line of a block: its refusal, or the word of greatest correlation
-pub data BlockLine (plate : Plate) (samples : List ℤ) (line : List ℕ) : Type 0 where
-  refusedBlock : (q : Refusal) → Refuses (blockConditions plate samples) q → line ≡ lineOfRefusal q → BlockLine plate samples line
-  wordOfBlock : (a : Answer) → Passes (blockConditions plate samples) → Best plate samples a → line ≡ lineOfAnswer plate a → BlockLine plate samples line
+-- the line of a block, its samples in order of position: its refusal, or the word of greatest correlation
+pub data BlockLine (order : Order) (plate : Plate) (samples : List ℤ) (line : List ℕ) : Type 0 where
+  refusedBlock : (q : Refusal) → Refuses (blockConditions plate samples) q → line ≡ lineOfRefusal q → BlockLine order plate samples line
+  wordOfBlock : (a : Answer) → Passes (blockConditions plate samples) → Best plate samples a → line ≡ lineOfAnswer order plate a → BlockLine order plate samples line
 
 -- a line for each block in order, and the end line with the number of block lines, refused ones included
-abbrev pub BlocksReport : Plate → ℕ → List (List ℤ) → List (List ℕ) → Type 0
-BlocksReport plate count [] lines = lines ≡ endLine count ∷ []
-BlocksReport plate count (samples ∷ blocks) [] = ⊥
-BlocksReport plate count (samples ∷ blocks) (line ∷ lines) = BlockLine plate samples line × BlocksReport plate count blocks lines
+abbrev pub BlocksReport : Order → Plate → ℕ → List (List ℤ) → List (List ℕ) → Type 0
+BlocksReport order plate count [] lines = lines ≡ endLine count ∷ []
+BlocksReport order plate count (samples ∷ blocks) [] = ⊥
+BlocksReport order plate count (samples ∷ blocks) (line ∷ lines) = BlockLine order plate samples line × BlocksReport order plate count blocks lines
 
 -- ---- the whole
 
 -- the profile line, and those of the blocks
-abbrev pub ProfileReports : Plate → ℕ → List (List ℤ) → List (List ℕ) → Type 0
-ProfileReports plate count blocks [] = ⊥
-ProfileReports plate count blocks (line ∷ lines) = (line ≡ lineOfProfile plate) × BlocksReport plate count blocks lines
+abbrev pub ProfileReports : Order → Plate → ℕ → List (List ℤ) → List (List ℕ) → Type 0
+ProfileReports order plate count blocks [] = ⊥
+ProfileReports order plate count blocks (line ∷ lines) = (line ≡ lineOfProfile plate) × BlocksReport order plate count blocks lines
 
 -- the plate line before them
-abbrev pub PlateReports : Plate → ℕ → List (List ℤ) → List (List ℕ) → Type 0
-PlateReports plate count blocks [] = ⊥
-PlateReports plate count blocks (line ∷ lines) = (line ≡ lineOfPlate plate) × ProfileReports plate count blocks lines
+abbrev pub PlateReports : Order → Plate → ℕ → List (List ℤ) → List (List ℕ) → Type 0
+PlateReports order plate count blocks [] = ⊥
+PlateReports order plate count blocks (line ∷ lines) = (line ≡ lineOfPlate plate) × ProfileReports order plate count blocks lines
 
 -- a matrix that is refused prints one line and nothing more
-abbrev pub PreparedReports : Verdict → Plate → List (List ℤ) → List (List ℕ) → Type 0
-PreparedReports (J.Refused q) plate blocks lines = lines ≡ lineOfRefusal q ∷ []
-PreparedReports J.Accepted plate blocks lines = PlateReports plate (length blocks) blocks lines
+abbrev pub PreparedReports : Verdict → Order → Plate → List (List ℤ) → List (List ℕ) → Type 0
+PreparedReports (J.Refused q) order plate blocks lines = lines ≡ lineOfRefusal q ∷ []
+PreparedReports J.Accepted order plate blocks lines = PlateReports order plate (length blocks) blocks lines
 
 -- the sheet's matrix is prepared
 pub record SheetReports (sheet : Contents) (lines : List (List ℕ)) : Type 0 where
   pub prepared : Prepared
   pub prepares : Prepares (sheet .n) (sheet .kind) (sheet .rows) prepared
-  pub is : PreparedReports (prepared .verdict) (prepared .plate) (sheet .blocks) lines
+  pub is : PreparedReports (prepared .verdict) (sheet .order) (prepared .plate) (sheet .blocks) lines
 
 -- a sheet that is refused prints one line and nothing more
 abbrev pub ReportsAs : Reading → List (List ℕ) → Type 0

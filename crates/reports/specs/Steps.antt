@@ -22,6 +22,9 @@ use Rattle.listings.specs.declared.Written.{Written}
 use Rattle.listings.specs.declared.Written.the-variants as W
 use Rattle.listings.specs.Writing.{WritesPlate, WritesProfile, WritesOf, WritesRefused, WritesEnd}
 use Rattle.sheets.specs.Blocks.{BlockFound, block, noBlock, blockAt, nextLine}
+use Rattle.sheets.specs.Turning.{inOrder}
+use Rattle.sheets.specs.declared.Order.{Order}
+use Rattle.sheets.specs.declared.Order.the-variants.{First}
 use Rattle.sheets.specs.Sheet.{Reading, says, refused, reading, startOf}
 use Rattle.reports.specs.declared.Stage.{Stage}
 use Rattle.reports.specs.declared.Stage.the-variants as S
@@ -34,22 +37,22 @@ use Rattle.reports.specs.Report.{lineOfAnswer}
 
 -- the report that says a refusal, and nothing more
 abbrev pub refusedReport : Refusal → Report
-refusedReport q = record { stage = S.Refused q; plate = zeroPlate; at = 0; blocks = 0 }
+refusedReport q = record { stage = S.Refused q; plate = zeroPlate; order = First; at = 0; blocks = 0 }
 
 -- the report of a sheet whose first block line, or end, begins at `at`, by what preparing says
-abbrev pub reportBy : Verdict → Plate → ℕ → ℕ → Report
-reportBy (J.Refused q) plate at blocks = refusedReport q
-reportBy J.Accepted plate at blocks = record { stage = S.PlateLine; plate = plate; at = at; blocks = blocks }
+abbrev pub reportBy : Verdict → Plate → Order → ℕ → ℕ → Report
+reportBy (J.Refused q) plate order at blocks = refusedReport q
+reportBy J.Accepted plate order at blocks = record { stage = S.PlateLine; plate = plate; order = order; at = at; blocks = blocks }
 
 -- a sheet that is not refused: its matrix is prepared
-pub record OpensSheet (n : ℕ) (kind : Kind) (rows : List ℕ) (at blocks : ℕ) (r : Report) : Type 0 where
+pub record OpensSheet (n : ℕ) (kind : Kind) (rows : List ℕ) (order : Order) (at blocks : ℕ) (r : Report) : Type 0 where
   pub prepared : Prepared
   pub prepares : Prepares n kind rows prepared
-  pub is : r ≡ reportBy (prepared .verdict) (prepared .plate) at blocks
+  pub is : r ≡ reportBy (prepared .verdict) (prepared .plate) order at blocks
 
 abbrev pub OpensAs : List ℕ → Reading → Report → Type 0
 OpensAs input (refused q) r = r ≡ refusedReport q
-OpensAs input (says sheet) r = OpensSheet (sheet .n) (sheet .kind) (sheet .rows) (startOf input sheet) (length (sheet .blocks)) r
+OpensAs input (says sheet) r = OpensSheet (sheet .n) (sheet .kind) (sheet .rows) (sheet .order) (startOf input sheet) (length (sheet .blocks)) r
 
 -- What opening replies: the report of the input, which stands before its first line
 pub record Opens (input : List ℕ) (r : Report) : Type 0 where
@@ -59,7 +62,7 @@ pub record Opens (input : List ℕ) (r : Report) : Type 0 where
 
 -- the same report, at another stage and place
 abbrev pub to : Stage → ℕ → Report → Report
-to stage at report = record { stage = stage; plate = report .plate; at = at; blocks = report .blocks }
+to stage at report = record { stage = stage; plate = report .plate; order = report .order; at = at; blocks = report .blocks }
 
 -- the profile line comes next
 abbrev pub toProfile : Report → Report
@@ -123,10 +126,15 @@ abbrev pub RefusedStep : Bool → Refusal → Report → Report → List ℕ →
 RefusedStep true q before after room step room′ = WritesStep (WritesRefused (number q) (place q) room) before after step room′
 RefusedStep false q before after room step room′ = (step ≡ refusedStep q before) × (room′ ≡ room)
 
+-- an answer is of a plate whose words have at most 64 positions
+abbrev pub Printable : Decoded → Plate → Type 0
+Printable (D.Found a) plate = plate .n ≤ 64
+Printable (D.Refused q) plate = Unit {0}
+
 -- the step by what decoding replied
 abbrev pub DecodedStep : Decoded → Report → Report → List ℕ → Step → List ℕ → Type 0
 DecodedStep (D.Found a) before after room step room′ =
-    WritesStep (WritesOf (before .plate) (lineOfAnswer (before .plate) a) room) before after step room′
+    WritesStep (WritesOf (before .plate) (lineOfAnswer (before .order) (before .plate) a) room) before after step room′
 DecodedStep (D.Refused q) before after room step room′ = RefusedStep (ofBlock q) q before after room step room′
 
 -- what is lent to a call, and what it leaves
@@ -164,9 +172,9 @@ pub data RoomStep (samples : List ℤ) (before after : Report) (lent : Lent) (st
   short : length (lent .room) < 256 → StillStep (refusedStep LineRoom before) lent step left → RoomStep samples before after lent step left
   enough : 256 ≤ length (lent .room) → BlockStep samples before after lent step left → RoomStep samples before after lent step left
 
--- at a place of the input: the block line there, or the end line
+-- at a place of the input: the block line there, its listed samples taken in order of position, or the end line
 abbrev pub BlocksStep : BlockFound → ℕ → Report → Lent → Step → Lent → Type 0
-BlocksStep (block samples) next report lent step left = RoomStep samples report (toBlocks next report) lent step left
+BlocksStep (block listed) next report lent step left = RoomStep (inOrder (report .order) listed) report (toBlocks next report) lent step left
 BlocksStep noBlock next report lent step left = LineStep (WritesEnd (report .blocks) (lent .room)) report (toNothing report) lent step left
 
 -- the step at each stage of a report

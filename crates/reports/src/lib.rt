@@ -9,10 +9,12 @@ use listings::Written;
 use plates::Plate;
 use plates::Refusal;
 use plates::Verdict;
+use sheets::Order;
 use sheets::Sheet;
 use sheets::SheetReply;
 
 mod listing;
+mod printing;
 mod stages;
 
 // What comes next in a report: the line of a refusal, the plate's, the profile's, those of the blocks from a place on and then the end
@@ -25,10 +27,12 @@ pub enum Stage {
     Done,
 }
 
-// A report: what comes next, the prepared plate, the place of the next block line (or of end), and the number of the sheet's block lines.
+// A report: what comes next, the prepared plate, the cover's order, the place of the next block line (or of end), and the number of the sheet's
+// block lines.
 pub struct Report {
     pub stage: Stage,
     pub plate: Plate,
+    pub order: Order,
     pub at: usize,
     pub blocks: usize,
 }
@@ -58,6 +62,7 @@ fn refused(refusal: Refusal) -> Report
             rows: [0; 64],
             profile: [0; 65],
         },
+        order: Order::First,
         at: 0,
         blocks: 0,
     }
@@ -66,11 +71,12 @@ fn refused(refusal: Refusal) -> Report
 // The report of a sheet, whose rows stand at the start of the table.
 fn of_sheet(sheet: Sheet, table: &[u64; 64]) -> Report
     requires { ⌜ sheet .rows ≤ length (now table) ⌝ }
-    ensures { λ r. ⌜ OpensSheet (sheet .n) (sheet .kind) (take (sheet .rows) (now (table .entry))) (sheet .start) (sheet .blocks) r ⌝ }
+    ensures { λ r. ⌜ OpensSheet (sheet .n) (sheet .kind) (take (sheet .rows) (now (table .entry))) (sheet .order) (sheet .start) (sheet .blocks) r ⌝ }
 {
     let rows = &table[..];
     let count = sheet.rows;
     let kind = sheet.kind;
+    let order = sheet.order;
     let prepared = plates::prepare(sheet.n, kind, &rows[..count]);
     let verdict = prepared.verdict;
     match verdict {
@@ -80,6 +86,7 @@ fn of_sheet(sheet: Sheet, table: &[u64; 64]) -> Report
             Report {
                 stage: Stage::PlateLine,
                 plate,
+                order,
                 at: sheet.start,
                 blocks: sheet.blocks,
             }

@@ -5,12 +5,13 @@ ghost use lib.ListN.{length, take};
 ghost use Rattle.plates.specs.Refusals.{number, place};
 ghost use Rattle.listings.specs.Writing.{WritesEnd, WritesOf, WritesPlate, WritesProfile, WritesRefused};
 ghost use Rattle.reports.specs.Report.{lineOfAnswer};
-ghost use Rattle.reports.specs.Steps.{BlocksStep, DecodedStep, RefusedStep, RoomStep, WritesStep, decodable, lends, ofBlock, refusedStep, stepBy, to, toBlocks, toNothing, toProfile};
+ghost use Rattle.reports.specs.Steps.{BlocksStep, DecodedStep, Printable, RefusedStep, RoomStep, WritesStep, decodable, lends, ofBlock, refusedStep, stepBy, to, toBlocks, toNothing, toProfile};
 ghost use Rattle.sheets.specs.Blocks.{blockAt, nextLine};
 use crate::Outcome;
 use crate::Report;
 use crate::Stage;
 use crate::Step;
+use crate::printing::printed_word;
 use decoding::Answer;
 use decoding::Decoded;
 use listings::Written;
@@ -24,9 +25,11 @@ fn at_stage(report: Report, stage: Stage, at: usize) -> Report
     ensures { λ r. ⌜ r ≡ to stage at report ⌝ }
 {
     let plate = report.plate;
+    let order = report.order;
     Report {
         stage,
         plate,
+        order,
         at,
         blocks: report.blocks,
     }
@@ -109,16 +112,19 @@ fn end_line(report: Report, room: &mut [u8]) -> Step
 
 // ---- blocks
 
-// The line of an answer.
+// The line of an answer, its word in the cover's order.
 fn word_line(before: Report, after: Report, answer: Answer, room: &mut [u8]) -> Step
-    ensures { λ r. ⌜ WritesStep (WritesOf (before .plate) (lineOfAnswer (before .plate) answer) (now (room .entry))) before after r (now (room .exit)) ⌝ }
+    requires { ⌜ before .plate .n ≤ 64 ⌝ }
+    ensures { λ r. ⌜ WritesStep (WritesOf (before .plate) (lineOfAnswer (before .order) (before .plate) answer) (now (room .entry))) before after r (now (room .exit)) ⌝ }
 {
     let plate = before.plate;
     let counts = answer.counts;
+    let order = before.order;
+    let word = printed_word(order, plate.n, answer.word);
     step_by(
         listings::write_word(
             plate,
-            answer.word,
+            word,
             answer.metric,
             counts.additions,
             counts.comparisons,
@@ -167,6 +173,7 @@ fn refused_block(before: Report, after: Report, refusal: Refusal, room: &mut [u8
 
 // The line of what decoding replied.
 fn decoded_line(before: Report, after: Report, decoded: Decoded, room: &mut [u8]) -> Step
+    requires { ⌜ Printable decoded (before .plate) ⌝ }
     ensures { λ r. ⌜ DecodedStep decoded before after (now (room .entry)) r (now (room .exit)) ⌝ }
 {
     match decoded {
@@ -218,7 +225,8 @@ pub fn block_line(
     ensures { λ r. ⌜ BlocksStep (blockAt (now (input .entry)) (report .at)) (nextLine (now (input .entry)) (report .at)) report (lends (now (metrics .entry)) (now (decisions .entry)) (now (room .entry))) r (lends (now (metrics .exit)) (now (decisions .exit)) (now (room .exit))) ⌝ }
 {
     let mut values = [0; 64];
-    let reply = sheets::read_block(input, report.at, &mut values);
+    let order = report.order;
+    let reply = sheets::read_block(input, report.at, order, &mut values);
     match reply {
         BlockReply::Read { samples, next } => {
             samples_line(report, next, samples, &values, metrics, decisions, room)

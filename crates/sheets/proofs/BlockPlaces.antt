@@ -9,8 +9,9 @@ use native.Mathlib.Omega.{arith}
 use Rattle.sheets.specs.Text.{lineFeed, fields}
 use Rattle.sheets.specs.Numbers.{sampleOf}
 use Rattle.sheets.specs.Words.{wordOf}
-use Rattle.sheets.specs.Blocks.{isSample, samplesOf, valuesOf, blockBy, blockLine, BlockFound, block, noBlock, samplesFound, blockAt, nextLine, blockReply, roomAfter}
-use Rattle.sheets.specs.Readers.{BlockRead, Ended, LineRead, Until}
+use Rattle.sheets.specs.Blocks.{isSample, samplesOf, valuesOf, blockBy, blockLine, BlockFound, block, noBlock, samplesFound, blockAt, nextLine, blockReply, placed, roomAfter}
+use Rattle.sheets.specs.Readers.{BlockRead, Ended, Until}
+use Rattle.sheets.specs.declared.Order.{Order}
 use Rattle.sheets.specs.declared.word.Word.{Word}
 use Rattle.sheets.specs.declared.word.Word.the-variants.{Cover, Row, Block, End, Other}
 use Rattle.sheets.specs.declared.block.Samples.{Samples}
@@ -39,7 +40,7 @@ word-counts Block fs k e = let q = counts 0 k fs e in omega arith
 word-counts End fs k e = impossible e
 word-counts Other fs k e = impossible e
 
-line-counts : (fs : List (List ℕ)) (k : ℕ) → blockLine fs ≡ Count k → length (valuesOf (drop 1 fs)) ≡ k
+pub line-counts : (fs : List (List ℕ)) (k : ℕ) → blockLine fs ≡ Count k → length (valuesOf (drop 1 fs)) ≡ k
 line-counts [] k e = impossible e
 line-counts (w ∷ fs) k e = word-counts (wordOf w) fs k e
 
@@ -53,9 +54,9 @@ none-read : (s : List ℕ) (at : ℕ) → blockAt s at ≡ noBlock → BlockRead
 none-read s at e = record { reply = rw e; place = λ k next q. no-reply q }
 
 -- then the room stays as it was
-pub room-stays : (b : BlockFound) (next : ℕ) (room : List ℤ) → NoBlock ≡ blockReply next b → room ≡ roomAfter room b
-room-stays (block vs) next room q = no-reply q
-room-stays noBlock next room q = refl
+pub room-stays : (order : Order) (b : BlockFound) (next : ℕ) (room : List ℤ) → NoBlock ≡ blockReply next b → room ≡ roomAfter order room b
+room-stays order (block vs) next room q = no-reply q
+room-stays order noBlock next room q = refl
 
 -- past the end there is no line
 pub past-end : (s : List ℕ) (at : ℕ) → length s < at → BlockRead s at NoBlock
@@ -98,11 +99,18 @@ module _ (s : List ℕ) (at r : ℕ) (h : at ≤ length s) (u : Until lineFeed s
         place-of : {j next : ℕ} → Read k (r + 1) ≡ Read j next → r + 1 ≡ next
         place-of q = cc
 
-    -- its samples, read once more into the room
-    pub stored-there : (k next : ℕ) → Read k next ≡ blockReply (nextLine s at) (blockAt s at) → (room : List ℤ) (q : Samples) (room′ : List ℤ)
-        → LineRead (fields text) room q room′ → room′ ≡ roomAfter room (blockAt s at)
-    stored-there k next e room q room′ t = by (blockLine (fields text)) refl
-      where
-        by : (d : Samples) → blockLine (fields text) ≡ d → room′ ≡ roomAfter room (blockAt s at)
-        by (Count j) g = rw (found, g) (t .stored j (t .is ∙ g))
-        by (Bad f) g = no-reply (sym (rw (found, g) at e))
+    module _ (k next : ℕ) (e : Read k next ≡ blockReply (nextLine s at) (blockAt s at)) where
+      -- it has as many samples as were counted
+      pub counted-there : blockLine (fields text) ≡ Count k
+      counted-there = by (blockLine (fields text)) refl
+        where
+          by : (d : Samples) → blockLine (fields text) ≡ d → blockLine (fields text) ≡ Count k
+          by (Count j) g =
+              let f : Read k next ≡ Read (length (valuesOf (drop 1 (fields text)))) (nextLine s at) = rw (found, g) at e in
+              let c : k ≡ length (valuesOf (drop 1 (fields text))) = cc in
+              g ∙ ap Count (sym (c ∙ line-counts (fields text) j g))
+          by (Bad f) g = no-reply (sym (rw (found, g) at e))
+
+      -- its samples in their places
+      pub placed-there : (order : Order) (room room′ : List ℤ) → room′ ≡ placed order (valuesOf (drop 1 (fields text))) room → room′ ≡ roomAfter order room (blockAt s at)
+      placed-there order room room′ t = rw (found, counted-there) t

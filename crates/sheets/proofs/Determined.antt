@@ -6,6 +6,7 @@ use mathlib.Core.Path.{_≡_, sym, _∙_}
 use Rattle.sheets.specs.Blocks.{ReadsBlock}
 use Rattle.sheets.specs.Sheet.{ReadsSheet}
 use Rattle.sheets.specs.declared.BlockReply.{BlockReply}
+use Rattle.sheets.specs.declared.Order.{Order}
 use Rattle.sheets.specs.declared.SheetReply.{SheetReply}
 
 -- `read_sheet`: the reply and the table
@@ -13,6 +14,6 @@ pub sheet-determined : {s table : List ℕ} {r₁ r₂ : SheetReply} {t₁ t₂ 
 sheet-determined a b = (a .reply ∙ sym (b .reply), a .rows ∙ sym (b .rows))
 
 -- `read_block`: the reply and the room
-pub block-determined : {s : List ℕ} {at : ℕ} {room : List ℤ} {r₁ r₂ : BlockReply} {t₁ t₂ : List ℤ} → ReadsBlock s at room r₁ t₁ → ReadsBlock s at room r₂ t₂
+pub block-determined : {s : List ℕ} {at : ℕ} {order : Order} {room : List ℤ} {r₁ r₂ : BlockReply} {t₁ t₂ : List ℤ} → ReadsBlock s at order room r₁ t₁ → ReadsBlock s at order room r₂ t₂
     → (r₁ ≡ r₂) × (t₁ ≡ t₂)
 block-determined a b = (a .reply ∙ sym (b .reply), a .samples ∙ sym (b .samples))

@@ -15,7 +15,9 @@ use Rattle.plates.specs.declared.Verdict.the-variants as J
 use Rattle.sheets.specs.Text.{lineFeed, till, lines, linesFrom, begins}
 use Rattle.sheets.specs.Blocks.{BlockFound, block, noBlock, blocksOf, blockAt, nextLine, blockPlace}
 use Rattle.sheets.specs.Sheet.{Contents, contents, endingAfter, lineVerdict, startOf, says, reading}
+use Rattle.sheets.specs.Turning.{byPosition, inOrder}
 use Rattle.sheets.specs.Readers.{Ended, Until}
+use Rattle.sheets.specs.declared.Order.{Order}
 use Rattle.sheets.specs.declared.line.Fault.the-variants.{Missing}
 use Rattle.sheets.specs.declared.body.Ending.{Ending}
 use Rattle.sheets.specs.declared.body.Ending.the-variants.{Fine, NoEnd, After}
@@ -25,6 +27,7 @@ use Rattle.sheets.proofs.Endings.{line-closed}
 use Rattle.sheets.proofs.BlockPlaces.{next-is}
 use Rattle.sheets.proofs.BlockRuns.{blocks-more, blocks-none}
 use Rattle.sheets.proofs.Ranges.{accepted, Accepts, all-pass}
+use Rattle.sheets.proofs.Turns.{by-position-entry, by-position-length}
 
 -- ---- where a line ends
 
@@ -155,22 +158,38 @@ line-left s a e =
     never : NoEnd Missing ≡ Fine → ⊥
     never q = let z : _≡_ {A = ℕ} 0 1 = cc in omega arith
 
-start-case : (s : List ℕ) → Accepts s → blocksOf (linesFrom s (startOf s (contents s))) ≡ (contents s) .blocks
+start-case : (s : List ℕ) → Accepts s → byPosition ((contents s) .order) (blocksOf (linesFrom s (startOf s (contents s)))) ≡ (contents s) .blocks
 unfolding contents
 start-case s a =
-    ap blocksOf (from-first s (suc (length ((contents s) .rows))) (line-left s a) ∙ sym (drop-one (length ((contents s) .rows)) (lines s)))
+    ap (λ (ls : List (List ℕ)). byPosition ((contents s) .order) (blocksOf ls))
+    (from-first s (suc (length ((contents s) .rows))) (line-left s a) ∙ sym (drop-one (length ((contents s) .rows)) (lines s)))
 
--- the blocks of a sheet are the block lines from its start on
-pub blocks-from-start : (s : List ℕ) (c : Contents) → reading s ≡ says c → blocksOf (linesFrom s (startOf s c)) ≡ c .blocks
+-- the blocks of a sheet are the block lines from its start on, in order of position
+pub blocks-from-start : (s : List ℕ) (c : Contents) → reading s ≡ says c → byPosition (c .order) (blocksOf (linesFrom s (startOf s c))) ≡ c .blocks
 blocks-from-start s c e = let a = accepted s c e in rw (← (a .1)) (start-case s (all-pass s (a .0)))
+
+-- as many as these are
+pub blocks-counted : (s : List ℕ) (c : Contents) → reading s ≡ says c → length (blocksOf (linesFrom s (startOf s c))) ≡ length (c .blocks)
+blocks-counted s c e = sym (by-position-length (c .order) (blocksOf (linesFrom s (startOf s c)))) ∙ ap length (blocks-from-start s c e)
+
+-- the block line that is found at a place lists these samples
+pub record ListedAt (s : List ℕ) (at : ℕ) (order : Order) (samples : List ℤ) : Type 0 where
+  pub listed : List ℤ
+  pub found : blockAt s at ≡ block listed
+  pub turned : samples ≡ inOrder order listed
 
 -- block line k of a sheet is where reading k block lines from its start leads
 pub sheet-block : (s : List ℕ) (c : Contents) → reading s ≡ says c → (k : ℕ) → k < length (c .blocks)
-    → blockAt s (blockPlace s (startOf s c) k) ≡ block (getD (c .blocks) k [])
+    → ListedAt s (blockPlace s (startOf s c) k) (c .order) (getD (c .blocks) k [])
 sheet-block s c e k h =
-    let b = blocks-from-start s c e in
-    rw (← b) (block-follows s (startOf s c) k (rw b h))
+    let at = startOf s c in
+    let few : k < length (blocksOf (linesFrom s at)) = omega (arith, blocks-counted s c e) in
+    record {
+      listed = getD (blocksOf (linesFrom s at)) k [];
+      found = block-follows s at k few;
+      turned = ap (λ (bs : List (List ℤ)). getD bs k []) (sym (blocks-from-start s c e)) ∙ by-position-entry (c .order) (blocksOf (linesFrom s at)) k few;
+    }
 
 -- and after the last of them there is no block line
 pub sheet-blocks-end : (s : List ℕ) (c : Contents) → reading s ≡ says c → blockAt s (blockPlace s (startOf s c) (length (c .blocks))) ≡ noBlock
-sheet-blocks-end s c e = blocks-end s (startOf s c) (length (c .blocks)) (ap length (blocks-from-start s c e))
+sheet-blocks-end s c e = blocks-end s (startOf s c) (length (c .blocks)) (blocks-counted s c e)

@@ -4,9 +4,11 @@ pub mod Spelling
 pub mod Digits
 pub mod Characters
 pub mod Laying
+pub mod Turns
 pub mod Sampling
 pub mod BlockLines
 pub mod BlockPlaces
+pub mod SamplePlaces
 pub mod Passing
 pub mod RowLines
 pub mod BlockRuns
@@ -20,3 +22,7 @@ pub mod Following
 pub mod Positions
 pub mod Worked
 pub mod Replies
+pub mod TurnedLists
+pub mod TurnedLines
+pub mod TurnedText
+pub mod TurnedSheets

@@ -1,14 +1,15 @@
 -- With first the leftmost character of a row is position 0, with last the rightmost.
 use Prim.Native.Nat.{ℕ, zero, suc, _+_, _*_, _/_, _%_, _<_}
-use lib.ListN.{length, getD, length-reverse, List·getD-append}
-use lib.Seq.{getD-at}
-use mathlib.Core.List.{List, [], _∷_, reverse, reverse-cons}
+use lib.ListN.{length, getD, length-reverse}
+use mathlib.Core.List.{List, [], _∷_, reverse}
 use mathlib.Core.Path.{_≡_, _∙_, ap}
 use native.Mathlib.Omega.{arith}
 use Rattle.words.specs.Word.{bit}
-use Rattle.sheets.specs.Rows.{bitOf, wordFrom, inOrder}
+use Rattle.sheets.specs.Rows.{bitOf, wordFrom}
+use Rattle.sheets.specs.Turning.{inOrder}
 use Rattle.sheets.specs.declared.Order.the-variants.{First, Last}
 use Rattle.sheets.proofs.Characters.{bit-small}
+use Rattle.sheets.proofs.Turns.{far-end}
 
 half : (w b : ℕ) → b < 2 → (w * 2 + b) / 2 ≡ w
 half w b h = omega arith
@@ -22,15 +23,6 @@ position-first [] i h = absurd (omega arith)
 position-first (x ∷ xs) zero h = odd (wordFrom xs) (bitOf x) (bit-small x)
 position-first (x ∷ xs) (suc i) h = ap (λ (w : ℕ). bit w i) (half (wordFrom xs) (bitOf x) (bit-small x)) ∙ position-first xs i (omega arith)
 
--- character j from the left is character i from the right
-turned : (f : List ℕ) (i j : ℕ) → i + j + 1 ≡ length f → getD (reverse f) i 0 ≡ getD f j 0
-turned [] i j h = absurd (omega arith)
-turned (x ∷ xs) i zero h = ap (λ (l : List ℕ). getD l i 0) (reverse-cons x xs) ∙ getD-at (reverse xs) x [] 0 i (length-reverse xs ∙ omega arith)
-turned (x ∷ xs) i (suc j) h =
-    ap (λ (l : List ℕ). getD l i 0) (reverse-cons x xs)
-    ∙ List·getD-append (reverse xs) (x ∷ []) 0 i (rw length-reverse (omega arith))
-    ∙ turned xs i j (omega arith)
-
 -- position i is character i from the right
 pub position-last : (f : List ℕ) (i j : ℕ) → i + j + 1 ≡ length f → bit (wordFrom (inOrder Last f)) i ≡ bitOf (getD f j 0)
-position-last f i j h = position-first (reverse f) i (rw length-reverse (omega arith)) ∙ ap bitOf (turned f i j h)
+position-last f i j h = position-first (reverse f) i (rw length-reverse (omega arith)) ∙ ap bitOf (far-end f i j 0 h)

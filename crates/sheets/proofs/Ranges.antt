@@ -2,7 +2,7 @@
 use Prim.Native.Nat.{ℕ, zero, suc, _^_, _≤_, _<_}
 use borrow.Author.Tests.{eqb-true, eqb-false, ltb-false}
 use lib.Dec.{eqb, ltb}
-use lib.ListN.{length, drop, getD, length-reverse}
+use lib.ListN.{length, drop, getD}
 use mathlib.Core.Bool.{Bool, true, false, cond, _&&_}
 use mathlib.Core.List.{List, [], _∷_}
 use mathlib.Core.Path.{_≡_, refl}
@@ -13,12 +13,12 @@ use Rattle.plates.specs.declared.Verdict.{Verdict}
 use Rattle.plates.specs.declared.Verdict.the-variants as J
 use Rattle.sheets.specs.Text.{fields, lines}
 use Rattle.sheets.specs.Words.{wordOf}
-use Rattle.sheets.specs.Rows.{bitsOnly, wordFrom, inOrder}
+use Rattle.sheets.specs.Rows.{bitsOnly, wordFrom}
+use Rattle.sheets.specs.Turning.{inOrder}
 use Rattle.sheets.specs.Blocks.{samplesOf}
 use Rattle.sheets.specs.Lines.{rowIs, rowRest, blockIs, endRest, lineBy, lineOf, front, rowThen, rowsOf}
 use Rattle.sheets.specs.Sheet.{Contents, coverFront, coverIn, contents, inputTooLong, coverBad, lengthBad, lineBad, rowsTooMany, firstRefusal, verdict, says, readingBy, reading}
 use Rattle.sheets.specs.declared.Order.{Order}
-use Rattle.sheets.specs.declared.Order.the-variants.{First, Last}
 use Rattle.sheets.specs.declared.word.Word.{Word}
 use Rattle.sheets.specs.declared.word.Word.the-variants as W
 use Rattle.sheets.specs.declared.row.Row.the-variants as R
@@ -27,6 +27,7 @@ use Rattle.sheets.specs.declared.block.Samples.the-variants as S
 use Rattle.sheets.specs.declared.line.Line.{Line}
 use Rattle.sheets.specs.declared.line.Line.the-variants as L
 use Rattle.sheets.proofs.Characters.{word-small}
+use Rattle.sheets.proofs.Turns.{in-order-length}
 
 -- ---- a reading that is not refused
 
@@ -92,10 +93,6 @@ Below n (L.Row w) = w < 2 ^ n
 Below n L.Block = Unit {0}
 Below n L.End = Unit {0}
 Below n (L.Bad f) = Unit {0}
-
-in-order-length : (order : Order) (f : List ℕ) → length (inOrder order f) ≡ length f
-in-order-length First f = refl
-in-order-length Last f = length-reverse f
 
 left-true : (a b : Bool) → (a && b) ≡ true → a ≡ true
 left-true true b e = refl

@@ -10,8 +10,9 @@ use Rattle.plates.specs.declared.Refusal.{Refusal}
 use Rattle.plates.specs.declared.Refusal.the-variants.{Length, TooManyRows, InputTooLong}
 use Rattle.sheets.specs.Text.{linesFrom}
 use Rattle.sheets.specs.Room.{laid}
-use Rattle.sheets.specs.Blocks.{BlockFound, block, noBlock, blocksOf, blockAt, nextLine, blockReply, ReadsBlock}
+use Rattle.sheets.specs.Blocks.{BlockFound, block, noBlock, blocksOf, blockAt, nextLine, blockReply, placed, ReadsBlock}
 use Rattle.sheets.specs.Sheet.{Contents, refusalOf, Reading, says, refused, reading, sheetAt, startOf, sheetReply, ReadsSheet}
+use Rattle.sheets.specs.declared.Order.{Order}
 use Rattle.sheets.specs.declared.BlockReply.{BlockReply}
 use Rattle.sheets.specs.declared.BlockReply.the-variants as B
 use Rattle.sheets.specs.declared.Sheet.{Sheet}
@@ -60,12 +61,12 @@ number-of-others = (refl, refl, refl)
 
 -- ---- a block line
 
--- a block line was read: its samples, and the next line, from which the other block lines follow
-pub record BlockIs (s : List ℕ) (at : ℕ) (room : List ℤ) (k next : ℕ) (room′ : List ℤ) : Type 0 where
+-- a block line was read: its samples as listed, and the next line, from which the other block lines follow
+pub record BlockIs (s : List ℕ) (at : ℕ) (order : Order) (room : List ℤ) (k next : ℕ) (room′ : List ℤ) : Type 0 where
   pub said : List ℤ
   pub is : blockAt s at ≡ block said
   pub count : k ≡ length said
-  pub samples : room′ ≡ laid said room
+  pub samples : room′ ≡ placed order said room
   pub low : at < next
   pub high : next ≤ length s
   pub after : blocksOf (linesFrom s at) ≡ said ∷ blocksOf (linesFrom s next)
@@ -76,15 +77,15 @@ pub record BlockNot (s : List ℕ) (at : ℕ) (room room′ : List ℤ) : Type 0
   pub samples : room′ ≡ room
   pub after : blocksOf (linesFrom s at) ≡ []
 
-module _ {s : List ℕ} {at : ℕ} {room room′ : List ℤ} {r : BlockReply} (p : ReadsBlock s at room r room′) where
-  block-case : (b : BlockFound) → blockAt s at ≡ b → (k next : ℕ) → B.Read k next ≡ blockReply (nextLine s at) b → BlockIs s at room k next room′
+module _ {s : List ℕ} {at : ℕ} {order : Order} {room room′ : List ℤ} {r : BlockReply} (p : ReadsBlock s at order room r room′) where
+  block-case : (b : BlockFound) → blockAt s at ≡ b → (k next : ℕ) → B.Read k next ≡ blockReply (nextLine s at) b → BlockIs s at order room k next room′
   block-case (block vs) e k next g =
       let n : nextLine s at ≡ next = cc in
       let d = rw n at (block-ended s at vs e) in
       record { said = vs; is = e; count = cc; samples = rw e at (p .samples); low = d .low; high = d .high; after = rw n at (block-first s at vs e) }
   block-case noBlock e k next g = let z : _≡_ {A = ℕ} 0 1 = cc in absurd (omega arith)
 
-  pub block-is : (k next : ℕ) → r ≡ B.Read k next → BlockIs s at room k next room′
+  pub block-is : (k next : ℕ) → r ≡ B.Read k next → BlockIs s at order room k next room′
   block-is k next e = block-case (blockAt s at) refl k next (sym e ∙ p .reply)
 
   none-case : (b : BlockFound) → blockAt s at ≡ b → B.NoBlock ≡ blockReply (nextLine s at) b → BlockNot s at room room′

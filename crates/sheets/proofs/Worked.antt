@@ -36,6 +36,9 @@ blockLine = block ++ 9 ∷ 45 ∷ 51 ∷ 9 ∷ 45 ∷ 50 ∷ 9 ∷ 52 ∷ 9 ∷ 
 abbrev samples : List ℤ
 samples = negsuc 2 ∷ negsuc 1 ∷ pos 4 ∷ negsuc 0 ∷ pos 5 ∷ pos 6 ∷ negsuc 0 ∷ pos 7 ∷ []
 
+abbrev turnedSamples : List ℤ
+turnedSamples = pos 7 ∷ negsuc 0 ∷ pos 6 ∷ pos 5 ∷ negsuc 0 ∷ pos 4 ∷ negsuc 1 ∷ negsuc 2 ∷ []
+
 abbrev sheet : List ℕ → List ℕ
 sheet order = coverLine (56 ∷ []) (71 ∷ []) order ++ rowLines ++ blockLine ++ endLine
 
@@ -50,8 +53,8 @@ with-first : reading (sheet first) ≡ says (record { n = 8; kind = G; order = F
 unfolding verdict contents coverFields
 with-first = refl
 
--- with last its rows are turned, and its samples are not
-with-last : reading (sheet last) ≡ says (record { n = 8; kind = G; order = Last; rows = 240 ∷ 90 ∷ 60 ∷ 15 ∷ []; blocks = samples ∷ [] })
+-- with last its rows are turned, and so are its samples
+with-last : reading (sheet last) ≡ says (record { n = 8; kind = G; order = Last; rows = 240 ∷ 90 ∷ 60 ∷ 15 ∷ []; blocks = turnedSamples ∷ [] })
 unfolding verdict contents coverFields
 with-last = refl
 

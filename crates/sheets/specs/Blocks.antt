@@ -1,6 +1,7 @@
--- A block line: the word block and any number of samples, which are in order of position.
+-- A block line: the word block and any number of samples, here as they are listed.
 use Prim.Native.Nat.{ℕ, zero, suc, _+_}
 use lib.IntN.{ℤ, pos}
+use lib.Dec.{ltb}
 use lib.ListN.{length, drop}
 use mathlib.Core.Bool.{Bool, true, false, cond}
 use mathlib.Core.List.{List, [], _∷_}
@@ -8,7 +9,9 @@ use mathlib.Core.Path.{_≡_}
 use Rattle.sheets.specs.Text.{fields, linesFrom, begins}
 use Rattle.sheets.specs.Numbers.{sampleOf}
 use Rattle.sheets.specs.Words.{wordOf}
+use Rattle.sheets.specs.Turning.{inOrder}
 use Rattle.sheets.specs.Room.{laid}
+use Rattle.sheets.specs.declared.Order.{Order}
 use Rattle.sheets.specs.declared.number.Sample.{Sample}
 use Rattle.sheets.specs.declared.number.Sample.the-variants as S
 use Rattle.sheets.specs.declared.word.Word.{Word}
@@ -33,7 +36,7 @@ abbrev pub samplesOf : ℕ → List (List ℕ) → Samples
 samplesOf k [] = Count k
 samplesOf k (f ∷ fs) = cond (isSample (sampleOf f)) (samplesOf (k + 1) fs) (Bad (k + 2))
 
--- the samples of such fields
+-- the samples of such fields, as listed
 abbrev pub valuesOf : List (List ℕ) → List ℤ
 valuesOf [] = []
 valuesOf (f ∷ fs) = valueOf (sampleOf f) ∷ valuesOf fs
@@ -97,13 +100,17 @@ abbrev pub blockReply : ℕ → BlockFound → BlockReply
 blockReply next (block vs) = Read (length vs) next
 blockReply next noBlock = NoBlock
 
--- the room after it
-abbrev pub roomAfter : List ℤ → BlockFound → List ℤ
-roomAfter room (block vs) = laid vs room
-roomAfter room noBlock = room
+-- listed samples into their places by position; more than 64, which no length permits, are left out
+abbrev pub placed : Order → List ℤ → List ℤ → List ℤ
+placed order vs room = cond (ltb 64 (length vs)) room (laid (inOrder order vs) room)
 
--- What reading a block line replies: the number of its samples and where the next line begins, with the samples laid into the room; or that
--- no block line begins there, and then the room stays as it was
-pub record ReadsBlock (s : List ℕ) (at : ℕ) (room : List ℤ) (r : BlockReply) (room′ : List ℤ) : Type 0 where
+-- the room after it
+abbrev pub roomAfter : Order → List ℤ → BlockFound → List ℤ
+roomAfter order room (block vs) = placed order vs room
+roomAfter order room noBlock = room
+
+-- What reading a block line replies: the number of its samples and where the next line begins, with the samples in their places by position;
+-- or that no block line begins there, and then the room stays as it was
+pub record ReadsBlock (s : List ℕ) (at : ℕ) (order : Order) (room : List ℤ) (r : BlockReply) (room′ : List ℤ) : Type 0 where
   pub reply : r ≡ blockReply (nextLine s at) (blockAt s at)
-  pub samples : room′ ≡ roomAfter room (blockAt s at)
+  pub samples : room′ ≡ roomAfter order room (blockAt s at)

@@ -1,10 +1,12 @@
 pub mod Text
 pub mod Numbers
 pub mod Words
+pub mod Turning
 pub mod Rows
 pub mod Room
 pub mod Blocks
 pub mod Covers
 pub mod Lines
 pub mod Sheet
+pub mod Turned
 pub mod Readers

@@ -13,6 +13,7 @@ use Rattle.sheets.specs.Blocks.{samplesOf, valuesOf, blockLine, blocksOf
 use Rattle.sheets.specs.Lines.{rowsOf}
 use Rattle.sheets.specs.Sheet.{coverFront, coverIn, contentsOf, coverBad, lengthBad, endingAfter, lineVerdict, rowsTooMany, firstRefusal, sheetAt}
 use Rattle.sheets.specs.declared.Order.{Order}
+use Rattle.sheets.specs.declared.Order.the-variants.{First, Last}
 use Rattle.sheets.specs.declared.BlockReply.{BlockReply}
 use Rattle.sheets.specs.declared.BlockReply.the-variants as B
 use Rattle.sheets.specs.declared.Sheet.{Sheet}
@@ -61,6 +62,11 @@ FieldsRead fs room r room′ = SamplesRead (samplesOf 0 fs) (valuesOf fs) room r
 -- the fields of a whole line
 abbrev pub LineRead : List (List ℕ) → List ℤ → Samples → List ℤ → Type 0
 LineRead fs room r room′ = SamplesRead (blockLine fs) (valuesOf (drop 1 fs)) room r room′
+
+-- where the sample of a position is listed among n
+abbrev pub listedAt : Order → ℕ → ℕ → ℕ
+listedAt First n position = position
+listedAt Last n position = n - 1 - position
 
 -- the line at a place is ended, and the next begins at `next`
 pub record Ended (s : List ℕ) (at next : ℕ) : Type 0 where

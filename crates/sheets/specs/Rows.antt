@@ -3,9 +3,9 @@ use Prim.Native.Nat.{ℕ, _+_, _*_}
 use lib.Dec.{eqb, leb}
 use lib.ListN.{length}
 use mathlib.Core.Bool.{Bool, true, cond, _&&_}
-use mathlib.Core.List.{List, [], _∷_, reverse}
+use mathlib.Core.List.{List, [], _∷_}
+use Rattle.sheets.specs.Turning.{inOrder}
 use Rattle.sheets.specs.declared.Order.{Order}
-use Rattle.sheets.specs.declared.Order.the-variants.{First, Last}
 use Rattle.sheets.specs.declared.row.Row.{Row}
 use Rattle.sheets.specs.declared.row.Row.the-variants.{Is, Bad}
 
@@ -26,11 +26,6 @@ bitOf x = cond (eqb x 49) 1 0
 abbrev pub wordFrom : List ℕ → ℕ
 wordFrom [] = 0
 wordFrom (x ∷ xs) = wordFrom xs * 2 + bitOf x
-
--- the characters in order of position: with first as written, with last from the far end
-abbrev pub inOrder : Order → List ℕ → List ℕ
-inOrder First f = f
-inOrder Last f = reverse f
 
 -- the word of a row
 abbrev pub rowOf : ℕ → Order → List ℕ → Row

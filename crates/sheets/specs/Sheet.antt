@@ -14,6 +14,7 @@ use Rattle.plates.specs.declared.Verdict.{Verdict}
 use Rattle.plates.specs.declared.Verdict.the-variants as J
 use Rattle.sheets.specs.Text.{lines, fields, begins}
 use Rattle.sheets.specs.Room.{laid}
+use Rattle.sheets.specs.Turning.{byPosition}
 use Rattle.sheets.specs.Blocks.{blocksOf}
 use Rattle.sheets.specs.Covers.{coverOf}
 use Rattle.sheets.specs.Lines.{rowsOf, endingOf}
@@ -32,7 +33,7 @@ use Rattle.sheets.specs.declared.body.Ending.the-variants.{Fine, NoEnd, 
 
 -- ---- what a sheet says
 
--- its cover, the words of its rows, and the samples of each of its block lines
+-- its cover, the words of its rows, and the samples of each of its block lines in order of position
 pub record Contents : Type 0 where
   pub n : ℕ
   pub kind : Kind
@@ -55,7 +56,13 @@ coverIn (C.Bad fault) = record { n = 0; kind = G; order = First }
 abbrev pub contentsOf : Cover → List (List ℕ) → Contents
 contentsOf cover ls =
     let rows = rowsOf (cover .n) (cover .order) ls in
-    record { n = cover .n; kind = cover .kind; order = cover .order; rows = rows; blocks = blocksOf (drop (length rows) ls) }
+    record {
+      n = cover .n;
+      kind = cover .kind;
+      order = cover .order;
+      rows = rows;
+      blocks = byPosition (cover .order) (blocksOf (drop (length rows) ls));
+    }
 
 -- what the lines of a text say
 unfoldable pub contents : List ℕ → Contents

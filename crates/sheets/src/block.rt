@@ -20,7 +20,7 @@ pub enum Samples {
 }
 
 // A sample into its place; beyond the room it is dropped.
-fn put_sample(room: &mut [i16], k: usize, value: i16)
+pub fn put_sample(room: &mut [i16], k: usize, value: i16)
     ensures { λ _. ⌜ now (room .exit) ≡ set (now (room .entry)) k value ⌝ }
 {
     if k < room.len() {

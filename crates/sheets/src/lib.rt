@@ -2,10 +2,10 @@
 ghost use Rattle.sheets.specs.Blocks.{ReadsBlock};
 ghost use Rattle.sheets.specs.Sheet.{ReadsSheet};
 use block::block_at;
-use block::read_block_line;
 use body::read_body;
 use head::Head;
 use head::read_head;
+use placing::place_samples;
 use plates::Kind;
 use plates::Refusal;
 
@@ -15,11 +15,12 @@ mod cover;
 mod head;
 mod line;
 mod number;
+mod placing;
 mod row;
 mod scan;
 mod word;
 
-// Which character of a row is position 0: with first the leftmost, with last the rightmost.
+// Where position 0 stands in a row, among listed samples and in a printed word: with first at the left, with last at the right.
 pub enum Order {
     First,
     Last,
@@ -62,15 +63,16 @@ pub fn read_sheet(input: &[u8], table: &mut [u64; 64]) -> SheetReply
     }
 }
 
-// Reads the block line that begins at a place: its samples go into the room, as far as that reaches, and are counted in any case.
-pub fn read_block(input: &[u8], at: usize, room: &mut [i16; 64]) -> BlockReply
-    ensures { λ r. ⌜ ReadsBlock (now (input .entry)) at (now (room .entry)) r (now (room .exit)) ⌝ }
+// Reads the block line that begins at a place of a sheet in the cover's order: its samples go into the places of their positions, or are left
+// out where they are more than 64, and are counted in any case.
+pub fn read_block(input: &[u8], at: usize, order: Order, room: &mut [i16; 64]) -> BlockReply
+    ensures { λ r. ⌜ ReadsBlock (now (input .entry)) at order (now (room .entry)) r (now (room .exit)) ⌝ }
 {
     let reply = block_at(input, at);
     let BlockReply::Read { samples, next } = reply else {
         return BlockReply::NoBlock;
     };
     let end = next - 1;
-    read_block_line(&input[at..end], room);
+    place_samples(&input[at..end], samples, order, room);
     BlockReply::Read { samples, next }
 }

@@ -2,7 +2,8 @@
 ghost use Prim.Native.Nat.{_≤_};
 ghost use lib.ListN.{length};
 ghost use mathlib.Core.Path.{_≡_};
-ghost use Rattle.sheets.specs.Rows.{bitOf, bitsOnly, wordFrom, inOrder, rowOf};
+ghost use Rattle.sheets.specs.Rows.{bitOf, bitsOnly, wordFrom, rowOf};
+ghost use Rattle.sheets.specs.Turning.{inOrder};
 use crate::Order;
 use crate::scan::within;
 

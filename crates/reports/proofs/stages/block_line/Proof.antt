@@ -18,7 +18,7 @@ enum-known-reply c = search needs
 samples-line-requires : tie.Need-samples-line-requires
 samples-line-requires c κs =
     let a = c .before .before .before .before .before .before .before .before .before .before .before .before .args in
-    rw (c .before .before .before .before .before .before .before .read-block .ensures .samples) (places-size (replicate 64 (pos 0)) refl (blockAt (a .input .now) (a .report .at)))
+    rw (c .before .before .before .before .before .before .before .read-block .ensures .samples) (places-size (a .report .order) (replicate 64 (pos 0)) refl (blockAt (a .input .now) (a .report .at)))
 
 enum-told : tie.Need-enum-told
 enum-told c = search needs

@@ -1,5 +1,8 @@
 -- `stages::decoded_line` meets its contract.
 use borrow.Author.Needs.{needs}
+use mathlib.Core.Path.{subst}
+use Rattle.decoding.specs.declared.Decoded.{Decoded}
+use Rattle.reports.specs.Steps.{Printable}
 use Rattle.reports.proofs.stages.decoded_line.Statement.{statement}
 use Rattle.reports.proofs.stages.decoded_line.Tie as tie
 
@@ -7,7 +10,9 @@ enum-known-decoded : tie.Need-enum-known-decoded
 enum-known-decoded c = search needs
 
 word-line-requires : tie.Need-word-line-requires
-word-line-requires c κs = search needs
+word-line-requires c κs =
+    let s = c .before .before .before .before .before in
+    subst (λ (d : Decoded). Printable d (s .args .before .plate)) (c .before .before .decoded .given .1) (s .pre)
 
 enum-known-decoded-2 : tie.Need-enum-known-decoded-2
 enum-known-decoded-2 c = search needs

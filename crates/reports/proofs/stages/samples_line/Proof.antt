@@ -4,6 +4,7 @@ use mathlib.Core.Path.{sym}
 use lib.Seq.{length-take-le}
 use native.Mathlib.Omega.{arith}
 use Rattle.reports.proofs.BlockSteps.{long-room, short-room}
+use Rattle.reports.proofs.PrintedWords.{printable}
 use Rattle.reports.proofs.stages.samples_line.Statement.{statement}
 use Rattle.reports.proofs.stages.samples_line.Tie as tie
 
@@ -27,7 +28,9 @@ decode-requires : tie.Need-decode-requires
 decode-requires c κs = search needs
 
 decoded-line-requires : tie.Need-decoded-line-requires
-decoded-line-requires c κs = search needs
+decoded-line-requires c κs =
+    let d = c .before .before .before .before .decode in
+    printable (c .before .before .before .before .before .before .before .before .before .before .before .before .before .before .before .args .report .plate) _ _ _ _ _ (d .result) (d .ensures)
 
 same-length : tie.Need-same-length
 same-length c = search needs

@@ -6,6 +6,9 @@ use mir.Syntax.{w32}
 use Rattle.reports.proofs.stages.word_line.Statement.{statement}
 use Rattle.reports.proofs.stages.word_line.Tie as tie
 
+printed-word-requires : tie.Need-printed-word-requires
+printed-word-requires c κs = search needs
+
 write-word-requires : tie.Need-write-word-requires
 write-word-requires c κs = search needs
 
@@ -17,7 +20,9 @@ same-length c = search needs
 
 returns : tie.Need-returns
 returns c =
-    answer-written (c .before .before .before .write-word .result) (c .before .before .before .before .before .before .before .before .before .args .answer) (toZ-ofZ {w = w32} (record { sfits = c .before .before .before .before .struct-told .given .1 .0 .1 })) (c .before .before .before .write-word .ensures) (c .step-by .ensures)
+    let s = c .before .before .before in
+    answer-written (s .write-word .result) (s .before .before .before .before .before .before .before .args .answer) (s .before .before .before .printed-word .ensures)
+    (toZ-ofZ {w = w32} (record { sfits = s .before .struct-told .given .1 .0 .1 })) (s .write-word .ensures) (c .step-by .ensures)
 
 pub word-line-spec : {M : Type 1} → statement M
-word-line-spec = tie.close (tie.spec write-word-requires step-by-requires same-length returns)
+word-line-spec = tie.close (tie.spec printed-word-requires write-word-requires step-by-requires same-length returns)

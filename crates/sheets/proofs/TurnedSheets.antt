@@ -1,0 +1,145 @@
+-- A sheet that is not refused and the same sheet turned say the same, but for the cover's last word.
+use Prim.Native.Nat.{ℕ, _+_, _≤_}
+use borrow.Author.Tests.{le-ltb}
+use lib.Dec.{ltb}
+use lib.IntN.{ℤ}
+use lib.ListN.{length, drop}
+use mathlib.Core.Bool.{Bool, true, false, cond}
+use mathlib.Core.List.{List, [], _∷_}
+use mathlib.Core.Path.{_≡_, refl, _∙_, ap, ap₂}
+use native.Mathlib.Omega.{arith}
+use Rattle.plates.specs.declared.Verdict.the-variants as J
+use Rattle.sheets.specs.Text.{fields, lines}
+use Rattle.sheets.specs.Words.{same, first, last, wordOf}
+use Rattle.sheets.specs.Numbers.{numberOf}
+use Rattle.sheets.specs.Turning.{byPosition}
+use Rattle.sheets.specs.Blocks.{blocksOf}
+use Rattle.sheets.specs.Covers.{kindOf, orderOf, coverIs, coverFields, coverRest, coverBy, coverOf}
+use Rattle.sheets.specs.Lines.{rowsOf}
+use Rattle.sheets.specs.Sheet.{Contents, coverFront, coverIn, contents, contentsOf, coverBad, endingAfter, lineBad, lineVerdict, verdict, says, reading}
+use Rattle.sheets.specs.Turned.{coverTurned, restTurned, fieldsTurned, otherWord, other, underOther, LinesTurned, IsTurned}
+use Rattle.sheets.specs.declared.Order.{Order}
+use Rattle.sheets.specs.declared.Order.the-variants.{First, Last}
+use Rattle.sheets.specs.declared.word.Word.{Word}
+use Rattle.sheets.specs.declared.word.Word.the-variants as W
+use Rattle.sheets.specs.declared.row.Row.{Row}
+use Rattle.sheets.specs.declared.number.Number.{Number}
+use Rattle.sheets.specs.declared.number.Number.the-variants as N
+use Rattle.sheets.specs.declared.cover.KindField.{KindField}
+use Rattle.sheets.specs.declared.cover.KindField.the-variants as K
+use Rattle.sheets.specs.declared.cover.OrderField.{OrderField}
+use Rattle.sheets.specs.declared.cover.OrderField.the-variants as O
+use Rattle.sheets.specs.declared.cover.Cover.{Cover}
+use Rattle.sheets.specs.declared.cover.CoverLine.{CoverLine}
+use Rattle.sheets.specs.declared.cover.CoverLine.the-variants as C
+use Rattle.sheets.specs.declared.body.Ending.{Ending}
+use Rattle.sheets.specs.declared.body.Ending.the-variants.{Fine, NoEnd, After}
+use Rattle.sheets.proofs.Ranges.{accepted, Accepts, all-pass}
+use Rattle.sheets.proofs.TurnedLines.{blocks-turned, drop-turned, fine-turned, rows-turned}
+
+-- ---- the cover
+
+abbrev coverUnder : Cover → Cover
+coverUnder cover = record { n = cover .n; kind = cover .kind; order = other (cover .order) }
+
+order-case : (f : List ℕ) (t u : Bool) (o : Order) → cond t (O.Is First) (cond u (O.Is Last) O.Bad) ≡ O.Is o → orderOf (cond t last (cond u first f)) ≡ O.Is (other o)
+order-case f true u o e = let q : First ≡ o = cc in ap (λ (p : Order). O.Is (other p)) q
+order-case f false true o e = let q : Last ≡ o = cc in ap (λ (p : Order). O.Is (other p)) q
+order-case f false false o e = let z : _≡_ {A = ℕ} 0 1 = cc in absurd (omega arith)
+
+order-turned : (f : List ℕ) (o : Order) → orderOf f ≡ O.Is o → orderOf (otherWord f) ≡ O.Is (other o)
+order-turned f o e = order-case f (same f first) (same f last) o e
+
+cover-case : (number : Number) (kind : KindField) (old new : OrderField) (cover : Cover) → ((o : Order) → old ≡ O.Is o → new ≡ O.Is (other o))
+    → coverIs number kind old ≡ C.Is cover → coverIs number kind new ≡ C.Is (coverUnder cover)
+cover-case N.Bad kind old new cover g e = let z : _≡_ {A = ℕ} 0 1 = cc in absurd (omega arith)
+cover-case (N.Is n) K.Bad old new cover g e = let z : _≡_ {A = ℕ} 0 1 = cc in absurd (omega arith)
+cover-case (N.Is n) (K.Is kind) O.Bad new cover g e = let z : _≡_ {A = ℕ} 0 1 = cc in absurd (omega arith)
+cover-case (N.Is n) (K.Is kind) (O.Is o) new cover g e =
+    let q : record { n = n; kind = kind; order = o } ≡ cover = cc in
+    ap (coverIs (N.Is n) (K.Is kind)) (g o refl) ∙ ap (λ (c : Cover). C.Is (coverUnder c)) q
+
+rest-turned : (fs : List (List ℕ)) (cover : Cover) → coverRest fs ≡ C.Is cover → coverRest (coverTurned fs) ≡ C.Is (coverUnder cover)
+unfolding coverFields
+rest-turned [] cover e = let z : _≡_ {A = ℕ} 0 1 = cc in absurd (omega arith)
+rest-turned (f ∷ []) cover e = let z : _≡_ {A = ℕ} 0 1 = cc in absurd (omega arith)
+rest-turned (f ∷ g ∷ []) cover e = let z : _≡_ {A = ℕ} 0 1 = cc in absurd (omega arith)
+rest-turned (f ∷ g ∷ h ∷ []) cover e = cover-case (numberOf 3 f) (kindOf g) (orderOf h) (orderOf (otherWord h)) cover (order-turned h) e
+rest-turned (f ∷ g ∷ h ∷ i ∷ fs) cover e = let z : _≡_ {A = ℕ} 0 1 = cc in absurd (omega arith)
+
+cover-by-word : (w : Word) (fs : List (List ℕ)) (cover : Cover) → coverBy w fs ≡ C.Is cover → coverBy w (restTurned w fs) ≡ C.Is (coverUnder cover)
+cover-by-word W.Cover fs cover e = rest-turned fs cover e
+cover-by-word W.Row fs cover e = let z : _≡_ {A = ℕ} 0 1 = cc in absurd (omega arith)
+cover-by-word W.Block fs cover e = let z : _≡_ {A = ℕ} 0 1 = cc in absurd (omega arith)
+cover-by-word W.End fs cover e = let z : _≡_ {A = ℕ} 0 1 = cc in absurd (omega arith)
+cover-by-word W.Other fs cover e = let z : _≡_ {A = ℕ} 0 1 = cc in absurd (omega arith)
+
+cover-by-fields : (fs : List (List ℕ)) (cover : Cover) → coverOf fs ≡ C.Is cover → coverOf (fieldsTurned fs) ≡ C.Is (coverUnder cover)
+cover-by-fields [] cover e = let z : _≡_ {A = ℕ} 0 1 = cc in absurd (omega arith)
+cover-by-fields (w ∷ fs) cover e = cover-by-word (wordOf w) fs cover e
+
+cover-turned : (ls ms : List (List ℕ)) → LinesTurned ls ms → (cover : Cover) → coverFront ls ≡ C.Is cover → coverFront ms ≡ C.Is (coverUnder cover)
+cover-turned [] ms h cover e = let z : _≡_ {A = ℕ} 0 1 = cc in absurd (omega arith)
+cover-turned (l ∷ []) ms h cover e = let z : _≡_ {A = ℕ} 0 1 = cc in absurd (omega arith)
+cover-turned (l ∷ k ∷ ls) [] h cover e = absurd h
+cover-turned (l ∷ k ∷ ls) (m ∷ []) h cover e = absurd (h .1)
+cover-turned (l ∷ k ∷ ls) (m ∷ o ∷ ms) h cover e = ap coverOf (h .0) ∙ cover-by-fields (fields l) cover e
+
+cover-is : (found : CoverLine) → coverBad found ≡ J.Accepted → found ≡ C.Is (coverIn found)
+cover-is (C.Is cover) e = refl
+cover-is (C.Bad f) e = let z : _≡_ {A = ℕ} 0 1 = cc in absurd (omega arith)
+
+-- ---- the whole
+
+contents-under : (cover : Cover) (ls ms : List (List ℕ)) → LinesTurned ls ms → contentsOf (coverUnder cover) ms ≡ underOther (contentsOf cover ls)
+contents-under cover ls ms h =
+    let n = cover .n in
+    let o = cover .order in
+    let r = rows-turned n o ls ms h in
+    let k = length (rowsOf n o ls) in
+    let b : byPosition (other o) (blocksOf (drop (length (rowsOf n (other o) ms)) ms)) ≡ byPosition o (blocksOf (drop k ls)) =
+    ap (λ (rows : List ℕ). byPosition (other o) (blocksOf (drop (length rows) ms))) r ∙ blocks-turned o (drop k ls) (drop k ms) (drop-turned k ls ms h) in
+    ap₂ (λ (rows : List ℕ) (blocks : List (List ℤ)). record { n = n; kind = cover .kind; order = other o; rows = rows; blocks = blocks }) r b
+
+fine-case : (line : ℕ) (d : Ending) → lineVerdict line d ≡ J.Accepted → d ≡ Fine
+fine-case line Fine e = refl
+fine-case line (NoEnd f) e = let z : _≡_ {A = ℕ} 0 1 = cc in absurd (omega arith)
+fine-case line (After f) e = let z : _≡_ {A = ℕ} 0 1 = cc in absurd (omega arith)
+
+module _ (s t : List ℕ) (h : IsTurned s t) (short : length t ≤ 32768) (p : Accepts s) where
+  abbrev cover : Cover
+  cover = coverIn (coverFront (lines s))
+
+  cover-there : coverFront (lines t) ≡ C.Is (coverUnder cover)
+  cover-there = cover-turned (lines s) (lines t) (h .turned) cover (cover-is (coverFront (lines s)) (p .form))
+
+  contents-there : contents t ≡ underOther (contents s)
+  unfolding contents
+  contents-there =
+      ap (λ (found : CoverLine). contentsOf (coverIn found) (drop 1 (lines t))) cover-there
+      ∙ contents-under cover (drop 1 (lines s)) (drop 1 (lines t)) (drop-turned 1 (lines s) (lines t) (h .turned))
+
+  ended-there : lineBad (underOther (contents s)) (drop 1 (lines t)) ≡ J.Accepted
+  ended-there =
+      let c = contents s in
+      let line = length (c .rows) + length (c .blocks) + 2 in
+      let f = fine-case line (endingAfter c (drop 1 (lines s))) (p .ended) in
+      let ls = drop 1 (lines s) in
+      let ms = drop 1 (lines t) in
+      let ls′ = drop (length (c .rows)) ls in
+      let ms′ = drop (length (c .rows)) ms in
+      let k = length (c .blocks) in
+      let d = drop-turned k ls′ ms′ (drop-turned (length (c .rows)) ls ms (drop-turned 1 (lines s) (lines t) (h .turned))) in
+      ap (lineVerdict line) (fine-turned (c .n) (c .order) (ltb 0 k) (drop k ls′) (drop k ms′) d f)
+
+  verdict-there : verdict t ≡ J.Accepted
+  unfolding verdict
+  verdict-there = rw (le-ltb 32768 (length t) short, cover-there, contents-there, p .range, ended-there, p .few)
+
+-- the one statement of both cover words: a sheet not refused, and the sheet turned, say the same by position. A turned sheet may be a byte
+-- longer, since first has a letter more than last, and has to be within the input's limit itself
+pub turned-says : (s t : List ℕ) → IsTurned s t → length t ≤ 32768 → (c : Contents) → reading s ≡ says c → reading t ≡ says (underOther c)
+turned-says s t h short c e =
+    let a = accepted s c e in
+    let p = all-pass s (a .0) in
+    rw (verdict-there s t h short p, contents-there s t h short p) (ap (λ (d : Contents). says (underOther d)) (a .1))
