@@ -6,7 +6,7 @@ use mathlib.Core.Path.{ap, refl, sym, _∙_, _≡_}
 use Prim.Native.Nat.{ℕ}
 use Rattle.listings.specs.declared.Written.{Written}
 use Rattle.listings.specs.declared.Written.the-variants.{Length, Refused}
-use Rattle.listings.specs.Writing.{Writes, WritesAs, WritesEnd, WritesLine, WritesOf, WritesPlate, WritesProfile, WritesRefused, WritesWord}
+use Rattle.listings.specs.Writing.{Writes, WritesAs, WritesEnd, WritesLeast, WritesLine, WritesNoLeast, WritesOf, WritesPlate, WritesProfile, WritesRefused, WritesWeight, WritesWord}
 use Rattle.plates.proofs.Refusing.{Single, never-both, refuses-once}
 use Rattle.plates.specs.declared.Plate.{Plate}
 use Rattle.plates.specs.declared.Refusal.{Refusal}
@@ -37,7 +37,7 @@ module _ (cs : List (Refusal → Type 0)) (single : Single cs) (line room : List
       → Same r (Length (length line)) room′ (line ++ drop (length line) room)
   must-write w h = determined w (record { reply = (h, refl, refl) })
 
--- ---- the five calls
+-- ---- the calls
 
 -- each condition gives one refusal
 once : {refusal : Refusal} {holds : Type 0} (p q : Refusal) → holds × (p ≡ refusal) → holds × (q ≡ refusal) → p ≡ q
@@ -67,3 +67,12 @@ module _ {room : List ℕ} {r s : Written} {a b : List ℕ} where
 
   pub write-end-determined : (blocks : ℕ) → WritesEnd blocks room r a → WritesEnd blocks room s b → Same r s a b
   write-end-determined blocks = line-determined
+
+  pub write-weight-determined : (weight count : ℕ) → WritesWeight weight count room r a → WritesWeight weight count room s b → Same r s a b
+  write-weight-determined weight count = line-determined
+
+  pub write-least-determined : (weight : ℕ) → WritesLeast weight room r a → WritesLeast weight room s b → Same r s a b
+  write-least-determined weight = line-determined
+
+  pub write-no-least-determined : WritesNoLeast room r a → WritesNoLeast room s b → Same r s a b
+  write-no-least-determined = line-determined

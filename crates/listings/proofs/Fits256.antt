@@ -12,7 +12,7 @@ use Prim.Native.Nat.{_%_, _*_, _+_, _/_, _<_, suc, zero, ℕ, _≤_}
 use Rattle.listings.proofs.Backwards.{positions-length}
 use Rattle.listings.proofs.Digits.{decimal-high, decimal-low}
 use Rattle.listings.specs.Decimal.{decimal, digits, signed}
-use Rattle.listings.specs.Lines.{endLine, following, largest, plateLine, profileLine, refusedLine, wordLine}
+use Rattle.listings.specs.Lines.{endLine, following, largest, leastLine, noLeastLine, plateLine, profileLine, refusedLine, weightLine, wordLine}
 use Rattle.words.proofs.Span.{lt-tri}
 
 -- ---- numbers
@@ -93,3 +93,18 @@ two-each (entry ∷ entries) h =
 pub profile-fits-256 : (entries : List ℕ) → length entries ≤ 65 → ((t : ℕ) → t < length entries → getD entries t 0 ≤ 12) → length (profileLine entries) ≤ 256
 unfolding profileLine
 profile-fits-256 entries l h = omega (arith, two-each entries h)
+
+-- 6 + 21 + 21 + 1
+pub weight-fits-256 : (weight count : ℕ) → length (weightLine weight count) ≤ 256
+unfolding weightLine
+weight-fits-256 weight count = simp length-append (omega (arith, decimal-length weight, decimal-length count))
+
+-- 5 + 21 + 1
+pub least-fits-256 : (weight : ℕ) → length (leastLine weight) ≤ 256
+unfolding leastLine
+least-fits-256 weight = simp length-append (omega (arith, decimal-length weight))
+
+-- 5 + 5 + 1
+pub no-least-fits-256 : length noLeastLine ≤ 256
+unfolding noLeastLine
+no-least-fits-256 = omega arith

@@ -1,4 +1,4 @@
--- The five kinds of listing line, byte by byte.
+-- The kinds of listing line, byte by byte.
 use lib.IntN.{ℤ}
 use mathlib.Core.List.{_++_, List, [], map, _∷_}
 use Prim.Native.Nat.{_+_, max, suc, zero, ℕ}
@@ -68,3 +68,29 @@ refusedLine number place = line refusedName (decimal number ∷ decimal place �
 -- end: the number of block lines
 unfoldable pub endLine : ℕ → List ℕ
 endLine blocks = line endName (decimal blocks ∷ [])
+
+-- ---- the lines of a plate's weights
+
+-- the letters weight
+abbrev pub weightName : List ℕ
+weightName = 119 ∷ 101 ∷ 105 ∷ 103 ∷ 104 ∷ 116 ∷ []
+
+-- the letters least
+abbrev pub leastName : List ℕ
+leastName = 108 ∷ 101 ∷ 97 ∷ 115 ∷ 116 ∷ []
+
+-- the letters none
+abbrev pub noneField : List ℕ
+noneField = 110 ∷ 111 ∷ 110 ∷ 101 ∷ []
+
+-- weight: a weight, and how many codewords have it
+unfoldable pub weightLine : ℕ → ℕ → List ℕ
+weightLine weight count = line weightName (decimal weight ∷ decimal count ∷ [])
+
+-- least: the smallest weight above zero
+unfoldable pub leastLine : ℕ → List ℕ
+leastLine weight = line leastName (decimal weight ∷ [])
+
+-- least, where there is none
+unfoldable pub noLeastLine : List ℕ
+noLeastLine = line leastName (noneField ∷ [])

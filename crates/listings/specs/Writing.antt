@@ -6,7 +6,7 @@ use mathlib.Core.Path.{_≡_}
 use Prim.Native.Nat.{_+_, _<_, ℕ}
 use Rattle.listings.specs.declared.Written.{Written}
 use Rattle.listings.specs.declared.Written.the-variants.{Length, Refused}
-use Rattle.listings.specs.Lines.{endLine, plateLine, profileLine, refusedLine, wordLine}
+use Rattle.listings.specs.Lines.{endLine, leastLine, noLeastLine, plateLine, profileLine, refusedLine, weightLine, wordLine}
 use Rattle.plates.specs.declared.Plate.{Plate}
 use Rattle.plates.specs.declared.Refusal.{Refusal}
 use Rattle.plates.specs.declared.Refusal.the-variants.{LineRoom}
@@ -35,7 +35,7 @@ WritesLine line room = Writes (lineRoom line room ∷ []) line room
 abbrev pub WritesOf : Plate → List ℕ → List ℕ → Written → List ℕ → Type 0
 WritesOf plate line room = Writes (notPrepared plate ∷ lineRoom line room ∷ []) line room
 
--- ---- the five calls
+-- ---- the calls
 
 -- the profile's entries in use: s(0) to s(n)
 abbrev pub entriesOf : Plate → List ℕ
@@ -60,3 +60,15 @@ WritesRefused number place = WritesLine (refusedLine number place)
 -- end: the number of block lines
 abbrev pub WritesEnd : ℕ → List ℕ → Written → List ℕ → Type 0
 WritesEnd blocks = WritesLine (endLine blocks)
+
+-- weight: a weight and its count
+abbrev pub WritesWeight : ℕ → ℕ → List ℕ → Written → List ℕ → Type 0
+WritesWeight weight count = WritesLine (weightLine weight count)
+
+-- least: the smallest weight above zero
+abbrev pub WritesLeast : ℕ → List ℕ → Written → List ℕ → Type 0
+WritesLeast weight = WritesLine (leastLine weight)
+
+-- least: none
+abbrev pub WritesNoLeast : List ℕ → Written → List ℕ → Type 0
+WritesNoLeast = WritesLine noLeastLine

@@ -1,4 +1,4 @@
-// The five kinds of listing line, written into a lent room. A line is built in an array of 256 bytes, which every line is proved to fit,
+// The kinds of listing line, written into a lent room. A line is built in an array of 256 bytes, which every line is proved to fit,
 // and copied where the room is long enough.
 ghost use mathlib.Core.Path.{_≡_};
 ghost use mathlib.Core.List.{_++_};
@@ -6,7 +6,7 @@ ghost use Prim.Native.Nat.{_≤_};
 ghost use lib.ListN.{length, drop};
 ghost use Rattle.listings.specs.Building.{Ends};
 ghost use Rattle.listings.specs.Lines.{plateLine, profileLine, wordLine};
-ghost use Rattle.listings.specs.Writing.{WritesLine, WritesPlate, WritesProfile, WritesWord, WritesRefused, WritesEnd};
+ghost use Rattle.listings.specs.Writing.{WritesLine, WritesPlate, WritesProfile, WritesWord, WritesRefused, WritesEnd, WritesWeight, WritesLeast, WritesNoLeast};
 
 mod pieces;
 
@@ -160,5 +160,38 @@ pub fn write_end(blocks: u64, room: &mut [u8]) -> Written
     let feed = pieces::line_feed(&mut line);
     let first = pieces::prepend_field(&mut line, feed, blocks);
     let at = pieces::prepend_name(&mut line, first, b"end");
+    write_line(&line, at, room)
+}
+
+// The line `weight`: a weight, and how many codewords have it.
+pub fn write_weight(weight: u64, count: u64, room: &mut [u8]) -> Written
+    ensures { λ r. ⌜ WritesWeight weight count (now (room .entry)) r (now (room .exit)) ⌝ }
+{
+    let mut line = [0; 256];
+    let feed = pieces::line_feed(&mut line);
+    let last = pieces::prepend_field(&mut line, feed, count);
+    let first = pieces::prepend_field(&mut line, last, weight);
+    let at = pieces::prepend_name(&mut line, first, b"weight");
+    write_line(&line, at, room)
+}
+
+// The line `least`: the smallest weight above zero.
+pub fn write_least(weight: u64, room: &mut [u8]) -> Written
+    ensures { λ r. ⌜ WritesLeast weight (now (room .entry)) r (now (room .exit)) ⌝ }
+{
+    let mut line = [0; 256];
+    let feed = pieces::line_feed(&mut line);
+    let first = pieces::prepend_field(&mut line, feed, weight);
+    let at = pieces::prepend_name(&mut line, first, b"least");
+    write_line(&line, at, room)
+}
+
+// The line `least` where no weight is above zero.
+pub fn write_no_least(room: &mut [u8]) -> Written
+    ensures { λ r. ⌜ WritesNoLeast (now (room .entry)) r (now (room .exit)) ⌝ }
+{
+    let mut line = [0; 256];
+    let feed = pieces::line_feed(&mut line);
+    let at = pieces::prepend_name(&mut line, feed, b"least\tnone");
     write_line(&line, at, room)
 }

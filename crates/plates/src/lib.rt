@@ -47,6 +47,7 @@ pub enum Refusal {
     PositionBeyond,
     BadSetting,
     NotANumber(usize),
+    WholeSpace,
 }
 
 // What preparing says of a matrix.
@@ -84,6 +85,7 @@ pub fn refusal_number(refusal: Refusal) -> u64
         Refusal::PositionBeyond => 21,
         Refusal::BadSetting => 24,
         Refusal::NotANumber(_) => 25,
+        Refusal::WholeSpace => 22,
     }
 }
 
@@ -110,6 +112,7 @@ pub fn refusal_place(refusal: Refusal) -> usize
         Refusal::InputTooLong => 0,
         Refusal::PositionBeyond => 0,
         Refusal::BadSetting => 0,
+        Refusal::WholeSpace => 0,
     }
 }
 

@@ -158,6 +158,7 @@ fn is_of_block(refusal: Refusal) -> bool
         Refusal::PositionBeyond => false,
         Refusal::BadSetting => false,
         Refusal::NotANumber(_) => false,
+        Refusal::WholeSpace => false,
     }
 }
 

@@ -59,6 +59,9 @@ enum-told-13 c = search needs
 enum-told-14 : tie.Need-enum-told-14
 enum-told-14 c = search needs
 
+enum-told-15 : tie.Need-enum-told-15
+enum-told-15 c = search needs
+
 returns : tie.Need-returns
 returns c = sym (ap place (c .before .refusal .given .1))
 
@@ -113,6 +116,9 @@ returns-17 c = sym (ap place (c .enum-told13 .given .1))
 returns-18 : tie.Need-returns-18
 returns-18 c = sym (ap place (c .enum-told14 .given .1))
 
+returns-19 : tie.Need-returns-19
+returns-19 c = sym (ap place (c .enum-told15 .given .1))
+
 pub refusal-place-spec : {M : Type 1} → statement M
 refusal-place-spec =
     tie.close
@@ -135,6 +141,7 @@ refusal-place-spec =
     enum-told-12
     enum-told-13
     enum-told-14
+    enum-told-15
     returns
     returns-2
     returns-3
@@ -152,4 +159,5 @@ refusal-place-spec =
     returns-15
     returns-16
     returns-17
-    returns-18)
+    returns-18
+    returns-19)

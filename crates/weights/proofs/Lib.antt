@@ -1,0 +1,12 @@
+pub mod RoomSteps
+pub mod BranchWays
+pub mod StepFilling
+pub mod SweepWays
+pub mod CountPairs
+pub mod WaysCounted
+pub mod WaysSpelled
+pub mod WaysAdded
+pub mod PlateWeights
+pub mod WeightCalls
+pub mod WeightsDetermined
+pub mod WeightsMean

@@ -1,0 +1,5 @@
+pub mod Number
+pub mod Weights
+pub mod Rooms
+pub mod Ways
+pub mod Tallying

@@ -1,0 +1,53 @@
+// The weights of a plate: how many codewords have each number of ones, and the smallest number above zero.
+use crate::rooms::find_least;
+use crate::rooms::half_of;
+use crate::tallies::tally;
+use plates::Plate;
+use plates::Refusal;
+ghost use Rattle.weights.specs.Weights.{CountsWeights};
+
+mod rooms;
+mod states;
+mod tallies;
+
+// The smallest weight above zero, or that only the zero word is a codeword, or why nothing was counted.
+pub enum Counted {
+    Least(usize),
+    OnlyZero,
+    Refused(Refusal),
+}
+
+// The number of codewords of each weight into the first 65 counts. The working room needs 130 * 2^m numbers, m being the largest profile
+// entry.
+pub fn count_weights(plate: Plate, counts: &mut [u64], working: &mut [u64]) -> Counted
+    ensures { λ r. ⌜ CountsWeights plate (now (counts .entry)) (now (working .entry)) (now (counts .exit)) (now (working .exit)) r ⌝ }
+{
+    if !plates::is_prepared(plate) {
+        return Counted::Refused(Refusal::NotPrepared);
+    }
+    let k = plate.k;
+    if k == 64 {
+        return Counted::Refused(Refusal::WholeSpace);
+    }
+    if counts.len() < 65 {
+        return Counted::Refused(Refusal::MetricRoom);
+    }
+    let half = half_of(plate.n, &plate.profile);
+    let need = half + half;
+    if working.len() < need {
+        return Counted::Refused(Refusal::MetricRoom);
+    }
+    let rows = plate.rows;
+    tally(
+        &rows[..k],
+        plate.n,
+        half,
+        &mut working[..need],
+        &mut *counts,
+    );
+    let least = find_least(&*counts);
+    if least < 65 {
+        return Counted::Least(least);
+    }
+    Counted::OnlyZero
+}
