@@ -10,7 +10,7 @@ use Prim.Native.Nat.{_<_, _^_, ℕ, _≤_}
 use Rattle.demands.proofs.Checking.{Check, atMost, both, by, each, either, equal, less}
 use Rattle.plates.specs.declared.Kind.{Kind}
 use Rattle.plates.specs.declared.Refusal.{Refusal}
-use Rattle.plates.specs.declared.Refusal.the-variants.{BadSetting, DecisionRoom, Information, InputTooLong, Length, LineRoom, MetricRoom, NoCodeword, NoSuchBranch, NotANumber, NotPrepared, PositionBeyond, RowBeyond, SampleCount, SampleRange, SheetLine, TooManyRows, TooWide, WholeSpace}
+use Rattle.plates.specs.declared.Refusal.the-variants.{AlistFault, BadSetting, DecisionRoom, Information, InputTooLong, Length, LineRoom, MetricRoom, NoCodeword, NoSuchBranch, NotANumber, NotPrepared, PositionBeyond, RowBeyond, SampleCount, SampleRange, SheetLine, TooManyRows, TooWide, WholeSpace}
 use Rattle.plates.specs.Prepare.{Prepares, RowOver, badLength}
 use Rattle.plates.specs.Refusals.{number, place}
 use Rattle.plates.specs.Replying.{refusedWith}
@@ -29,7 +29,7 @@ refusalOf i p =
     (cond (eqb i 9) DecisionRoom
     (cond (eqb i 10) (SheetLine p)
     (cond (eqb i 11) LineRoom
-    (cond (eqb i 12) NoSuchBranch (cond (eqb i 13) Information (cond (eqb i 14) NoCodeword (cond (eqb i 15) InputTooLong (cond (eqb i 21) PositionBeyond (cond (eqb i 22) WholeSpace (cond (eqb i 24) BadSetting (NotANumber p))))))))))))))))))
+    (cond (eqb i 12) NoSuchBranch (cond (eqb i 13) Information (cond (eqb i 14) NoCodeword (cond (eqb i 15) InputTooLong (cond (eqb i 16) (AlistFault p) (cond (eqb i 21) PositionBeyond (cond (eqb i 22) WholeSpace (cond (eqb i 24) BadSetting (NotANumber p)))))))))))))))))))
 
 -- a refusal is told by its number and place
 pub told : (q : Refusal) → refusalOf (number q) (place q) ≡ q
@@ -52,6 +52,7 @@ told PositionBeyond = refl
 told BadSetting = refl
 told (NotANumber position) = refl
 told WholeSpace = refl
+told (AlistFault line) = refl
 
 -- so two of one number and place are the same
 pub same-refusal : (p q : Refusal) → (number p ≡ number q) × (place p ≡ place q) → p ≡ q

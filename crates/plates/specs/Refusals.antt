@@ -3,7 +3,7 @@ use Prim.Native.Nat.{ℕ}
 use mathlib.Core.List.{List, [], _∷_}
 use mathlib.Core.Logic.{_⊎_}
 use Rattle.plates.specs.declared.Refusal.{Refusal}
-use Rattle.plates.specs.declared.Refusal.the-variants.{Length, TooManyRows, RowBeyond, TooWide, NotPrepared, SampleCount, SampleRange, MetricRoom, DecisionRoom, SheetLine, LineRoom, NoSuchBranch, Information, NoCodeword, InputTooLong, PositionBeyond, BadSetting, NotANumber, WholeSpace}
+use Rattle.plates.specs.declared.Refusal.the-variants.{Length, TooManyRows, RowBeyond, TooWide, NotPrepared, SampleCount, SampleRange, MetricRoom, DecisionRoom, SheetLine, LineRoom, NoSuchBranch, Information, NoCodeword, InputTooLong, PositionBeyond, BadSetting, NotANumber, WholeSpace, AlistFault}
 
 -- the number of each refusal
 abbrev pub number : Refusal → ℕ
@@ -26,6 +26,7 @@ number PositionBeyond = 21
 number BadSetting = 24
 number (NotANumber position) = 25
 number WholeSpace = 22
+number (AlistFault line) = 16
 
 -- its place: the first such row, position or line where the table names one, and 0 elsewhere
 abbrev pub place : Refusal → ℕ
@@ -48,6 +49,7 @@ place PositionBeyond = 0
 place BadSetting = 0
 place (NotANumber position) = position
 place WholeSpace = 0
+place (AlistFault line) = line
 
 -- A condition of a call says with which refusal it refuses, where it holds.
 -- `Refuses conditions q`: the first of the conditions that holds refuses with q

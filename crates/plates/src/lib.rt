@@ -48,6 +48,7 @@ pub enum Refusal {
     BadSetting,
     NotANumber(usize),
     WholeSpace,
+    AlistFault(usize),
 }
 
 // What preparing says of a matrix.
@@ -86,6 +87,7 @@ pub fn refusal_number(refusal: Refusal) -> u64
         Refusal::BadSetting => 24,
         Refusal::NotANumber(_) => 25,
         Refusal::WholeSpace => 22,
+        Refusal::AlistFault(_) => 16,
     }
 }
 
@@ -97,6 +99,7 @@ pub fn refusal_place(refusal: Refusal) -> usize
         Refusal::RowBeyond(row) => row,
         Refusal::SampleRange(position) => position,
         Refusal::SheetLine(line) => line,
+        Refusal::AlistFault(line) => line,
         Refusal::NotANumber(position) => position,
         Refusal::Length => 0,
         Refusal::TooManyRows => 0,

@@ -159,6 +159,7 @@ fn is_of_block(refusal: Refusal) -> bool
         Refusal::BadSetting => false,
         Refusal::NotANumber(_) => false,
         Refusal::WholeSpace => false,
+        Refusal::AlistFault(_) => false,
     }
 }
 

@@ -17,6 +17,9 @@ enum-known-refusal-3 c = search needs
 enum-known-refusal-4 : tie.Need-enum-known-refusal-4
 enum-known-refusal-4 c = search needs
 
+enum-known-refusal-5 : tie.Need-enum-known-refusal-5
+enum-known-refusal-5 c = search needs
+
 enum-told : tie.Need-enum-told
 enum-told c = search needs
 
@@ -75,49 +78,52 @@ returns-4 : tie.Need-returns-4
 returns-4 c = sym (ap place (c .before .refusal4 .given .1))
 
 returns-5 : tie.Need-returns-5
-returns-5 c = sym (ap place (c .enum-told .given .1))
+returns-5 c = sym (ap place (c .before .refusal5 .given .1))
 
 returns-6 : tie.Need-returns-6
-returns-6 c = sym (ap place (c .enum-told2 .given .1))
+returns-6 c = sym (ap place (c .enum-told .given .1))
 
 returns-7 : tie.Need-returns-7
-returns-7 c = sym (ap place (c .enum-told3 .given .1))
+returns-7 c = sym (ap place (c .enum-told2 .given .1))
 
 returns-8 : tie.Need-returns-8
-returns-8 c = sym (ap place (c .enum-told4 .given .1))
+returns-8 c = sym (ap place (c .enum-told3 .given .1))
 
 returns-9 : tie.Need-returns-9
-returns-9 c = sym (ap place (c .enum-told5 .given .1))
+returns-9 c = sym (ap place (c .enum-told4 .given .1))
 
 returns-10 : tie.Need-returns-10
-returns-10 c = sym (ap place (c .enum-told6 .given .1))
+returns-10 c = sym (ap place (c .enum-told5 .given .1))
 
 returns-11 : tie.Need-returns-11
-returns-11 c = sym (ap place (c .enum-told7 .given .1))
+returns-11 c = sym (ap place (c .enum-told6 .given .1))
 
 returns-12 : tie.Need-returns-12
-returns-12 c = sym (ap place (c .enum-told8 .given .1))
+returns-12 c = sym (ap place (c .enum-told7 .given .1))
 
 returns-13 : tie.Need-returns-13
-returns-13 c = sym (ap place (c .enum-told9 .given .1))
+returns-13 c = sym (ap place (c .enum-told8 .given .1))
 
 returns-14 : tie.Need-returns-14
-returns-14 c = sym (ap place (c .enum-told10 .given .1))
+returns-14 c = sym (ap place (c .enum-told9 .given .1))
 
 returns-15 : tie.Need-returns-15
-returns-15 c = sym (ap place (c .enum-told11 .given .1))
+returns-15 c = sym (ap place (c .enum-told10 .given .1))
 
 returns-16 : tie.Need-returns-16
-returns-16 c = sym (ap place (c .enum-told12 .given .1))
+returns-16 c = sym (ap place (c .enum-told11 .given .1))
 
 returns-17 : tie.Need-returns-17
-returns-17 c = sym (ap place (c .enum-told13 .given .1))
+returns-17 c = sym (ap place (c .enum-told12 .given .1))
 
 returns-18 : tie.Need-returns-18
-returns-18 c = sym (ap place (c .enum-told14 .given .1))
+returns-18 c = sym (ap place (c .enum-told13 .given .1))
 
 returns-19 : tie.Need-returns-19
-returns-19 c = sym (ap place (c .enum-told15 .given .1))
+returns-19 c = sym (ap place (c .enum-told14 .given .1))
+
+returns-20 : tie.Need-returns-20
+returns-20 c = sym (ap place (c .enum-told15 .given .1))
 
 pub refusal-place-spec : {M : Type 1} → statement M
 refusal-place-spec =
@@ -127,6 +133,7 @@ refusal-place-spec =
     enum-known-refusal-2
     enum-known-refusal-3
     enum-known-refusal-4
+    enum-known-refusal-5
     enum-told
     enum-told-2
     enum-told-3
@@ -160,4 +167,5 @@ refusal-place-spec =
     returns-16
     returns-17
     returns-18
-    returns-19)
+    returns-19
+    returns-20)

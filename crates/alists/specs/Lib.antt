@@ -1,0 +1,6 @@
+pub mod Lists
+pub mod Text
+pub mod Lines
+pub mod Reading
+pub mod Calls
+pub mod Working
