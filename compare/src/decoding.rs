@@ -56,12 +56,12 @@ pub fn of_all_codewords(plate: &Plate, samples: &[i16]) -> (i32, u64) {
     best
 }
 
-/// One position more on every beginning, with this bit only where one is given, those kept that some
-/// codeword continues.
+/// One position more on every beginning, with each bit that `bits` permits, those kept that some codeword
+/// continues.
 fn lengthened(
     begun: &Beginnings,
     position: usize,
-    only: Option<u64>,
+    bits: [bool; 2],
     sample: i16,
     column: u64,
     rest: &Basis,
@@ -70,8 +70,8 @@ fn lengthened(
     for (&syndrome, &(value, word)) in begun {
         let with_zero = (syndrome, (value + i32::from(sample), word));
         let with_one = (syndrome ^ column, (value - i32::from(sample), word | 1 << position));
-        for (digit, (syndrome, found)) in [(0, with_zero), (1, with_one)] {
-            if only.is_some_and(|only| only != digit) || rest.express(syndrome).is_none() {
+        for (permitted, (syndrome, found)) in bits.into_iter().zip([with_zero, with_one]) {
+            if !permitted || rest.express(syndrome).is_none() {
                 continue;
             }
             let kept = longer.entry(syndrome).or_insert(found);
@@ -95,6 +95,7 @@ pub fn by_forward_pass_with(
     samples: &[i16],
     wanted: Option<(usize, u64)>,
 ) -> Option<(i32, u64)> {
+    let (position, digit) = wanted.unwrap_or((plate.n, 0));
     let mut rests = vec![Basis::new()];
     for &column in plate.columns.iter().rev() {
         let mut longer = rests.last().unwrap().clone();
@@ -104,8 +105,8 @@ pub fn by_forward_pass_with(
     let mut begun = Beginnings::default();
     begun.insert(0, (0, 0));
     for (t, &sample) in samples.iter().enumerate() {
-        let only = wanted.filter(|&(position, _)| position == t).map(|(_, digit)| digit);
-        begun = lengthened(&begun, t, only, sample, plate.columns[t], &rests[plate.n - t - 1]);
+        let bits = if t == position { [digit == 0, digit == 1] } else { [true, true] };
+        begun = lengthened(&begun, t, bits, sample, plate.columns[t], &rests[plate.n - t - 1]);
     }
     begun.get(&0).copied()
 }
