@@ -39,11 +39,11 @@ extern "C" {
 #define YENDRUFAL_INFORMATION 13    /* information has a one at k or beyond */
 #define YENDRUFAL_NO_CODEWORD 14    /* word read back is no codeword */
 #define YENDRUFAL_SHEET_LENGTH 15   /* sheet over 32,768 bytes (in a listing only) */
+#define YENDRUFAL_ALIST_FAULT 16    /* fault in an alist text (by no call of this header) */
 #define YENDRUFAL_POSITION 21       /* the position is n or beyond */
+#define YENDRUFAL_WHOLE_SPACE 22    /* k is 64 (by no call of this header) */
 #define YENDRUFAL_SETTING 24        /* step or top of the levels out of range (by no call of this header) */
 #define YENDRUFAL_NOT_A_NUMBER 25   /* a heard value that is not a number (by no call of this header) */
-#define YENDRUFAL_WHOLE_SPACE 22    /* k is 64 (in counting weights only) */
-#define YENDRUFAL_ALIST_FAULT 16    /* fault in an alist text (no exported call gives it yet) */
 #define YENDRUFAL_NO_BRANCH 100     /* an ordinary reply: no branch with this bit leaves the state */
 #define YENDRUFAL_SHAPE 101         /* a run is too short for its fixed use, or `kind` is over 1 */
 
