@@ -24,6 +24,10 @@ pub none-begun : (rows : List ℕ) → begunBefore rows 0 ≡ 0
 none-begun [] = refl
 none-begun (row ∷ rows) = rw (le-ltb (first row) 0 zero-le) (none-begun rows)
 
+pub all-begun : (rows : List ℕ) (n : ℕ) → ((j : ℕ) → j < length rows → firsts rows j < n) → begunBefore rows n ≡ length rows
+all-begun [] n h = refl
+all-begun (row ∷ rows) n h = rw (lt-ltb (first row) n (h 0 (suc-le-suc zero-le))) (ap suc (all-begun rows n (λ j l. h (suc j) (suc-le-suc l))))
+
 -- ---- the rows that begin before t
 
 module _ (t : ℕ) where

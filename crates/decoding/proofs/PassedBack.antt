@@ -12,12 +12,13 @@ use native.Mathlib.Decide.{decLt}
 use native.Mathlib.Nat.{mod-eq-of-lt, mod-lt}
 use native.Mathlib.Omega.{arith}
 use Prim.Native.Nat.{_%_, _*_, _+_, _-_, _/_, _<_, _^_, suc, suc-le-suc, zero, zero-le, ℕ, _≤_}
-use Rattle.decoding.proofs.BegunRows.{none-begins}
+use Rattle.decoding.proofs.BegunRows.{begun-few, begun-next, begun-row, none-begins}
 use Rattle.decoding.proofs.Digits.{bit-low}
-use Rattle.decoding.proofs.LiveMarks.{last-active, marks-below, marks-bit, with-beginning, without-beginning}
+use Rattle.decoding.proofs.LiveMarks.{marks-below, marks-bit, with-beginning, without-beginning}
 use Rattle.decoding.proofs.MarkCounts.{ending-by, live-ones}
 use Rattle.decoding.proofs.PassedRows.{active-below, counted, row-first}
-use Rattle.decoding.specs.LiveRows.{AllActive, EndsAre, PassedTo, PlateRows, activeMarks, endingBy, isLive, liveMarks}
+use Rattle.decoding.specs.declared.live.Live.{Live}
+use Rattle.decoding.specs.LiveRows.{AllActive, EndsAre, LiveAt, PassedTo, PlateRows, activeMarks, begunBefore, endingBy, isLive, liveMarks}
 use Rattle.trellises.proofs.AmongRows.{TakenFrom, all-taken, among-first, at-least, none-taken, one-taken, section-of-active, shifted-one}
 use Rattle.trellises.proofs.Digits.{mod-digit}
 use Rattle.trellises.proofs.OneBegins.{section-begins}
@@ -28,6 +29,7 @@ use Rattle.trellises.specs.Smallest.{Begins}
 use Rattle.words.proofs.Ends.{one-before, some-pos}
 use Rattle.words.proofs.Span.{last-unique, zero-one}
 use Rattle.words.proofs.Word.{bit-div, bit-lt, bits-below}
+use Rattle.words.specs.Choice.{more}
 use Rattle.words.specs.Ends.{FirstOne, LastOne, firsts}
 use Rattle.words.specs.Span.{Last}
 use Rattle.words.specs.Word.{bit}
@@ -114,46 +116,47 @@ module _ {rows : List ℕ} {k : ℕ} (p : PlateRows rows k) (t : ℕ) {which : �
       go true q = let b = section-begins plate (p .spans) t .0 q in some (b .row) (b .there) (b .here) q
       go false q = none (none-begins plate (p .spans) t q) q
 
-  pub before-none : which ≡ 0 → 0 ≡ liveMarks (take k rows) t
-  before-none z =
-      by-begins (λ j h f q. omega (arith, e, z, with-beginning plate (p .spans) t j h f)) (λ n q. sym (without-beginning plate (p .spans) t n ∙ sym e ∙ z))
+  -- where so many rows have begun behind the section, the last of them begins in it, or none does
+  module _ {next : ℕ} (b : next ≡ begunBefore (take k rows) (suc t)) where
+    pub last-there : {j : ℕ} → next ≡ suc j → j < k
+    last-there q = omega (arith, b, begun-few (suc t) plate, counted p)
 
-  module _ {r : ℕ} (l : Last which r) {f : ℕ} (first : FirstOne (getD rows r 0) f) where
-    pub before-last : f ≡ t → which - 1 * 2 ^ r % 2 ^ 64 ≡ liveMarks (take k rows) t
-    before-last q =
-        let h = named r (l .one) in
-        let m = with-beginning plate (p .spans) t r (omega (arith, counted p)) (sym (row-first p r h first) ∙ q) in
-        omega (arith, e, m, shifted-one r (omega (arith, p .few)))
+    pub last-begins : {j : ℕ} → next ≡ suc j → firsts (take k rows) j ≡ t → liveMarks (take k rows) t + 2 ^ j ≡ which
+    last-begins {j} q f = with-beginning plate (p .spans) t j (omega (arith, last-there q, counted p)) f ∙ sym e
 
-    pub before-all : (f ≡ t → ⊥) → which ≡ liveMarks (take k rows) t
-    before-all d =
-        by-begins (λ j h g q. absurd (d (row-first p r (named r (l .one)) first ∙ ap (firsts plate) (same j h g) ∙ g)))
-        (λ n q. e ∙ sym (without-beginning plate (p .spans) t n))
-      where
-        same : (j : ℕ) → j < length (take k rows) → firsts (take k rows) j ≡ t → r ≡ j
-        same j h g = last-unique (subst (λ (w : ℕ). Last w r) e l) (last-active plate (p .spans) t j h g)
+    pub before-last : {j : ℕ} → next ≡ suc j → firsts (take k rows) j ≡ t
+        → LiveAt (take k rows) t (record { marks = which - 1 * 2 ^ j % 2 ^ 64; next = j })
+    before-last {j} q f = record {
+      marks-are = omega (arith, last-begins q f, shifted-one j (omega (arith, last-there q, p .few)));
+      next-is = sym (begun-row plate (p .spans) t (record { row = j; there = omega (arith, last-there q, counted p); here = f }));
+    }
+
+    pub before-all : ((j : ℕ) → next ≡ suc j → firsts (take k rows) j ≡ t → ⊥) → LiveAt (take k rows) t (record { marks = which; next = next })
+    before-all n =
+        by-begins (λ j h f q. absurd (n j (b ∙ begun-next plate (p .spans) t ∙ ap (λ (x : Bool). more x (begunBefore plate t)) q ∙ ap suc (begun-row plate (p .spans) t (record { row = j; there = h; here = f }))) f))
+        (λ m q. record { marks-are = e ∙ sym (without-beginning plate (p .spans) t m); next-is = b ∙ begun-next plate (p .spans) t ∙ ap (λ (x : Bool). more x (begunBefore plate t)) q })
 
   -- the section passed
-  module _ {ends : List ℕ} (a : EndsAre (take k rows) ends) (h : t < 64) {before : ℕ} (l : before ≡ liveMarks (take k rows) t) where
-    pub before-few : ones before ≤ 64
+  module _ {ends : List ℕ} (a : EndsAre (take k rows) ends) (h : t < 64) {before : Live} (l : LiveAt (take k rows) t before) where
+    pub before-few : ones (before .marks) ≤ 64
     before-few =
-        omega (arith, counted p, p .few, ones-le (length plate) before (subst (λ (w : ℕ). w < 2 ^ length plate) (sym l) (marks-below (isLive t) plate)))
+        omega (arith, counted p, p .few, ones-le (length plate) (before .marks) (subst (λ (w : ℕ). w < 2 ^ length plate) (sym (l .marks-are)) (marks-below (isLive t) plate)))
 
-    begins-is : ltb before which ≡ sectionOf (take k rows) t .begins
+    begins-is : ltb (before .marks) which ≡ sectionOf (take k rows) t .begins
     begins-is =
-        by-begins (λ j g f q. lt-ltb before which (omega (arith, e, l, with-beginning plate (p .spans) t j g f, pow-pos j)) ∙ sym q)
-        (λ n q. le-ltb before which (omega (arith, e, l, without-beginning plate (p .spans) t n)) ∙ sym q)
+        by-begins (λ j g f q. lt-ltb (before .marks) which (omega (arith, e, l .marks-are, with-beginning plate (p .spans) t j g f, pow-pos j)) ∙ sym q)
+        (λ n q. le-ltb (before .marks) which (omega (arith, e, l .marks-are, without-beginning plate (p .spans) t n)) ∙ sym q)
 
     pub passed-back : {ending column : ℕ} → ending ≡ endingBy which (getD ends t 0) → column ≡ held (sectionOf (rowsAmong rows which) t) .column
-        → PassedTo (take k rows) t t
-        (record { section = record { live = ones before; begins = ltb before which; ends = ltb 0 (getD ends t 0); ending = ending; column = column }; live = before })
+        → PassedTo (take k rows) t
+        (record { section = record { live = ones (before .marks); begins = ltb (before .marks) which; ends = ltb 0 (getD ends t 0); ending = ending; column = column }; live = before })
     passed-back {ending} {column} n m = record {
       section = λ i. record { live = lives i; begins = begins-is i; ends = ends-is i; ending = ending-is i; column = column-is i };
       live = l;
     }
       where
-        lives : ones before ≡ sectionOf (take k rows) t .live
-        lives = ap ones l ∙ live-ones plate t
+        lives : ones (before .marks) ≡ sectionOf (take k rows) t .live
+        lives = ap ones (l .marks-are) ∙ live-ones plate t
 
         ends-is : ltb 0 (getD ends t 0) ≡ sectionOf (take k rows) t .ends
         ends-is = ending-by plate (p .spans) ends t a h .0
@@ -163,20 +166,3 @@ module _ {rows : List ℕ} {k : ℕ} (p : PlateRows rows k) (t : ℕ) {which : �
 
         column-is : column ≡ sectionOf (take k rows) t .column
         column-is = m ∙ ap (λ (z : Section). z .column) section-is
-
--- ---- the last one of a 64-bit word
-
-pub some-one : (w : ℕ) → (w ≡ 0 → ⊥) → 0 < w
-some-one zero n = absurd (n refl)
-some-one (suc w) n = suc-le-suc zero-le
-
-module _ (w r : ℕ) (h : w < 2 ^ 64) (l : Last w r) where
-  pub last-within : r < 64
-  last-within = one-before 64 w r h (l .one)
-
-  pub last-at-most : 1 * 2 ^ r % 2 ^ 64 ≤ w
-  last-at-most = subst (λ (x : ℕ). x ≤ w) (sym (shifted-one r last-within)) (go (decLt w (2 ^ r)))
-    where
-      go : Dec (w < 2 ^ r) → 2 ^ r ≤ w
-      go (yes g) = absurd (omega (arith, one-before r w r g (l .one)))
-      go (no g) = omega arith

@@ -1,5 +1,5 @@
 -- The sizes that a prepared plate's profile gives fit its rows, and are what document 01 says that decoding needs.
-use lib.ListN.{getD}
+use lib.ListN.{getD, length}
 use lib.Pow.{pow-add, pow-mono}
 use mathlib.Core.List.{List}
 use mathlib.Core.Path.{ap, ap₂, _∙_, _≡_}
@@ -7,7 +7,8 @@ use native.Mathlib.Decide.{decLt}
 use native.Mathlib.Nat.{le-refl, le-trans, mul-le-mul-left, mul-le-mul-right}
 use native.Mathlib.Omega.{arith}
 use Prim.Native.Nat.{_*_, _-_, _/_, _<_, _^_, max, suc, zero, zero-le, ℕ, _≤_}
-use Rattle.decoding.proofs.LiveMarks.{none-live-last}
+use Rattle.decoding.proofs.BegunRows.{all-begun}
+use Rattle.decoding.proofs.LiveMarks.{in-order, none-live-last}
 use Rattle.decoding.proofs.PlateRowsOf.{plate-rows-of}
 use Rattle.decoding.proofs.PlateWays.{plate-chain}
 use Rattle.decoding.proofs.WidestStates.{widest-least, widest-most}
@@ -16,13 +17,14 @@ use Rattle.decoding.specs.Decode.{sectionWords, widest, widestTo}
 use Rattle.decoding.specs.Needs.{ProfileFits, SizesOf, widestEntry}
 use Rattle.decoding.specs.Sweeping.{SizesFit}
 use Rattle.plates.proofs.ProfileSteps.{profile-end}
-use Rattle.plates.proofs.SoundIsPrepared.{sound}
+use Rattle.plates.proofs.SoundIsPrepared.{sound, used-rows}
 use Rattle.plates.specs.declared.Plate.{Plate}
 use Rattle.plates.specs.Prepare.{IsPrepared, rowsOf}
 use Rattle.plates.specs.Profile.{liveAt}
 use Rattle.trellises.proofs.PlateTrellis.{plate-fits, plate-spans}
 use Rattle.trellises.proofs.SectionAgrees.{section-agrees}
 use Rattle.trellises.specs.SectionOf.{sectionOf}
+use Rattle.words.specs.Ends.{firsts}
 
 -- a room of 64 bits a word has a bit for each state
 words-enough : (m : ℕ) → 2 ^ m ≤ max 1 (2 ^ m / 64) * 64
@@ -80,8 +82,12 @@ module _ (plate : Plate) (given : IsPrepared plate) where
     words-small = words-few (widest plate) widest-small;
     end-state = omega (arith, section-agrees (rowsOf plate) (plate-spans plate given) (plate .n) .states, end);
     end-live = none-live-last (rowsOf plate) (plate .n) (plate-fits plate given);
+    all-begun = all-begun (rowsOf plate) (plate .n) begun ∙ used-rows plate (sound given .few) (sound given .table);
   }
     where
+      begun : (j : ℕ) → j < length (rowsOf plate) → firsts (rowsOf plate) j < plate .n
+      begun j h = omega (arith, plate-fits plate given j h, in-order (rowsOf plate) (plate-spans plate given) j h)
+
       end : liveAt (rowsOf plate) (plate .n) ≡ 0
       end = profile-end plate (sound given)
 

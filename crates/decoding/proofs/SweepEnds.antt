@@ -51,11 +51,11 @@ module _ (table : List ℕ) (z : Sizes) (samples metrics : List ℤ) (decisions 
 
   -- at the far end there is one state, with metric 0
   pub sweep-start : SectionSwept table z samples (z .n) metrics decisions (set metrics 0 (pos 0)) decisions
-      (record { from = 0; live = 0; counts = record { additions = 0; comparisons = 0 } })
+      (record { from = 0; live = record { marks = 0; next = z .k }; counts = record { additions = 0; comparisons = 0 } })
   sweep-start = record {
     swept = record {
       side = inl refl;
-      live = sym (fit .end-live);
+      live = record { marks-are = sym (fit .end-live); next-is = sym (fit .all-begun) };
       metric = λ i h. only i (omega (arith, h, ap (λ (x : ℕ). 2 ^ x) (fit .end-state))) ∙ ap (λ (ys : List ℤ). best (sectionOf (take (z .k) table)) ys (z .n) i) (sym no-samples);
       decision = λ u h k. absurd (omega arith);
       counts = ap (λ (ys : List ℤ). counted (sectionOf (take (z .k) table)) ys (z .n)) (sym no-samples);

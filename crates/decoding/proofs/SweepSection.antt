@@ -16,7 +16,8 @@ use Rattle.decoding.specs.Backward.{best, counted, decided}
 use Rattle.decoding.specs.declared.Counts.{Counts}
 use Rattle.decoding.specs.declared.sweep.Sizes.{Sizes}
 use Rattle.decoding.specs.declared.sweep.Standing.{Standing}
-use Rattle.decoding.specs.LiveRows.{liveMarks}
+use Rattle.decoding.specs.declared.live.Live.{Live}
+use Rattle.decoding.specs.LiveRows.{LiveAt}
 use Rattle.decoding.specs.Stepping.{StepFits, Stepped, gainLimit, olds}
 use Rattle.decoding.specs.Sweeping.{RoomsFit, SectionSwept, SizesFit, Swept}
 use Rattle.decoding.specs.Taking.{Taken, atState, counting}
@@ -117,7 +118,7 @@ module _ (table : List ℕ) (z : Sizes) (samples metrics : List ℤ) (decisions 
 
   module _ (metrics′ : List ℤ) (part′ : List ℕ) (k′ : Counts)
       (did : Stepped metrics (s .from) (z .half - s .from) (take (t * z .words + z .words - t * z .words) (drop (t * z .words) decisions)) (sectionOf (take (z .k) table) t) (getD samples t (pos 0)) (s .counts) metrics′ part′ k′)
-      (live′ : ℕ) (live-is′ : live′ ≡ liveMarks (take (z .k) table) t) where
+      (live′ : Live) (live-is′ : LiveAt (take (z .k) table) t live′) where
     abbrev decisions′ : List ℕ
     decisions′ = take begin decisions ++ (part′ ++ drop (begin + z .words - begin) (drop begin decisions))
 
@@ -175,7 +176,7 @@ module _ (table : List ℕ) (z : Sizes) (samples metrics : List ℤ) (decisions 
   -- the same of the section and the sample as the code has them
   pub section-done : (c : Section) → c ≡ sectionOf (take (z .k) table) t → (y : ℤ) → y ≡ getD samples t (pos 0) → (metrics′ : List ℤ) (part′ : List ℕ) (k′ : Counts)
       → Stepped metrics (s .from) (z .half - s .from) (take (t * z .words + z .words - t * z .words) (drop (t * z .words) decisions)) c y (s .counts) metrics′ part′ k′
-      → (live′ : ℕ) → live′ ≡ liveMarks (take (z .k) table) t
+      → (live′ : Live) → LiveAt (take (z .k) table) t live′
       → SectionSwept table z samples t metrics decisions metrics′ (take (t * z .words) decisions ++ (part′ ++ drop (t * z .words + z .words - t * z .words) (drop (t * z .words) decisions)))
       (record { from = z .half - s .from; live = live′; counts = k′ })
   section-done c e y f metrics′ part′ k′ did live′ l =

@@ -7,12 +7,13 @@ use mathlib.Core.List.{List, [], _∷_}
 use mathlib.Core.Path.{_≡_}
 use Prim.Native.Nat.{_%_, _*_, _+_, _<_, _^_, suc, zero, ℕ, _≤_}
 use Rattle.decoding.specs.declared.live.Beginning.{Beginning}
+use Rattle.decoding.specs.declared.live.Live.{Live}
 use Rattle.decoding.specs.declared.live.Passed.{Passed}
 use Rattle.trellises.specs.Numbers.{without}
 use Rattle.trellises.specs.SectionOf.{isActive, sectionOf}
 use Rattle.trellises.specs.States.{stateOf}
 use Rattle.words.specs.Choice.{more}
-use Rattle.words.specs.Ends.{first, firsts, last, lasts}
+use Rattle.words.specs.Ends.{FirstOne, first, firsts, last, lasts}
 use Rattle.words.specs.Span.{Spans}
 use Rattle.words.specs.Sum.{sumOf}
 use Rattle.words.specs.Word.{bit}
@@ -78,9 +79,19 @@ leadsBy active (suc j) x = without (endingBy active (suc j)) x
 abbrev pub AllActive : List ℕ → ℕ → ℕ → Type 0
 AllActive rows which t = (j : ℕ) → j < length rows → bit which j ≡ 1 → isActive t (getD rows j 0) ≡ true
 
--- where the rows named are the active rows of some plate rows, r has those of them that are live before section t
-pub record LiveBefore (table : List ℕ) (which t r : ℕ) : Type 0 where
-  pub live : (k : ℕ) → PlateRows table k → which ≡ activeMarks (take k table) t → r ≡ liveMarks (take k table) t
+-- the live rows at depth t, and how many rows have begun before it
+pub record LiveAt (rows : List ℕ) (t : ℕ) (r : Live) : Type 0 where
+  pub marks-are : r .marks ≡ liveMarks rows t
+  pub next-is : r .next ≡ begunBefore rows t
+
+-- the last of the first so many rows is named where it begins at t
+abbrev pub LastActive : List ℕ → ℕ → ℕ → ℕ → Type 0
+LastActive rows which next t = (j f : ℕ) → next ≡ suc j → FirstOne (getD rows j 0) f → f ≡ t → 2 ^ j ≤ which
+
+-- where the rows named are the active rows of some plate rows, so many of them begun behind section t, r has the live rows before it
+pub record LiveBefore (table : List ℕ) (which next t : ℕ) (r : Live) : Type 0 where
+  pub live : (k : ℕ) → PlateRows table k → which ≡ activeMarks (take k table) t → next ≡ begunBefore (take k table) (suc t)
+      → LiveAt (take k table) t r
 
 -- the rows taken by depth t, all of them begun: their sum, and the state that they make
 pub record Taken (rows : List ℕ) (t sum state : ℕ) : Type 0 where
@@ -89,7 +100,7 @@ pub record Taken (rows : List ℕ) (t sum state : ℕ) : Type 0 where
   pub sum-is : sum ≡ sumOf rows by
   pub state-is : state ≡ stateOf rows (firsts rows) (lasts rows) t by
 
--- a section passed: its numbers, and the live rows on the other side
-pub record PassedTo (rows : List ℕ) (t depth : ℕ) (r : Passed) : Type 0 where
+-- section t passed from its far side: its numbers, and the live rows before it
+pub record PassedTo (rows : List ℕ) (t : ℕ) (r : Passed) : Type 0 where
   pub section : r .section ≡ sectionOf rows t
-  pub live : r .live ≡ liveMarks rows depth
+  pub live : LiveAt rows t (r .live)

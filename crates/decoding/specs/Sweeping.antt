@@ -12,7 +12,7 @@ use Rattle.decoding.specs.declared.sweep.Sizes.{Sizes}
 use Rattle.decoding.specs.declared.sweep.Standing.{Standing}
 use Rattle.decoding.specs.declared.walk.Walk.{Walk}
 use Rattle.decoding.specs.Backward.{Chain, best, counted, decided, wordFrom}
-use Rattle.decoding.specs.LiveRows.{EndsAre, PlateRows, Taken, begunBefore, liveMarks}
+use Rattle.decoding.specs.LiveRows.{EndsAre, LiveAt, PlateRows, Taken, begunBefore, liveMarks}
 use Rattle.decoding.specs.Stepping.{gainLimit, olds}
 
 -- the sizes of a decode fit its rows: half the metric room has a place for each state, and a section's decision words a bit for each
@@ -26,6 +26,7 @@ pub record SizesFit (table : List ℕ) (z : Sizes) : Type 0 where
   pub words-small : z .words ≤ 64
   pub end-state : (sectionOf (take (z .k) table) (z .n)) .live ≡ 0
   pub end-live : liveMarks (take (z .k) table) (z .n) ≡ 0
+  pub all-begun : begunBefore (take (z .k) table) (z .n) ≡ z .k
 
 -- the gains with which the sections are taken: the samples, but at the forced position its own gain; beyond the samples nothing is forced
 abbrev pub forcedTo : List ℤ → Forced → List ℤ
@@ -42,7 +43,7 @@ pub record RoomsFit (z : Sizes) (samples metrics : List ℤ) (decisions : List �
 -- and what was counted
 pub record Swept (rows : List ℕ) (z : Sizes) (samples : List ℤ) (t : ℕ) (metrics : List ℤ) (decisions : List ℕ) (s : Standing) : Type 0 where
   pub side : (s .from ≡ 0) ⊎ (s .from ≡ z .half)
-  pub live : s .live ≡ liveMarks rows t
+  pub live : LiveAt rows t (s .live)
   pub metric : (i : ℕ) → i < 2 ^ (sectionOf rows t) .live → olds metrics (s .from) i ≡ best (sectionOf rows) (drop t samples) t i
   pub decision : (u : ℕ) → t ≤ u → u < z .n → (i : ℕ) → i < 2 ^ (sectionOf rows u) .live
       → bit (getD decisions (u * z .words + i / 64) 0) (i % 64) ≡ decided (sectionOf rows) (getD samples u (pos 0)) (drop (suc u) samples) u i

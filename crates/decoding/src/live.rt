@@ -4,14 +4,20 @@ use trellises::Section;
 ghost use lib.ListN.{length, take};
 ghost use mathlib.Core.Path.{_≡_};
 ghost use Prim.Native.Nat.{suc, _+_, _<_, _≤_};
-ghost use Rattle.decoding.specs.LiveRows.{AllActive, BeginsHere, EndsAre, LiveBefore, PassedTo, PlateRows, begunBefore, endingBy, leadsBy, liveMarks, markOf};
+ghost use Rattle.decoding.specs.LiveRows.{AllActive, BeginsHere, EndsAre, LastActive, LiveAt, LiveBefore, PassedTo, PlateRows, begunBefore, endingBy, leadsBy, markOf};
 ghost use Rattle.trellises.specs.RowsAmong.{rowsAmong};
 ghost use Rattle.trellises.specs.SectionOf.{held, sectionOf};
 
-// A section passed, and the rows that are live on its other side.
+// The rows that are live at a depth, and how many rows have begun before it.
+pub struct Live {
+    pub marks: u64,
+    pub next: usize,
+}
+
+// A section passed, and the live rows on its other side.
 pub struct Passed {
     pub section: Section,
-    pub live: u64,
+    pub live: Live,
 }
 
 // The row that begins in a section, and its bit; both 0 where none begins.
@@ -88,19 +94,28 @@ pub fn leads(active: u64, following: u8, branch: usize) -> usize
     target(rows_below(active, following), branch)
 }
 
-// The active rows but for the one that begins at t: it is the last of them.
-fn rows_before(rows: &[u64; 64], active: u64, t: usize) -> u64
-    requires { ⌜ length (now rows) ≡ 64 ⌝ }
-    ensures { λ r. ⌜ LiveBefore (now (rows .entry)) active t r ⌝ }
+// The active rows but for the one that begins at t: of the rows begun by the section's far side it is the last.
+fn rows_before(rows: &[u64; 64], active: u64, next: usize, t: usize) -> Live
+    requires { ⌜ (length (now rows) ≡ 64) × (next ≤ 64) × LastActive (now rows) active next t ⌝ }
+    ensures { λ r. ⌜ LiveBefore (now (rows .entry)) active next t r ⌝ }
 {
-    if active == 0 {
-        return 0;
+    if next == 0 {
+        return Live {
+            marks: active,
+            next,
+        };
     }
-    let last = words::last_one(active);
+    let last = next - 1;
     if words::first_one(rows[last]) == t {
-        return active - (1 << last);
+        return Live {
+            marks: active - (1 << last),
+            next: last,
+        };
     }
-    active
+    Live {
+        marks: active,
+        next,
+    }
 }
 
 // Position t of the active rows: the first of them has weight 1, the next 2, and so on.
@@ -120,20 +135,21 @@ fn column_of(rows: &[u64; 64], active: u64, t: usize) -> u64
 }
 
 // Section t passed from its far side: the row that ends there joins the live rows, and the row that begins there leaves them.
-pub fn pass_back(rows: &[u64; 64], k: usize, ends: &[u8; 64], live: u64, t: usize) -> Passed
+pub fn pass_back(rows: &[u64; 64], k: usize, ends: &[u8; 64], live: Live, t: usize) -> Passed
     requires { ⌜ PlateRows (now rows) k ⌝ }
     requires { ⌜ EndsAre (take k (now rows)) (now ends) ⌝ }
-    requires { ⌜ (t < 64) × (live ≡ liveMarks (take k (now rows)) (suc t)) ⌝ }
-    ensures { λ r. ⌜ PassedTo (take k (now (rows .entry))) t t r ⌝ }
+    requires { ⌜ (t < 64) × LiveAt (take k (now rows)) (suc t) live ⌝ }
+    ensures { λ r. ⌜ PassedTo (take k (now (rows .entry))) t r ⌝ }
 {
     let following = ends[t];
-    let active = live + mark_of(following);
-    let before = rows_before(rows, active, t);
+    let active = live.marks + mark_of(following);
+    let before = rows_before(rows, active, live.next, t);
     let column = column_of(rows, active, t);
+    let marks = before.marks;
     Passed {
         section: Section {
-            live: u64::count_ones(before) as usize,
-            begins: before < active,
+            live: u64::count_ones(marks) as usize,
+            begins: marks < active,
             ends: 0 < following,
             ending: rows_below(active, following),
             column,

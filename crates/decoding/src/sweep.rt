@@ -1,5 +1,6 @@
 // The sections of a plate taken one after the other, from the far end to the start.
 use crate::Counts;
+use crate::live::Live;
 use crate::live::pass_back;
 use crate::step::step;
 ghost use lib.IntN.{pos};
@@ -20,7 +21,7 @@ pub struct Sizes {
 // Where the sweep stands: where the metrics of its depth begin, the rows live there, and what was counted.
 pub struct Standing {
     pub from: usize,
-    pub live: u64,
+    pub live: Live,
     pub counts: Counts,
 }
 
@@ -76,9 +77,10 @@ fn sweep_section(
         gain_at(samples, forced, t),
         at.counts,
     );
+    let live = passed.live;
     Standing {
         from: to,
-        live: passed.live,
+        live,
         counts,
     }
 }
@@ -101,7 +103,10 @@ pub fn sweep(
     metrics[0] = 0;
     let mut at = Standing {
         from: 0,
-        live: 0,
+        live: Live {
+            marks: 0,
+            next: sizes.k,
+        },
         counts: Counts {
             additions: 0,
             comparisons: 0,

@@ -1,32 +1,44 @@
--- A list read from a place on until something but 0 is found.
+-- The ones of a list from a place on, all in one word: it is 0 exactly if each of them is.
 use borrow.Author.Count.{below-more}
+use lib.Bits.{bitOr, or-lt}
+use lib.Dec.{eqb}
 use lib.ListN.{List·getD-eq-default, getD, length}
 use mathlib.Core.List.{List}
-use mathlib.Core.Path.{_≡_}
+use mathlib.Core.Path.{_≡_, refl}
 use native.Mathlib.Decide.{decLt}
 use native.Mathlib.Nat.{le-refl}
 use native.Mathlib.Omega.{arith}
 use Prim.Native.Nat.{_+_, _<_, ℕ, _≤_}
-use Rattle.plates.specs.Tested.{ZeroFrom}
+use Rattle.plates.proofs.Deciding.{alike, equal}
+use Rattle.plates.specs.Tested.{Decides, ZeroFrom}
+use Rattle.words.proofs.Masks.{or-least}
 
--- the places from `from` to i - 1 are 0
-pub record ZeroTo (from i : ℕ) (list : List ℕ) : Type 0 where
+-- the word of the places from `from` to i - 1
+pub record OnesTo (from i : ℕ) (list : List ℕ) (ones : ℕ) : Type 0 where
   pub begun : from ≤ i
-  pub zeros : (j : ℕ) → from ≤ j → j < i → getD list j 0 ≡ 0
+  pub zeros : ones ≡ 0 → (j : ℕ) → from ≤ j → j < i → getD list j 0 ≡ 0
+  pub zero : ZeroFrom from list → ones ≡ 0
 
-pub zero-none : (from : ℕ) (list : List ℕ) → ZeroTo from from list
-zero-none from list = record { begun = le-refl from; zeros = λ j h l. absurd (omega arith) }
+pub ones-none : (from : ℕ) (list : List ℕ) → OnesTo from from list 0
+ones-none from list = record { begun = le-refl from; zeros = λ e j h l. absurd (omega arith); zero = λ z. refl }
 
-module _ (from i : ℕ) (list : List ℕ) (z : ZeroTo from i list) where
-  pub zero-more : getD list i 0 ≡ 0 → ZeroTo from (i + 1) list
-  zero-more e = record { begun = omega arith; zeros = λ j h l. below-more (λ x. from ≤ x → getD list x 0 ≡ 0) i (λ x m k. z .zeros x k m) (λ k. e) j l h }
-
-  pub zero-stop : (getD list i 0 ≡ 0 → ⊥) → ZeroFrom from list → ⊥
-  zero-stop n g = n (g .zeros i (z .begun))
-
-  pub zero-all : length list ≤ i → ZeroFrom from list
-  zero-all h = record { zeros = λ j k. side j k (decLt j i) }
+module _ (from i : ℕ) (list : List ℕ) (ones : ℕ) (o : OnesTo from i list ones) where
+  pub ones-more : OnesTo from (i + 1) list (bitOr ones (getD list i 0))
+  ones-more = record {
+    begun = omega (arith, o .begun);
+    zeros = λ e j h l. below-more (λ x. from ≤ x → getD list x 0 ≡ 0) i (λ x m k. o .zeros (before e) x k m) (λ k. here e) j l h;
+    zero = λ z. omega (arith, or-lt 0 ones (getD list i 0) (omega (arith, o .zero z)) (omega (arith, z .zeros i (o .begun))));
+  }
     where
-      side : (j : ℕ) → from ≤ j → Dec (j < i) → getD list j 0 ≡ 0
-      side j k (yes b) = z .zeros j k b
-      side j k (no b) = List·getD-eq-default list 0 (omega arith)
+      before : bitOr ones (getD list i 0) ≡ 0 → ones ≡ 0
+      before e = omega (arith, e, or-least ones (getD list i 0) .0)
+
+      here : bitOr ones (getD list i 0) ≡ 0 → getD list i 0 ≡ 0
+      here e = omega (arith, e, or-least ones (getD list i 0) .1)
+
+  pub ones-all : length list ≤ i → Decides (ZeroFrom from list) (eqb ones 0)
+  ones-all h = alike (λ e. record { zeros = λ j k. side e j k (decLt j i) }) (o .zero) (equal ones 0)
+    where
+      side : ones ≡ 0 → (j : ℕ) → from ≤ j → Dec (j < i) → getD list j 0 ≡ 0
+      side e j k (yes b) = o .zeros e j k b
+      side e j k (no b) = List·getD-eq-default list 0 (omega arith)

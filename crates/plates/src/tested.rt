@@ -168,18 +168,17 @@ fn used_sound(rows: &[u64], n: usize, profile: &[u8; 65]) -> bool
     profile_is(rows, n, &by_last, profile)
 }
 
-// Whether the rows from a place on are zero.
+// Whether the rows from a place on are zero. The loop stops nowhere, so that it takes several rows at a time.
 fn rows_zero(rows: &[u64], from: usize) -> bool
     ensures { λ r. ⌜ Decides (ZeroFrom from (now (rows .entry))) r ⌝ }
 {
+    let mut ones: u64 = 0;
     let mut i = from;
     while i < rows.len() {
-        if rows[i] != 0 {
-            return false;
-        }
+        ones = ones | rows[i];
         i += 1;
     }
-    true
+    ones == 0
 }
 
 // Whether the entries of a profile from a place on are zero.
@@ -187,14 +186,13 @@ fn entries_zero(entries: &[u8; 65], from: usize) -> bool
     requires { ⌜ length (now entries) ≡ 65 ⌝ }
     ensures { λ r. ⌜ Decides (ZeroFrom from (now (entries .entry))) r ⌝ }
 {
+    let mut ones: u8 = 0;
     let mut i = from;
     while i < 65 {
-        if entries[i] != 0 {
-            return false;
-        }
+        ones = ones | entries[i];
         i += 1;
     }
-    true
+    ones == 0
 }
 
 // Whether all that can be tested of a plate holds.

@@ -1,12 +1,13 @@
 -- `decoding::live::pass_back` meets its contract: the row that ends joins the live rows, and the row that begins leaves them.
 use borrow.Author.Needs.{needs}
 use lib.ListN.{take}
-use mathlib.Core.Path.{_≡_}
+use mathlib.Core.Path.{_≡_, _∙_, sym}
 use native.Mathlib.Omega.{arith}
-use Prim.Native.Nat.{_+_}
-use Rattle.decoding.proofs.PassedBack.{all-active, before-few, passed-back}
-use Rattle.decoding.proofs.PassedRows.{active-fits, ending-few, ending-joins}
-use Rattle.decoding.specs.LiveRows.{activeMarks, liveMarks}
+use Prim.Native.Nat.{suc, _+_}
+use Rattle.decoding.proofs.BegunRows.{begun-few}
+use Rattle.decoding.proofs.PassedBack.{all-active, before-few, last-begins, last-there, passed-back}
+use Rattle.decoding.proofs.PassedRows.{active-fits, counted, ending-few, ending-joins, row-first}
+use Rattle.decoding.specs.LiveRows.{LiveAt, activeMarks}
 use Rattle.decoding.proofs.live.pass_back.Statement.{statement}
 use Rattle.decoding.proofs.live.pass_back.Tie as tie
 
@@ -18,42 +19,53 @@ mark-of-requires c κs = let s = c .before in ending-few (s .pre .0) (s .args .t
 
 -- the rows that are active in section t
 joined : (c : tie.After-mark-of)
-    → c .before .before .args .live + c .mark-of .result ≡ activeMarks (take (c .before .before .args .k) (c .before .before .args .rows .now)) (c .before .before .args .t)
+    → c .before .before .args .live .marks + c .mark-of .result ≡ activeMarks (take (c .before .before .args .k) (c .before .before .args .rows .now)) (c .before .before .args .t)
 joined c =
     let s = c .before .before in
-    ending-joins (s .pre .0) (s .args .t) (s .pre .1 .0) (s .pre .1 .1 .0) (s .pre .1 .1 .1) (c .mark-of .ensures)
+    ending-joins (s .pre .0) (s .args .t) (s .pre .1 .0) (s .pre .1 .1 .0) (s .pre .1 .1 .1 .marks-are) (c .mark-of .ensures)
 
 add-active : tie.Need-add-active
-add-active c = record { fits = active-fits (c .before .before .pre .0) (c .before .before .args .t) (joined c) }
+add-active c = let s = c .before .before .before in record { fits = active-fits (s .pre .0) (s .args .t) (joined (c .before)) }
 
 rows-before-requires : tie.Need-rows-before-requires
-rows-before-requires c κs = search needs
+rows-before-requires c κs =
+    let s = c .before .before .before in
+    let p = s .pre .0 in
+    let b = s .pre .1 .1 .1 .next-is in
+    let e = joined (c .before) in (
+      p .table,
+      omega (arith, b, begun-few (suc (s .args .t)) (take (s .args .k) (s .args .rows .now)), counted p, p .few),
+      λ j f q first h.
+          omega (arith, last-begins p (s .args .t) e b q (sym (row-first p j (last-there p (s .args .t) e b q) first) ∙ h)),
+    )
 
 -- those of them that are live before it
 before : (c : tie.After-rows-before)
-    → c .rows-before .result ≡ liveMarks (take (c .before .before .before .args .k) (c .before .before .before .args .rows .now)) (c .before .before .before .args .t)
-before c = let s = c .before .before .before in c .rows-before .ensures .live (s .args .k) (s .pre .0) (joined (c .before))
+    → LiveAt (take (c .before .before .before .before .args .k) (c .before .before .before .before .args .rows .now)) (c .before .before .before .before .args .t) (c .rows-before .result)
+before c =
+    let s = c .before .before .before .before in
+    c .rows-before .ensures .live (s .args .k) (s .pre .0) (joined (c .before .before)) (s .pre .1 .1 .1 .next-is)
 
 column-of-requires : tie.Need-column-of-requires
 column-of-requires c κs =
-    let s = c .before .before .before in
-    (s .pre .0 .table, s .pre .1 .1 .0, all-active (s .pre .0) (s .args .t) (joined (c .before)))
+    let s = c .before .before .before .before in
+    (s .pre .0 .table, s .pre .1 .1 .0, all-active (s .pre .0) (s .args .t) (joined (c .before .before)))
 
-cast-t15 : tie.Need-cast-t15
-cast-t15 c =
+cast-t16 : tie.Need-cast-t16
+cast-t16 c =
     let b = c .before in
-    let s = b .before .before .before in
-    record { fits = omega (arith, before-few (s .pre .0) (s .args .t) (joined (b .before)) (s .pre .1 .0) (s .pre .1 .1 .0) (before b)) }
+    let s = b .before .before .before .before in
+    record { fits = omega (arith, before-few (s .pre .0) (s .args .t) (joined (b .before .before)) (s .pre .1 .0) (s .pre .1 .1 .0) (before b)) }
 
 rows-below-requires : tie.Need-rows-below-requires
 rows-below-requires c κs =
-    let s = c .before .before .before .before in ending-few (s .pre .0) (s .args .t) (s .pre .1 .0) (s .pre .1 .1 .0)
+    let s = c .before .before .before .before .before in ending-few (s .pre .0) (s .args .t) (s .pre .1 .0) (s .pre .1 .1 .0)
 
 returns : tie.Need-returns
 returns c =
     let b = c .before .before in
-    let s = b .before .before .before in
-    passed-back (s .pre .0) (s .args .t) (joined (b .before)) (s .pre .1 .0) (s .pre .1 .1 .0) (before b) (c .rows-below .ensures) (c .before .column-of .ensures)
+    let s = b .before .before .before .before in
+    passed-back (s .pre .0) (s .args .t) (joined (b .before .before)) (s .pre .1 .0) (s .pre .1 .1 .0) (before b) (c .rows-below .ensures) (c .before .column-of .ensures)
 
 pub pass-back-spec : {M : Type 1} → statement M
 pass-back-spec =
@@ -64,6 +76,6 @@ pass-back-spec =
     add-active
     rows-before-requires
     column-of-requires
-    cast-t15
+    cast-t16
     rows-below-requires
     returns)

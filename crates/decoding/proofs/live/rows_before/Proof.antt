@@ -1,61 +1,69 @@
 -- `decoding::live::rows_before` meets its contract.
 use borrow.Author.Needs.{needs}
-use Prim.Native.Nat.{_<_}
-use Rattle.words.specs.Span.{Last}
-use Rattle.decoding.proofs.PassedBack.{before-all, before-last, before-none, last-at-most, last-within, some-one}
+use lib.ListN.{take}
+use mathlib.Core.Path.{_∙_, _≡_, ap, sym}
+use native.Mathlib.Omega.{arith}
+use Prim.Native.Nat.{suc, _-_, ℕ}
+use Rattle.decoding.proofs.PassedBack.{before-all, before-last, last-there}
+use Rattle.decoding.proofs.PassedRows.{row-first}
+use Rattle.trellises.proofs.AmongRows.{shifted-one}
+use Rattle.words.specs.Ends.{firsts}
 use Rattle.decoding.proofs.live.rows_before.Statement.{statement}
 use Rattle.decoding.proofs.live.rows_before.Tie as tie
 
 returns : tie.Need-returns
-returns c = record { live = λ k p e. before-none p (c .before .args .t) e (c .if1 .taken) }
+returns c = record { live = λ k p e b. before-all p (c .before .args .t) e b (λ j q f. omega (arith, c .if1 .taken, q)) }
 
-last-one-requires : tie.Need-last-one-requires
-last-one-requires c κs = search needs
-
--- the last of the active rows
-last-row : (c : tie.After-last-one) → Last (c .before .before .args .active) (c .last-one .result)
-last-row c = c .last-one .ensures .some (some-one (c .before .before .args .active) (c .before .if1 .left))
-
-within : (c : tie.After-last-one) → c .last-one .result < 64
-within c = last-within (c .before .before .args .active) (c .last-one .result) (c .before .before .fits .active .fits) (last-row c)
+sub-last : tie.Need-sub-last
+sub-last c = search needs
 
 mul-first-one : tie.Need-mul-first-one
-mul-first-one c = let h = within c in search needs
+mul-first-one c = search needs
 
 element-copy-out-first-one : tie.Need-element-copy-out-first-one
-element-copy-out-first-one c = let h = within c in search needs
+element-copy-out-first-one c = search needs
 
 first-one-requires : tie.Need-first-one-requires
 first-one-requires c κs = search needs
 
-shl-result : tie.Need-shl-result
-shl-result c = within (c .before .before .before)
+-- the rows begun are one more than those before the last of them
+one-more : (c : tie.After-first-one) → c .before .before .before .args .next ≡ suc (c .before .before .before .args .next - 1)
+one-more c = omega (arith, c .before .before .if1 .left)
 
-sub-result : tie.Need-sub-result
-sub-result c =
-    let l = c .before .before .before in
-    last-at-most (l .before .before .args .active) (l .last-one .result) (l .before .before .fits .active .fits) (last-row l)
+shl-t13 : tie.Need-shl-t13
+shl-t13 c = let s = c .before .before .before .before in omega (arith, one-more (c .before), s .pre .1)
+
+sub-t14 : tie.Need-sub-t14
+sub-t14 c =
+    let s = c .before .before .before .before in
+    omega (arith, s .pre .2 (s .args .next - 1) _ (one-more (c .before)) (c .before .first-one .ensures) (c .if2 .taken), shifted-one (s .args .next - 1) (omega (arith, one-more (c .before), s .pre .1)))
 
 returns-2 : tie.Need-returns-2
 returns-2 c =
-    let l = c .before .before .before in
-    record { live = λ k p e. before-last p (l .before .before .args .t) e (last-row l) (c .before .first-one .ensures) (c .if2 .taken) }
+    let s = c .before .before .before .before in
+    let q = one-more (c .before) in
+    record { live = λ k p e b. before-last p (s .args .t) e b q (sym (row-first p (s .args .next - 1) (last-there p (s .args .t) e b q) (c .before .first-one .ensures)) ∙ c .if2 .taken) }
 
 returns-3 : tie.Need-returns-3
 returns-3 c =
-    let l = c .before .before .before in
-    record { live = λ k p e. before-all p (l .before .before .args .t) e (last-row l) (c .before .first-one .ensures) (c .if2 .left) }
+    let s = c .before .before .before .before in
+    let q = one-more (c .before) in
+    record {
+      live = λ k p e b. before-all p (s .args .t) e b (λ j r f.
+          let i : s .args .next - 1 ≡ j = omega (arith, r) in
+          c .if2 .left (row-first p (s .args .next - 1) (last-there p (s .args .t) e b q) (c .before .first-one .ensures) ∙ ap (firsts (take k (s .args .rows .now))) i ∙ f));
+    }
 
 pub rows-before-spec : {M : Type 1} → statement M
 rows-before-spec =
     tie.close
     (tie.spec
     returns
-    last-one-requires
+    sub-last
     mul-first-one
     element-copy-out-first-one
     first-one-requires
-    shl-result
-    sub-result
+    shl-t13
+    sub-t14
     returns-2
     returns-3)

@@ -54,31 +54,31 @@ step-requires c κs =
     _ (c .before .before .before .before .before .before .before .pass-back .ensures .section) _ (toZ-ofZ (subst (SFits w32) (sym e) (gain-fits h)) ∙ e)
 
 same-length : tie.Need-same-length
-same-length c = c .before .before .before .step .ensures .size
+same-length c = c .before .before .before .before .step .ensures .size
 
 same-length-2 : tie.Need-same-length-2
 same-length-2 c =
-    let s = c .before .before .before .before .before .before .before .before .before .before .before .before .before in
+    let s = c .before .before .before .before .before .before .before .before .before .before .before .before .before .before in
     let y : ℤ = getD (forcedTo (s .args .samples .now) (s .args .forced)) (s .args .t) (pos 0) in
     let h : natAbs y ≤ gainLimit = s .pre .rooms .within (s .args .t) (omega (arith, s .pre .depth, s .pre .rooms .size)) in
-    let g = c .before .before .before .before .gain-at in
+    let g = c .before .before .before .before .before .gain-at in
     let e : g .result ≡ y = g .ensures in
-    let p = c .before .before .before .before .before .before .before .before .before .before .before .pass-back .ensures in
+    let p = c .before .before .before .before .before .before .before .before .before .before .before .before .pass-back .ensures in
     (section-done (s .args .rows .now) (s .args .sizes) (forcedTo (s .args .samples .now) (s .args .forced)) (s .args .metrics .now) (s .args .decisions .now) (s .args .t) (s .pre .fit) (s .pre .rooms) (s .pre .depth) (s .args .at) (s .pre .swept)
     _ (p .section) _ (toZ-ofZ (subst (SFits w32) (sym e) (gain-fits h)) ∙ e)
-    (c .before .before .before .step .last .0) (c .before .before .before .step .last .1 .1 .1 .0) (c .before .before .before .step .result) (c .before .before .before .step .ensures) _ (p .live)) .kept .decisions-size
+    (c .before .before .before .before .step .last .0) (c .before .before .before .before .step .last .1 .1 .1 .0) (c .before .before .before .before .step .result) (c .before .before .before .before .step .ensures) _ (p .live)) .kept .decisions-size
 
 returns : tie.Need-returns
 returns c =
-    let s = c .before .before .before .before .before .before .before .before .before .before .before .before .before in
+    let s = c .before .before .before .before .before .before .before .before .before .before .before .before .before .before in
     let y : ℤ = getD (forcedTo (s .args .samples .now) (s .args .forced)) (s .args .t) (pos 0) in
     let h : natAbs y ≤ gainLimit = s .pre .rooms .within (s .args .t) (omega (arith, s .pre .depth, s .pre .rooms .size)) in
-    let g = c .before .before .before .before .gain-at in
+    let g = c .before .before .before .before .before .gain-at in
     let e : g .result ≡ y = g .ensures in
-    let p = c .before .before .before .before .before .before .before .before .before .before .before .pass-back .ensures in
+    let p = c .before .before .before .before .before .before .before .before .before .before .before .before .pass-back .ensures in
     section-done (s .args .rows .now) (s .args .sizes) (forcedTo (s .args .samples .now) (s .args .forced)) (s .args .metrics .now) (s .args .decisions .now) (s .args .t) (s .pre .fit) (s .pre .rooms) (s .pre .depth) (s .args .at) (s .pre .swept)
     _ (p .section) _ (toZ-ofZ (subst (SFits w32) (sym e) (gain-fits h)) ∙ e)
-    (c .before .before .before .step .last .0) (c .before .before .before .step .last .1 .1 .1 .0) (c .before .before .before .step .result) (c .before .before .before .step .ensures) _ (p .live)
+    (c .before .before .before .before .step .last .0) (c .before .before .before .before .step .last .1 .1 .1 .0) (c .before .before .before .before .step .result) (c .before .before .before .before .step .ensures) _ (p .live)
 
 pub sweep-section-spec : {M : Type 1} → statement M
 sweep-section-spec =

@@ -1,29 +1,26 @@
--- `plates::tested::rows_zero` meets its contract. The loop's invariant: the rows passed are zero.
+-- `plates::tested::rows_zero` meets its contract. The loop's invariant: the word has the ones of the rows passed.
 use borrow.Author.Needs.{needs}
 use lib.ListN.{length}
+use native.Mathlib.Omega.{arith}
 use Prim.Native.Nat.{_-_}
-use Rattle.plates.proofs.Deciding.{fails, holds}
-use Rattle.plates.proofs.ZerosTested.{ZeroTo, zero-all, zero-more, zero-none, zero-stop}
+use Rattle.plates.proofs.ZerosTested.{OnesTo, ones-all, ones-more, ones-none}
 use Rattle.plates.proofs.tested.rows_zero.Statement.{statement}
 use Rattle.plates.proofs.tested.rows_zero.Tie as tie
 
 abbrev Inv-loop : tie.InvT-loop
-Inv-loop rows from i₀ i = ZeroTo from i rows
+Inv-loop rows from ones₀ i₀ ones i = OnesTo from i rows ones
 
 abbrev μ-loop : tie.MeasureT-loop
-μ-loop rows from i₀ i = length rows - i
+μ-loop rows from ones₀ i₀ ones i = length rows - i
 
 loop-holds : tie.Need-loop-holds Inv-loop μ-loop
-loop-holds c = zero-none _ _
+loop-holds c = ones-none _ _
 
-mul-if1 : tie.Need-mul-if1 Inv-loop μ-loop
-mul-if1 c = search needs
+mul-ones : tie.Need-mul-ones Inv-loop μ-loop
+mul-ones c = search needs
 
-shared-slice-read-if1 : tie.Need-shared-slice-read-if1 Inv-loop μ-loop
-shared-slice-read-if1 c = search needs
-
-returns : tie.Need-returns Inv-loop μ-loop
-returns c = fails (zero-stop _ _ _ (c .before .before .before .loop .inv) (c .if1 .taken))
+shared-slice-read-ones : tie.Need-shared-slice-read-ones Inv-loop μ-loop
+shared-slice-read-ones c = search needs
 
 add-i : tie.Need-add-i Inv-loop μ-loop
 add-i c = search needs
@@ -32,22 +29,12 @@ loop-less : tie.Need-loop-less Inv-loop μ-loop
 loop-less c = search needs
 
 loop-again : tie.Need-loop-again Inv-loop μ-loop
-loop-again c = zero-more _ _ _ (c .before .before .before .loop .inv) (c .if1 .left)
+loop-again c = ones-more _ _ _ _ (c .before .before .loop .inv)
 
-returns-2 : tie.Need-returns-2 Inv-loop μ-loop
-returns-2 c = holds (zero-all _ _ _ (c .before .loop .inv) (c .loop-test .left))
+returns : tie.Need-returns Inv-loop μ-loop
+returns c = ones-all _ _ _ _ (c .before .loop .inv) (omega (arith, c .loop-test .left))
 
 pub rows-zero-spec : {M : Type 1} → statement M
 rows-zero-spec =
     tie.close
-    (tie.spec
-    Inv-loop
-    μ-loop
-    loop-holds
-    mul-if1
-    shared-slice-read-if1
-    returns
-    add-i
-    loop-less
-    loop-again
-    returns-2)
+    (tie.spec Inv-loop μ-loop loop-holds mul-ones shared-slice-read-ones add-i loop-less loop-again returns)
