@@ -14,5 +14,15 @@ pub mod Determined
 pub mod NumbersRead
 pub mod Transposed
 pub mod OnesBack
+pub mod Ascending
+pub mod Ordered
+pub mod SpacedOnce
+pub mod SpacedRead
+pub mod OrderBack
+pub mod WrittenForm
 pub mod ReadsBack
+pub mod ReadingTaken
+pub mod OnlyAccepted
+pub mod OwnFormKeeps
+pub mod BothCalls
 pub mod Examples

@@ -10,9 +10,12 @@ use Rattle.alists.proofs.Places.{done, here}
 use Rattle.alists.specs.Lines.{faulty, feedOf, found, isDigit, moreOf, nextOf, nothing, numberOf, reads, skipped}
 use Rattle.alists.specs.Reading.{zerosOnly}
 
-both : (a b : Bool) → (a && b) ≡ true → (a ≡ true) × (b ≡ true)
+pub both : (a b : Bool) → (a && b) ≡ true → (a ≡ true) × (b ≡ true)
 both true b e = (refl, e)
 both false b e = (e, cc)
+
+pub all-true : {a b : Bool} → a ≡ true → b ≡ true → (a && b) ≡ true
+all-true p q = rw (p, q)
 
 -- what lies within a range lies between its ends
 pub between : (l h x : ℕ) → (leb l x && leb x h) ≡ true → (l ≤ x) × (x ≤ h)

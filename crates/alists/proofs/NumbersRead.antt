@@ -1,14 +1,14 @@
--- Numbers, lines and lists as written are read as they were.
+-- Numbers and lines as written are read as they were, and in no other way.
 use borrow.Author.Tests.{le-leb, ne-eqb}
 use lib.ListN.{length}
 use mathlib.Core.Bool.{false, true}
 use mathlib.Core.List.{_++_, List, [], append-assoc, _∷_}
-use mathlib.Core.Path.{_≡_, refl}
+use mathlib.Core.Path.{_≡_, refl, sym, _∙_}
 use native.Mathlib.Decide.{decLt}
 use native.Mathlib.Omega.{arith}
-use Prim.Native.Nat.{_%_, _*_, _+_, _-_, _/_, _<_, suc, ℕ, _≤_}
+use Prim.Native.Nat.{_%_, _*_, _+_, _-_, _/_, _<_, suc, zero, ℕ, _≤_}
 use Rattle.alists.proofs.Putting.{decimal-one, decimal-two}
-use Rattle.alists.specs.Lines.{before, found, isDigit, lineOf, nextOf, numberOf, reads, restOf, skipped}
+use Rattle.alists.specs.Lines.{Line, before, faulty, feedOf, found, isDigit, lineOf, nextOf, numberOf, reads, restOf, skipped}
 use Rattle.alists.specs.Text.{decimal, following, line}
 use Rattle.alists.specs.Working.{Small}
 
@@ -57,3 +57,44 @@ rest-read (x ∷ xs) s h = rw (next-read x xs s (h .below 0), rest-read xs s (sm
 pub line-read : (xs s : List ℕ) → Small xs → lineOf (length xs) (line xs ++ s) ≡ reads xs s
 line-read [] s h = refl
 line-read (x ∷ xs) s h = rw (append-assoc (decimal x) (following xs) s, number-then x xs s (h .below 0), rest-read xs s (small-tail h))
+
+-- ---- in no other way
+
+before-known : (x : ℕ) (l : Line) (xs s : List ℕ) → ((ws u : List ℕ) → l ≡ reads ws u → (ws ≡ xs) × (u ≡ s)) → (vs t : List ℕ) → before x l ≡ reads vs t
+    → (vs ≡ x ∷ xs) × (t ≡ s)
+before-known x (reads ws u) xs s f vs t e =
+    let p = f ws u refl in
+    let a : (x ∷ ws) ≡ vs = cc in
+    let b : u ≡ t = cc in
+    (rw (← a, p .0), sym b ∙ p .1)
+before-known x faulty xs s f vs t e = absurd (let z : _≡_ {A = ℕ} 0 1 = cc in omega arith)
+
+rest-known : (k : ℕ) (xs s : List ℕ) → Small xs → (vs t : List ℕ) → restOf k (following xs ++ s) ≡ reads vs t → (vs ≡ xs) × (t ≡ s)
+rest-known zero [] s h vs t e = (let a : [] ≡ vs = cc in sym a, let b : s ≡ t = cc in sym b)
+rest-known zero (x ∷ xs) s h vs t e = absurd (let z : _≡_ {A = ℕ} 0 1 = cc in omega arith)
+rest-known (suc k) [] s h vs t e = absurd (let z : _≡_ {A = ℕ} 0 1 = cc in omega arith)
+rest-known (suc k) (x ∷ xs) s h vs t e =
+    before-known x (restOf k (following xs ++ s)) xs s (rest-known k xs s (small-tail h)) vs t (rw (next-read x xs s (h .below 0)) at e)
+
+-- no line feed stands before a number
+no-feed : (x : ℕ) (r s vs t : List ℕ) → feedOf ((decimal x ++ r) ++ s) ≡ reads vs t → ⊥
+no-feed x r s vs t e = go (decLt x 10)
+  where
+    go : Dec (x < 10) → ⊥
+    go (yes l) =
+        let d = rw (decimal-one x l, ne-eqb (48 + x) 10 (λ z. omega (arith, z))) at e in
+        let z : _≡_ {A = ℕ} 0 1 = cc in
+        omega arith
+    go (no l) =
+        let d = rw (decimal-two x (omega (arith, l)), ne-eqb (48 + x / 10) 10 (λ z. omega (arith, z))) at e in
+        let z : _≡_ {A = ℕ} 0 1 = cc in
+        omega arith
+
+-- a line read is the line as written, however many numbers were asked for
+pub line-known : (k : ℕ) (xs s : List ℕ) → Small xs → (vs t : List ℕ) → lineOf k (line xs ++ s) ≡ reads vs t → (vs ≡ xs) × (t ≡ s)
+line-known zero [] s h vs t e = (let a : [] ≡ vs = cc in sym a, let b : s ≡ t = cc in sym b)
+line-known zero (x ∷ xs) s h vs t e = absurd (no-feed x (following xs) s vs t e)
+line-known (suc k) [] s h vs t e = absurd (let z : _≡_ {A = ℕ} 0 1 = cc in omega arith)
+line-known (suc k) (x ∷ xs) s h vs t e =
+    before-known x (restOf k (following xs ++ s)) xs s (rest-known k xs s (small-tail h)) vs t
+    (rw (append-assoc (decimal x) (following xs) s, number-then x xs s (h .below 0)) at e)

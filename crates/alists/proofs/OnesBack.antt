@@ -1,41 +1,30 @@
--- The list of a word is judged as that word.
+-- The indices of a word are judged as that word.
 use borrow.Author.Tests.{eq-eqb, le-leb, ne-eqb}
-use lib.ListN.{drop, getD, length, take}
+use lib.ListN.{getD, length}
 use mathlib.Core.Bool.{true}
 use mathlib.Core.List.{List, [], map, _∷_}
 use mathlib.Core.Logic.{inl, inr, _⊎_}
-use mathlib.Core.Path.{_≡_, ap, refl, sym, _∙_}
+use mathlib.Core.Path.{_≡_, refl, sym, _∙_}
 use lib.Pow.{mod-pow-add, pow-pos}
 use native.Mathlib.Nat.{lt-of-lt-of-le, mod-eq-of-lt, mod-lt, pow-le-pow-right}
 use native.Mathlib.Omega.{arith}
 use Prim.Native.Nat.{_%_, _*_, _+_, _-_, _<_, _^_, suc, zero, ℕ, _≤_}
-use Rattle.alists.proofs.Bounds.{padded-length}
-use Rattle.alists.specs.Lists.{indices, largest, listOf, onesFrom, padded, weight}
-use Rattle.alists.specs.Reading.{fits, onesOf, word, wordOf, zerosOnly}
+use Rattle.alists.specs.Lists.{indices, largest, onesFrom, padded, weight}
+use Rattle.alists.specs.Reading.{fits, onesOf, word, zerosOnly}
 use Rattle.words.proofs.Ends.{one-before}
 use Rattle.words.proofs.Word.{bit-cases, bit-div, bits-below}
 use Rattle.words.specs.Word.{bit}
 
 -- ---- padding
 
-take-padded : (most : ℕ) (xs : List ℕ) → length xs ≤ most → take (length xs) (padded most xs) ≡ xs
-take-padded most [] h = refl
-take-padded zero (x ∷ xs) h = absurd (omega arith)
-take-padded (suc most) (x ∷ xs) h = ap (λ (r : List ℕ). x ∷ r) (take-padded most xs (omega arith))
-
-zeros-padded : (most : ℕ) → zerosOnly (padded most []) ≡ true
+pub zeros-padded : (most : ℕ) → zerosOnly (padded most []) ≡ true
 zeros-padded zero = refl
 zeros-padded (suc most) = zeros-padded most
-
-drop-padded : (most : ℕ) (xs : List ℕ) → zerosOnly (drop (length xs) (padded most xs)) ≡ true
-drop-padded most [] = zeros-padded most
-drop-padded zero (x ∷ xs) = refl
-drop-padded (suc most) (x ∷ xs) = drop-padded most xs
 
 -- ---- indices
 
 -- the positions of a word below p, and one more
-low-on : (w p : ℕ) → w % 2 ^ suc p ≡ bit w p * 2 ^ p + w % 2 ^ p
+pub low-on : (w p : ℕ) → w % 2 ^ suc p ≡ bit w p * 2 ^ p + w % 2 ^ p
 low-on w p =
     let e : 1 + p ≡ suc p = omega arith in
     let m = rw e at (mod-pow-add w 1 p) in
@@ -75,13 +64,6 @@ indices-among size w k j h =
 pub indices-back : (size w : ℕ) → size ≤ 64 → w < 2 ^ size → onesOf size 0 (indices w) ≡ word w
 unfolding indices
 indices-back size w k h = indices-among size w 64 k h
-
--- a list that has its weight
-pub word-back : (size most w : ℕ) → size ≤ 64 → w < 2 ^ size → weight w ≤ most → wordOf size (weight w) (listOf most w) ≡ word w
-unfolding weight
-word-back size most w k h l =
-    let g = padded-length most (indices w) in
-    rw (le-leb (length (indices w)) (length (padded most (indices w))) (omega (arith, g, l)), drop-padded most (indices w), take-padded most (indices w) l) (indices-back size w k h)
 
 -- ---- weights
 
