@@ -20,7 +20,7 @@ pub mod Branches
 pub mod Digits
 pub mod Singles
 pub mod Runs
-pub mod Masks
+pub mod TablesChecked
 pub mod Parities
 pub mod Progress
 pub mod LiveMarks

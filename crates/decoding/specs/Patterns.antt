@@ -1,12 +1,15 @@
 -- The bits of 64 states as one word.
 use mathlib.Core.Path.{_≡_}
-use Prim.Native.Nat.{_%_, _*_, _+_, _<_, min, ℕ}
+use Prim.Native.Nat.{_%_, _*_, _+_, _/_, _<_, ℕ}
 use Rattle.words.specs.Parity.{parity}
 use Rattle.words.specs.Word.{bit}
 
--- r is w, with the mask m added where the digit d is 1
-pub record Added (w d m r : ℕ) : Type 0 where
-  pub bits : (i : ℕ) → bit r i ≡ (bit w i + min d (bit m i)) % 2
+-- r has the parities of the low three digits, and of the high three, of the numbers 0 to 63 with a column of three digits
+pub record LowPattern (column r : ℕ) : Type 0 where
+  pub bits : (i : ℕ) → i < 64 → bit r i ≡ parity (i % 8) column
+
+pub record HighPattern (column r : ℕ) : Type 0 where
+  pub bits : (i : ℕ) → i < 64 → bit r i ≡ parity (i / 8) column
 
 -- r has the parities of the numbers 0 to 63 with a column
 pub record Pattern (column r : ℕ) : Type 0 where

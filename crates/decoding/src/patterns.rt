@@ -1,27 +1,54 @@
 // The bits of 64 states by one word: the parity of each with the column.
 ghost use mathlib.Core.Path.{_≡_};
 ghost use Prim.Native.Nat.{_<_};
-ghost use Rattle.decoding.specs.Patterns.{Added, Pattern, Turned, TurnFits};
+ghost use Rattle.decoding.specs.Patterns.{HighPattern, LowPattern, Pattern, Turned, TurnFits};
 use words;
 
-// A mask added to a word where the digit is 1.
-fn with_digit(word: u64, digit: u64, mask: u64) -> u64
-    requires { ⌜ digit < 2 ⌝ }
-    ensures { λ r. ⌜ Added word digit mask r ⌝ }
+// For each column of three digits, its parities with the low three digits of the states 0 to 63.
+const LOW: [u64; 8] = [
+    0,
+    0xAAAAAAAAAAAAAAAA,
+    0xCCCCCCCCCCCCCCCC,
+    0x6666666666666666,
+    0xF0F0F0F0F0F0F0F0,
+    0x5A5A5A5A5A5A5A5A,
+    0x3C3C3C3C3C3C3C3C,
+    0x9696969696969696,
+];
+
+// The same with their high three digits.
+const HIGH: [u64; 8] = [
+    0,
+    0xFF00FF00FF00FF00,
+    0xFFFF0000FFFF0000,
+    0x00FFFF0000FFFF00,
+    0xFFFFFFFF00000000,
+    0x00FF00FFFF00FF00,
+    0x0000FFFFFFFF0000,
+    0xFF0000FF00FFFF00,
+];
+
+// The parities with the low three digits, by a column of three digits.
+fn low_parities(column: usize) -> u64
+    requires { ⌜ column < 8 ⌝ }
+    ensures { λ r. ⌜ LowPattern column r ⌝ }
 {
-    if digit == 0 { word } else { word ^ mask }
+    LOW[column]
 }
 
-// The parities of the states 0 to 63 with a column: each digit of the column adds that digit of the state.
+// The parities with the high three digits.
+fn high_parities(column: usize) -> u64
+    requires { ⌜ column < 8 ⌝ }
+    ensures { λ r. ⌜ HighPattern column r ⌝ }
+{
+    HIGH[column]
+}
+
+// The parities of the states 0 to 63 with a column: three of its digits with three of the state's at a time.
 pub fn pattern(column: u64) -> u64
     ensures { λ r. ⌜ Pattern column r ⌝ }
 {
-    let a = with_digit(0, column % 2, 0xAAAAAAAAAAAAAAAA);
-    let b = with_digit(a, column / 2 % 2, 0xCCCCCCCCCCCCCCCC);
-    let c = with_digit(b, column / 4 % 2, 0xF0F0F0F0F0F0F0F0);
-    let d = with_digit(c, column / 8 % 2, 0xFF00FF00FF00FF00);
-    let e = with_digit(d, column / 16 % 2, 0xFFFF0000FFFF0000);
-    with_digit(e, column / 32 % 2, 0xFFFFFFFF00000000)
+    low_parities((column % 8) as usize) ^ high_parities((column / 8 % 8) as usize)
 }
 
 // The parities of 64 states from a multiple of 64 on: the same pattern, or its complement.

@@ -7,7 +7,7 @@ use mir.Syntax.{w32}
 use mir.Val.{ofZ, toZ}
 use native.Mathlib.Omega.{arith}
 use Prim.Native.Nat.{_*_, _+_, _-_, _^_}
-use Rattle.decoding.proofs.Masks.{weights, weights-are}
+use Rattle.decoding.proofs.TablesChecked.{weights, weights-are}
 use Rattle.decoding.proofs.Progress.{Upto, block-fits, upto-all, upto-more, upto-none, word-count}
 use Rattle.decoding.proofs.Targets.{live-le}
 use Rattle.decoding.proofs.TwoStrips.{prepared-by}

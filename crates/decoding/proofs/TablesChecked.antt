@@ -1,4 +1,5 @@
--- Masks: digit j of the numbers 0 to 63 as one word, tested at each of them, and the parity of a number by its digits.
+-- The constant tables, tested at each of their entries.
+use lib.Count.{ones}
 use lib.Dec.{T, eqb, eqb→eq}
 use lib.ListN.{getD}
 use mathlib.Core.Bool.{Bool, false, true}
@@ -8,7 +9,9 @@ use mathlib.Core.Path.{refl, subst, sym, _≡_}
 use native.Mathlib.Nat.{eq-or-lt-of-le, le-of-suc-le-suc}
 use native.Mathlib.Omega.{arith}
 use Prim.Native.Nat.{_%_, _/_, _<_, _^_, suc, zero, ℕ}
+use Rattle.decoding.specs.Patterns.{HighPattern, LowPattern}
 use Rattle.decoding.specs.Tables.{Weights}
+use Rattle.words.specs.Parity.{parity}
 use Rattle.words.specs.Word.{bit}
 
 abbrev both : Bool → Bool → Bool
@@ -38,23 +41,24 @@ at (suc n) f t i h =
 same-below : (n : ℕ) (f g : ℕ → ℕ) → T (below n (λ i. eqb (f i) (g i))) → (i : ℕ) → i < n → f i ≡ g i
 same-below n f g t i h = eqb→eq (f i) (g i) (at n (λ i. eqb (f i) (g i)) t i h)
 
-pub mask-0 : (i : ℕ) → i < 64 → bit 0xAAAAAAAAAAAAAAAA i ≡ i % 2
-mask-0 = same-below 64 (bit 0xAAAAAAAAAAAAAAAA) (λ i. i % 2) tt
+-- the parities of three digits of the numbers 0 to 63 with each column of three digits
+abbrev pub low : List ℕ
+low = 0 ∷ 0xAAAAAAAAAAAAAAAA ∷ 0xCCCCCCCCCCCCCCCC ∷ 0x6666666666666666 ∷ 0xF0F0F0F0F0F0F0F0 ∷ 0x5A5A5A5A5A5A5A5A ∷ 0x3C3C3C3C3C3C3C3C ∷ 0x9696969696969696 ∷ []
 
-pub mask-1 : (i : ℕ) → i < 64 → bit 0xCCCCCCCCCCCCCCCC i ≡ i / 2 % 2
-mask-1 = same-below 64 (bit 0xCCCCCCCCCCCCCCCC) (λ i. i / 2 % 2) tt
+abbrev pub high : List ℕ
+high = 0 ∷ 0xFF00FF00FF00FF00 ∷ 0xFFFF0000FFFF0000 ∷ 0x00FFFF0000FFFF00 ∷ 0xFFFFFFFF00000000 ∷ 0x00FF00FFFF00FF00 ∷ 0x0000FFFFFFFF0000 ∷ 0xFF0000FF00FFFF00 ∷ []
 
-pub mask-2 : (i : ℕ) → i < 64 → bit 0xF0F0F0F0F0F0F0F0 i ≡ i / 2 / 2 % 2
-mask-2 = same-below 64 (bit 0xF0F0F0F0F0F0F0F0) (λ i. i / 2 / 2 % 2) tt
+pub low-is : (column : ℕ) → column < 8 → LowPattern column (getD low column 0)
+unfolding ones
+low-is column h = record {
+  bits = λ i l. eqb→eq (bit (getD low column 0) i) (parity (i % 8) column) (at 64 (λ i. eqb (bit (getD low column 0) i) (parity (i % 8) column)) (at 8 (λ c. below 64 (λ i. eqb (bit (getD low c 0) i) (parity (i % 8) c))) tt column h) i l);
+}
 
-pub mask-3 : (i : ℕ) → i < 64 → bit 0xFF00FF00FF00FF00 i ≡ i / 2 / 2 / 2 % 2
-mask-3 = same-below 64 (bit 0xFF00FF00FF00FF00) (λ i. i / 2 / 2 / 2 % 2) tt
-
-pub mask-4 : (i : ℕ) → i < 64 → bit 0xFFFF0000FFFF0000 i ≡ i / 2 / 2 / 2 / 2 % 2
-mask-4 = same-below 64 (bit 0xFFFF0000FFFF0000) (λ i. i / 2 / 2 / 2 / 2 % 2) tt
-
-pub mask-5 : (i : ℕ) → i < 64 → bit 0xFFFFFFFF00000000 i ≡ i / 2 / 2 / 2 / 2 / 2 % 2
-mask-5 = same-below 64 (bit 0xFFFFFFFF00000000) (λ i. i / 2 / 2 / 2 / 2 / 2 % 2) tt
+pub high-is : (column : ℕ) → column < 8 → HighPattern column (getD high column 0)
+unfolding ones
+high-is column h = record {
+  bits = λ i l. eqb→eq (bit (getD high column 0) i) (parity (i / 8) column) (at 64 (λ i. eqb (bit (getD high column 0) i) (parity (i / 8) column)) (at 8 (λ c. below 64 (λ i. eqb (bit (getD high c 0) i) (parity (i / 8) c))) tt column h) i l);
+}
 
 -- every bit of the largest word
 pub full : (i : ℕ) → i < 64 → bit 0xFFFFFFFFFFFFFFFF i ≡ 1
