@@ -1,6 +1,7 @@
 /* Two decoders in C to hold the library against: a straightforward one, and one that works on blocks of
    64 states. Both go from the far end to the start, find the sections in the plate, and leave the part
-   of the rooms that they used zero, as the library does; they trust the plate and the samples. */
+   of the rooms that they used zero, as the library does; they trust the plate and the samples. The third is
+   the straightforward one behind the tests that the library makes. */
 #include <stddef.h>
 #include <stdint.h>
 #include <string.h>
@@ -205,6 +206,50 @@ static inline void decode(step *take, const uint64_t *plate, const int16_t *samp
 void c_straight(const uint64_t *plate, const int16_t *samples, int32_t *metrics, uint64_t *decisions,
                 uint64_t *word, int32_t *metric) {
     decode(step_straight, plate, samples, metrics, decisions, word, metric);
+}
+
+/* Whether row i may stand in a plate beside the rows before it and those that end sooner. */
+static int stands(const uint64_t *rows, uint64_t k, uint64_t i, uint64_t n) {
+    if (rows[i] == 0 || (n < 64 && rows[i] >> n)) return 0;
+    if (i > 0 && __builtin_ctzll(rows[i]) <= __builtin_ctzll(rows[i - 1])) return 0;
+    for (uint64_t j = 0; j < k; j++) {
+        int sooner = __builtin_clzll(rows[j]) - __builtin_clzll(rows[i]);
+        if (j != i && sooner == 0) return 0;
+        if (sooner > 0 && (rows[i] >> __builtin_ctzll(rows[j]) & 1)) return 0;
+    }
+    return 1;
+}
+
+/* Whether a plate is prepared: its rows, the rows live at each depth, and nothing in the unused places. */
+static int is_prepared(const uint64_t *plate) {
+    uint64_t n = plate[0], k = plate[1];
+    const uint64_t *rows = plate + 2, *profile = plate + 66;
+    if (n < 1 || n > 64 || k > 64) return 0;
+    for (uint64_t i = 0; i < k; i++)
+        if (rows[i] == 0) return 0;
+    for (uint64_t i = 0; i < k; i++)
+        if (!stands(rows, k, i, n)) return 0;
+    for (uint64_t t = 0; t <= n; t++) {
+        uint64_t live = 0;
+        for (uint64_t i = 0; i < k; i++)
+            live += (uint64_t)__builtin_ctzll(rows[i]) < t && t <= 63 - (uint64_t)__builtin_clzll(rows[i]);
+        if (live != profile[t] || live > 12) return 0;
+    }
+    for (uint64_t i = k; i < 64; i++)
+        if (rows[i]) return 0;
+    for (uint64_t t = n + 1; t < 65; t++)
+        if (profile[t]) return 0;
+    return 1;
+}
+
+/* The straightforward decoder behind the tests of plate and samples: 0, or the number of the refusal. */
+int c_tested(const uint64_t *plate, const int16_t *samples, int32_t *metrics, uint64_t *decisions, uint64_t *word,
+             int32_t *metric) {
+    if (!is_prepared(plate)) return 5;
+    for (uint64_t t = 0; t < plate[0]; t++)
+        if (samples[t] < -2047 || samples[t] > 2047) return 7;
+    decode(step_straight, plate, samples, metrics, decisions, word, metric);
+    return 0;
 }
 
 void c_block(const uint64_t *plate, const int16_t *samples, int32_t *metrics, uint64_t *decisions,

@@ -4,21 +4,34 @@ use crate::{library, sections, steps};
 
 extern "C" {
     fn c_straight(p: *const u64, s: *const i16, m: *mut i32, d: *mut u64, word: *mut u64, metric: *mut i32);
+    fn c_tested(p: *const u64, s: *const i16, m: *mut i32, d: *mut u64, word: *mut u64, metric: *mut i32) -> i32;
     fn c_block(p: *const u64, s: *const i16, m: *mut i32, d: *mut u64, word: *mut u64, metric: *mut i32);
 }
 
 /// A decoder: plate, samples, metric room, decision room; word and metric.
 pub type Decoder = fn(&[u64], &[i16], &mut [i32], &mut [u64]) -> (u64, i32);
 
-pub const DECODERS: [(&str, Decoder); 5] = [
+pub const DECODERS: [(&str, Decoder); 6] = [
     ("library", by_library),
     ("C -O3, straightforward", in_c_straight),
+    ("C -O3, with the tests", in_c_tested),
     ("C -O3, blocks", in_c_block),
     ("Rust -O, straightforward", |p, s, m, d| sections::decode(steps::straight, p, s, m, d)),
     ("Rust -O, blocks", |p, s, m, d| sections::decode(steps::block, p, s, m, d)),
 ];
 
 pub fn by_library(plate: &[u64], samples: &[i16], metrics: &mut [i32], decisions: &mut [u64]) -> (u64, i32) {
+    let (reply, word, metric) = library_replies(plate, samples, metrics, decisions);
+    assert_eq!(reply, 0);
+    (word, metric)
+}
+
+fn library_replies(
+    plate: &[u64],
+    samples: &[i16],
+    metrics: &mut [i32],
+    decisions: &mut [u64],
+) -> (u64, u64, i32) {
     let (mut word, mut metric, mut counts, mut place) = (0, 0, [0; 2], 0);
     let (p, s) = (plate.as_ptr(), samples.as_ptr());
     let (m, d) = (metrics.as_mut_ptr(), decisions.as_mut_ptr());
@@ -44,14 +57,29 @@ pub fn by_library(plate: &[u64], samples: &[i16], metrics: &mut [i32], decisions
             1,
         )
     };
-    assert_eq!(reply, 0);
-    (word, metric)
+    (reply, word, metric)
+}
+
+/// Whether the library and the C with the tests say the same of a plate, good or damaged.
+pub fn same_verdict(plate: &[u64], samples: &[i16], metrics: &mut [i32], decisions: &mut [u64]) -> bool {
+    let (mut word, mut metric) = (0, 0);
+    let (m, d) = (metrics.as_mut_ptr(), decisions.as_mut_ptr());
+    let reply = unsafe { c_tested(plate.as_ptr(), samples.as_ptr(), m, d, &mut word, &mut metric) };
+    (library_replies(plate, samples, metrics, decisions).0 == 5) == (reply == 5)
 }
 
 fn in_c_straight(plate: &[u64], samples: &[i16], metrics: &mut [i32], decisions: &mut [u64]) -> (u64, i32) {
     let (mut word, mut metric) = (0, 0);
     let (m, d) = (metrics.as_mut_ptr(), decisions.as_mut_ptr());
     unsafe { c_straight(plate.as_ptr(), samples.as_ptr(), m, d, &mut word, &mut metric) };
+    (word, metric)
+}
+
+fn in_c_tested(plate: &[u64], samples: &[i16], metrics: &mut [i32], decisions: &mut [u64]) -> (u64, i32) {
+    let (mut word, mut metric) = (0, 0);
+    let (m, d) = (metrics.as_mut_ptr(), decisions.as_mut_ptr());
+    let reply = unsafe { c_tested(plate.as_ptr(), samples.as_ptr(), m, d, &mut word, &mut metric) };
+    assert_eq!(reply, 0);
     (word, metric)
 }
 

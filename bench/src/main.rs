@@ -11,7 +11,7 @@ mod steps;
 mod timing;
 
 use codes::{codes, Code};
-use contestants::{by_library, exhaustive, DECODERS};
+use contestants::{by_library, exhaustive, same_verdict, DECODERS};
 use std::hint::black_box;
 use timing::{best, clock};
 
@@ -58,6 +58,12 @@ fn agree(plate: &[u64], n: usize) {
             assert_eq!(decoder(plate, block, metrics, decisions), first, "{name}");
         }
         assert!(plate[1] > 12 || exhaustive(plate, block) == first);
+    }
+    let block = vec![1; n];
+    for place in 0..plate.len() * 64 {
+        let mut damaged = plate.to_vec();
+        damaged[place / 64] ^= 1 << (place % 64);
+        assert!(damaged[0] != plate[0] || same_verdict(&damaged, &block, metrics, decisions), "bit {place}");
     }
 }
 
@@ -131,7 +137,7 @@ fn main() {
     println!("core clock {clock:.2} GHz (sums that wait for each other, one a cycle)");
     println!("times are the least of {ROUNDS} rounds, the decoders taken in turn");
     println!("rooms: cleared before every block; each decoder leaves what it used zero, within its time");
-    println!("the library also tests plate and samples and counts branches, within its time\n");
+    println!("the library tests plate and samples and counts branches, within its time; C with the tests tests them\n");
     let wanted = std::env::args().nth(1).unwrap_or_default();
     codes().iter().filter(|code| code.name.contains(&wanted)).for_each(|code| time_code(code, clock));
     time_dense();
