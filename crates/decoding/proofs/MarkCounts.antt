@@ -1,22 +1,22 @@
 -- How many rows are live, and where a section's branches lead, by the rows' marks.
-use borrow.Author.Tests.{le-leb, le-ltb, lt-ltb, ltb-false}
+use borrow.Author.Tests.{le-leb, le-ltb, lt-leb, lt-ltb, ltb-false}
 use lib.Count.{ones, ones-le, ones-step}
 use lib.Dec.{leb, ltb}
 use lib.ListN.{getD, length}
 use lib.Pow.{pow-pos}
-use mathlib.Core.Bool.{Bool, cond, false, true}
+use mathlib.Core.Bool.{_&&_, Bool, cond, false, true}
 use mathlib.Core.List.{List, [], _∷_}
 use mathlib.Core.Path.{ap, ap₂, refl, sym, _∙_, _≡_}
-use native.Mathlib.Nat.{mod-lt}
+use native.Mathlib.Nat.{mod-lt, pow-suc}
 use native.Mathlib.Numerals.{one-add}
 use native.Mathlib.Omega.{arith}
 use Prim.Native.Nat.{_%_, _*_, _+_, _-_, _/_, _<_, _^_, suc, suc-le-suc, zero, zero-le, ℕ, _≤_}
-use Rattle.decoding.proofs.LiveMarks.{in-order}
+use Rattle.decoding.proofs.LiveMarks.{in-order, marks-bit, none-live-first, with-ending}
 use Rattle.decoding.proofs.PassedRows.{mark-is}
-use Rattle.decoding.specs.LiveRows.{EndsAre, activeMarks, endingBy, isLive, leadsBy, liveMarks, marks}
+use Rattle.decoding.specs.LiveRows.{EndsAre, activeMarks, endingBy, isLive, leadsBy, liveMarks, endingCount, markOf, marks}
 use Rattle.trellises.proofs.Digits.{mod-digit}
-use Rattle.trellises.proofs.OneMoreRow.{LastsApart, active-ends, apart-rest, taking, with-row}
-use Rattle.trellises.proofs.SectionAgrees.{live-count}
+use Rattle.trellises.proofs.OneMoreRow.{LastsApart, active-ends, and-false, apart-rest, taking, with-row}
+use Rattle.trellises.proofs.SectionAgrees.{active-count, live-count}
 use Rattle.trellises.specs.declared.Section.{Section}
 use Rattle.trellises.specs.Numbers.{leadsTo, without}
 use Rattle.trellises.specs.SectionOf.{isActive, sectionOf}
@@ -50,6 +50,20 @@ ones-marks P (row ∷ rows) = marked (marks P rows) (P row) ∙ ap (more (P row)
 
 pub live-ones : (rows : List ℕ) (t : ℕ) → ones (liveMarks rows t) ≡ sectionOf rows t .live
 live-ones rows t = ones-marks (isLive t) rows ∙ sym (live-count t rows)
+
+pub none-counted-first : (rows : List ℕ) → sectionOf rows 0 .live ≡ 0
+none-counted-first rows = sym (live-ones rows 0) ∙ ap ones (none-live-first rows) ∙ ones-zero
+
+-- one mark more, where there was none
+ones-more : (j x : ℕ) → bit x j ≡ 0 → ones (x + 2 ^ j) ≡ suc (ones x)
+ones-more zero x e =
+    let a : (x + 1) % 2 ≡ 1 = omega arith in
+    let b : (x + 1) / 2 ≡ x / 2 = omega arith in
+    ones-step (x + 1) ∙ ap₂ (λ (d h : ℕ). d + ones h) a b ∙ omega (arith, ones-step x)
+ones-more (suc j) x e =
+    let a : (x + 2 ^ suc j) % 2 ≡ x % 2 = omega (arith, pow-suc 2 j) in
+    let b : (x + 2 ^ suc j) / 2 ≡ x / 2 + 2 ^ j = omega (arith, pow-suc 2 j) in
+    ones-step (x + 2 ^ suc j) ∙ ap₂ (λ (d h : ℕ). d + ones h) a b ∙ omega (arith, ones-more j (x / 2) e, ones-step x)
 
 module _ (t : ℕ) where
   -- no row ends: each active row is counted
@@ -117,6 +131,24 @@ module _ (rows : List ℕ) (s : Spans rows (firsts rows) (lasts rows)) (ends : L
           let e = one-ending t rows (s .apart) j (m .0) (omega (arith, in-order rows s j (m .0))) (m .1) in
           (lt-ltb 0 (suc j) (suc-le-suc zero-le) ∙ sym (e .0), sym (e .1))
 
+  -- behind the section one row less is live than is active in it, where a row ends
+  pub live-behind : sectionOf rows (suc t) .live + endingCount (getD ends t 0) ≡ more (sectionOf rows t .begins) (sectionOf rows t .live)
+  live-behind = go (getD ends t 0) refl ∙ ones-marks (isActive t) rows ∙ sym (active-count t rows (s .rising))
+    where
+      go : (n : ℕ) → getD ends t 0 ≡ n → sectionOf rows (suc t) .live + endingCount n ≡ ones (activeMarks rows t)
+      go zero q =
+          let e : liveMarks rows (suc t) ≡ activeMarks rows t = omega (arith, with-ending rows s ends t a h, ap markOf q) in
+          omega (arith, live-ones rows (suc t), ap ones e)
+      go (suc j) q =
+          let m = a .some t j h q in
+          let e : liveMarks rows (suc t) + 2 ^ j ≡ activeMarks rows t = ap (λ (n : ℕ). liveMarks rows (suc t) + markOf n) (sym q) ∙ with-ending rows s ends t a h in
+          omega (arith, live-ones rows (suc t), ones-more j (liveMarks rows (suc t)) (ended-mark j m), ap ones e)
+        where
+          ended-mark : (j : ℕ) → (j < length rows) × (lasts rows j ≡ t) → bit (liveMarks rows (suc t)) j ≡ 0
+          ended-mark j m =
+              marks-bit (isLive (suc t)) rows j (m .0)
+              ∙ ap (λ (b : Bool). cond b 1 0) (ap (λ (b : Bool). ltb (firsts rows j) (suc t) && b) (lt-leb (suc t) (lasts rows j) (omega (arith, m .1))) ∙ and-false (ltb (firsts rows j) (suc t)))
+
   pub leads-by : (x : ℕ) → leadsBy (activeMarks rows t) (getD ends t 0) x ≡ leadsTo (sectionOf rows t) x
   leads-by x = go (getD ends t 0) ending-by
     where
@@ -126,6 +158,13 @@ module _ (rows : List ℕ) (s : Spans rows (firsts rows) (lasts rows)) (ends : L
       go (suc j) e = ap₂ (λ (b : Bool) (n : ℕ). cond b (without n x) x) (sym (lt-ltb 0 (suc j) (suc-le-suc zero-le)) ∙ e .0) (e .1)
 
 -- ---- the same as the code has it
+
+pub none-ends : (n : ℕ) → n ≡ 0 → endingCount n ≡ 0
+none-ends n e = ap endingCount e
+
+pub one-ends : (n : ℕ) → (n ≡ 0 → ⊥) → endingCount n ≡ 1
+one-ends zero z = absurd (z refl)
+one-ends (suc j) z = refl
 
 module _ (active n : ℕ) (z : n ≡ 0 → ⊥) where
   -- the active rows below the row that ends are few

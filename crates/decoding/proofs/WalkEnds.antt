@@ -9,6 +9,7 @@ use native.Mathlib.Omega.{arith}
 use Prim.Native.Nat.{_*_, _<_, _^_, ℕ}
 use Rattle.decoding.proofs.BegunRows.{none-begun}
 use Rattle.decoding.proofs.LiveMarks.{none-live-first}
+use Rattle.decoding.proofs.MarkCounts.{none-counted-first}
 use Rattle.decoding.proofs.TakenRows.{gather-none}
 use Rattle.decoding.specs.Backward.{wordFrom}
 use Rattle.decoding.specs.declared.sweep.Sizes.{Sizes}
@@ -20,13 +21,14 @@ use Rattle.trellises.specs.States.{table}
 use Rattle.words.proofs.Sums.{sum-zero}
 
 module _ (table : List ℕ) (z : Sizes) (ends : List ℕ) (samples : List ℤ) (decisions : List ℕ) (f : WalkFits table z ends samples decisions) where
-  pub walk-start : Walked (take (z .k) table) samples 0 (record { word = 0; sum = 0; state = 0; live = 0; next = 0 })
+  pub walk-start : Walked (take (z .k) table) samples 0 (record { word = 0; sum = 0; state = 0; live = 0; count = 0; next = 0 })
   walk-start = record {
     state = pow-pos ((sectionOf (take (z .k) table) 0) .live);
     short = omega arith;
     rest = omega arith;
     taken = record { by = 0; begun = pow-pos (begunBefore (take (z .k) table) 0); sum-is = sym (sum-zero (take (z .k) table)); state-is = sym (gather-none (length (take (z .k) table)) _) };
     live = sym (none-live-first (take (z .k) table));
+    count = sym (none-counted-first (take (z .k) table));
     next = sym (none-begun (take (z .k) table));
   }
 

@@ -1,6 +1,5 @@
 -- One section of the walk: the decided bit and the branch that has it carry the walk one depth on.
 use lib.Bits.{bitOr, bitXor, or-shifted-r}
-use lib.Count.{ones}
 use lib.Dec.{eqb}
 use lib.IntN.{pos, ℤ}
 use lib.ListN.{drop, getD, length, length-take, take}
@@ -11,17 +10,17 @@ use mathlib.Core.List.{List, _∷_}
 use mathlib.Core.Path.{ap, ap₂, refl, subst, sym, _∙_, _≡_}
 use native.Mathlib.Nat.{le-trans, mod-eq-of-lt, mul-add, mul-assoc, mul-comm, mul-le-mul-left, mul-le-mul-right, pow-suc, suc-mul}
 use native.Mathlib.Omega.{arith}
-use Prim.Native.Nat.{_%_, _*_, _+_, _/_, _<_, _^_, suc, zero, ℕ, _≤_}
+use Prim.Native.Nat.{_%_, _*_, _+_, _-_, _/_, _<_, _^_, suc, zero, ℕ, _≤_}
 use Rattle.decoding.proofs.BegunRows.{begun-few, begun-next}
 use Rattle.decoding.proofs.BestWay.{choice}
 use Rattle.decoding.proofs.Leaving.{BestBranch}
 use Rattle.decoding.proofs.LiveMarks.{with-ending}
-use Rattle.decoding.proofs.MarkCounts.{leads-by, live-ones}
+use Rattle.decoding.proofs.MarkCounts.{leads-by, live-behind}
 use Rattle.decoding.proofs.TakenRows.{branch-is, next-some, taken-on}
 use Rattle.decoding.specs.Backward.{best, branchBy, decided, follow, wordFrom}
 use Rattle.decoding.specs.declared.sweep.Sizes.{Sizes}
 use Rattle.decoding.specs.declared.walk.Walk.{Walk}
-use Rattle.decoding.specs.LiveRows.{Taken, activeMarks, beginningRow, begunBefore, leadsBy, liveMarks, markOf}
+use Rattle.decoding.specs.LiveRows.{Taken, activeMarks, beginningRow, begunBefore, endingCount, leadsBy, liveMarks, markOf}
 use Rattle.decoding.specs.Stepping.{SectionFits}
 use Rattle.decoding.specs.Sweeping.{BeforeWalk, Walked}
 use Rattle.trellises.specs.declared.Section.{Section}
@@ -69,15 +68,30 @@ module _ (table : List ℕ) (z : Sizes) (ends : List ℕ) (samples : List ℤ) (
   pub section-fits : SectionFits (sectionOf (take (z .k) table) t)
   section-fits = b .fit .chain .fits t (b .depth)
 
-  -- the marks of the live rows count them
-  live-number : ones (w .live) ≡ sectionOf (take (z .k) table) t .live
-  live-number = ap ones (b .walked .live) ∙ live-ones (take (z .k) table) t
-
-  pub live-few : ones (w .live) ≤ 12
-  live-few = omega (arith, live-number, section-fits .narrow)
+  pub live-few : w .count ≤ 12
+  live-few = omega (arith, b .walked .count, section-fits .narrow)
 
   pub next-few : w .next ≤ 64
   next-few = omega (arith, b .walked .next, begun-few t (take (z .k) table), length-take (z .k) table, b .fit .plate .few)
+
+  -- so many rows, and one more where a row begins
+  and-row : (row : ℕ) → row ≡ beginningRow (take (z .k) table) t → (n : ℕ) → cond (eqb row 0) n (suc n) ≡ more (sectionOf (take (z .k) table) t .begins) n
+  and-row row e n = ap (λ (y : ℕ). cond (eqb y 0) n (suc n)) e ∙ go (sections t .begins) refl
+    where
+      go : (g : Bool) → sectionOf (take (z .k) table) t .begins ≡ g
+          → cond (eqb (cond g (getD (take (z .k) table) (begunBefore (take (z .k) table) t) 0) 0) 0) n (suc n) ≡ more g n
+      go true g = ap (λ (y : Bool). cond y n (suc n)) (next-some (take (z .k) table) (b .fit .plate .spans) t g)
+      go false g = refl
+
+  -- so many rows are active in section t
+  active-number : (row : ℕ) → row ≡ beginningRow (take (z .k) table) t
+      → cond (eqb row 0) (w .count) (suc (w .count)) ≡ more (sectionOf (take (z .k) table) t .begins) (sectionOf (take (z .k) table) t .live)
+  active-number row e = and-row row e (w .count) ∙ ap (more (sections t .begins)) (b .walked .count)
+
+  -- the row that ends is one of them
+  pub ending-counted : (row : ℕ) → row ≡ beginningRow (take (z .k) table) t → endingCount (getD ends t 0) ≤ cond (eqb row 0) (w .count) (suc (w .count))
+  ending-counted row e =
+      omega (arith, active-number row e, live-behind (take (z .k) table) (b .fit .plate .spans) ends t (b .ends-are) (omega (arith, b .depth, b .fit .short)))
 
   -- the rows that are active in section t, and the mark of the one that ends
   module _ (mark : ℕ) (m : liveMarks (take (z .k) table) t + mark ≡ activeMarks (take (z .k) table) t) where
@@ -156,18 +170,19 @@ module _ (table : List ℕ) (z : Sizes) (ends : List ℕ) (samples : List ℤ) (
       taken-is = r-is ∙ ap (cond (eqb (bit (w .sum) t) d) 0) row-is
 
       -- the branch, as the code has it
-      module _ (x : ℕ) (x-is : x ≡ cond (eqb r 0) (w .state) (w .state + 2 ^ ones (w .live))) where
+      module _ (x : ℕ) (x-is : x ≡ cond (eqb r 0) (w .state) (w .state + 2 ^ w .count)) where
         pub branch-by : x ≡ branchBy (sectionOf (take (z .k) table) t) (w .state) d
         branch-by =
-            x-is ∙ ap₂ (λ (y n : ℕ). cond (eqb y 0) (w .state) (w .state + 2 ^ n)) taken-is live-number
+            x-is ∙ ap₂ (λ (y n : ℕ). cond (eqb y 0) (w .state) (w .state + 2 ^ n)) taken-is (b .walked .count)
             ∙ branch-is plate (b .fit .plate .spans) t (b .walked .taken) d
 
         -- behind the section
-        pub walked-on : (active following state′ live′ mark next′ : ℕ) → active ≡ activeMarks (take (z .k) table) t → following ≡ getD ends t 0
-            → state′ ≡ leadsBy active following x → mark ≡ markOf following → live′ + mark ≡ active → next′ ≡ cond (eqb row 0) (w .next) (suc (w .next))
+        pub walked-on : (active following state′ live′ mark count′ next′ : ℕ) → active ≡ activeMarks (take (z .k) table) t → following ≡ getD ends t 0
+            → state′ ≡ leadsBy active following x → mark ≡ markOf following → live′ + mark ≡ active
+            → count′ ≡ cond (eqb row 0) (w .count) (suc (w .count)) - endingCount following → next′ ≡ cond (eqb row 0) (w .next) (suc (w .next))
             → Walked (take (z .k) table) samples (suc t)
-            (record { word = bitOr (w .word) (d * 2 ^ t % 2 ^ 64); sum = bitXor (w .sum) r; state = state′; live = live′; next = next′ })
-        walked-on active following state′ live′ mark next′ a f e m l n =
+            (record { word = bitOr (w .word) (d * 2 ^ t % 2 ^ 64); sum = bitXor (w .sum) r; state = state′; live = live′; count = count′; next = next′ })
+        walked-on active following state′ live′ mark count′ next′ a f e m l o n =
             let h : t < 64 = omega (arith, b .depth, b .fit .short) in
             let s : state′ ≡ follow (sections t) (w .state) d =
             e ∙ ap₂ (λ (p q : ℕ). leadsBy p q x) a f ∙ leads-by plate (b .fit .plate .spans) ends t (b .ends-are) h x ∙ ap (leadsTo (sections t)) branch-by in
@@ -179,11 +194,6 @@ module _ (table : List ℕ) (z : Sizes) (ends : List ℕ) (samples : List ℤ) (
                   (subst (λ (y : ℕ). Taken plate (suc t) (bitXor (w .sum) y) (follow (sections t) (w .state) d)) (sym taken-is)
                   (taken-on plate (b .fit .plate .spans) t (b .walked .taken) d));
               live = omega (arith, l, a, m, ap markOf f, with-ending plate (b .fit .plate .spans) ends t (b .ends-are) h);
-              next = n ∙ ap (λ (y : ℕ). cond (eqb y 0) (w .next) (suc (w .next))) row-is ∙ one-more (sections t .begins) refl
-                  ∙ ap (more (sections t .begins)) (b .walked .next) ∙ sym (begun-next plate (b .fit .plate .spans) t);
+              count = omega (arith, o, ap endingCount f, active-number row row-is, live-behind plate (b .fit .plate .spans) ends t (b .ends-are) h);
+              next = n ∙ and-row row row-is (w .next) ∙ ap (more (sections t .begins)) (b .walked .next) ∙ sym (begun-next plate (b .fit .plate .spans) t);
             }
-          where
-            one-more : (g : Bool) → sectionOf (take (z .k) table) t .begins ≡ g
-                → cond (eqb (cond g (getD (take (z .k) table) (begunBefore (take (z .k) table) t) 0) 0) 0) (w .next) (suc (w .next)) ≡ more g (w .next)
-            one-more true g = ap (λ (y : Bool). cond y (w .next) (suc (w .next))) (next-some plate (b .fit .plate .spans) t g)
-            one-more false g = refl

@@ -32,6 +32,11 @@ abbrev pub markOf : ℕ → ℕ
 markOf zero = 0
 markOf (suc j) = 2 ^ j
 
+-- how many rows end, by one more than the row that does
+abbrev pub endingCount : ℕ → ℕ
+endingCount zero = 0
+endingCount (suc j) = 1
+
 -- the rows that are live at depth t, and those that are active in section t
 abbrev pub liveMarks : List ℕ → ℕ → ℕ
 liveMarks rows t = marks (isLive t) rows

@@ -63,6 +63,7 @@ pub record Walked (rows : List ℕ) (samples : List ℤ) (t : ℕ) (w : Walk) : 
   pub rest : w .word + 2 ^ t * wordFrom (sectionOf rows) (drop t samples) t (w .state) ≡ wordFrom (sectionOf rows) samples 0 0
   pub taken : Taken rows t (w .sum) (w .state)
   pub live : w .live ≡ liveMarks rows t
+  pub count : w .count ≡ (sectionOf rows t) .live
   pub next : w .next ≡ begunBefore rows t
 
 -- what section t of the walk asks

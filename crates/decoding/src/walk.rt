@@ -4,24 +4,25 @@ use crate::live::mark_of;
 use crate::live::row_beginning;
 use crate::states::power;
 use crate::sweep::Sizes;
-ghost use lib.Count.{ones};
 ghost use lib.Dec.{eqb};
 ghost use lib.ListN.{getD, length, take};
 ghost use mathlib.Core.Bool.{cond};
 ghost use mathlib.Core.Path.{_≡_};
-ghost use Prim.Native.Nat.{suc, _+_, _*_, _/_, _%_, _^_, _≤_, _<_};
+ghost use Prim.Native.Nat.{suc, _+_, _-_, _*_, _/_, _%_, _^_, _≤_, _<_};
 ghost use Rattle.decoding.specs.Backward.{wordFrom};
+ghost use Rattle.decoding.specs.LiveRows.{endingCount};
 ghost use Rattle.decoding.specs.Sweeping.{BeforeWalk, WalkFits, Walked};
 ghost use Rattle.trellises.specs.SectionOf.{sectionOf};
 ghost use Rattle.words.specs.Word.{bit};
 
-// Where the walk stands: the word's positions so far, the sum of the rows taken, the state and the live rows there, and how many rows
-// have begun.
+// Where the walk stands: the word's positions so far, the sum of the rows taken, the state there, the live rows and how many they are,
+// and how many rows have begun.
 pub struct Walk {
     pub word: u64,
     pub sum: u64,
     pub state: usize,
     pub live: u64,
+    pub count: usize,
     pub next: usize,
 }
 
@@ -45,21 +46,29 @@ fn row_taken(row: u64, sum: u64, t: usize, chosen: u64) -> u64
     }
 }
 
-// The branch that leaves a state and takes a row that begins; 0 is no row.
-fn branch_taking(state: usize, live: u64, row: u64) -> usize
-    requires { ⌜ (state < 4096) × (ones live ≤ 12) ⌝ }
-    ensures { λ r. ⌜ r ≡ cond (eqb row 0) state (state + 2 ^ ones live) ⌝ }
+// The branch that leaves a state with so many live rows and takes a row that begins; 0 is no row.
+fn branch_taking(state: usize, count: usize, row: u64) -> usize
+    requires { ⌜ (state < 4096) × (count ≤ 12) ⌝ }
+    ensures { λ r. ⌜ r ≡ cond (eqb row 0) state (state + 2 ^ count) ⌝ }
 {
-    let also = state + power(u64::count_ones(live) as usize);
+    let also = state + power(count);
     if row == 0 { state } else { also }
 }
 
-// How many rows have begun past a section with the row that begins there; 0 is no row.
-fn begun(next: usize, row: u64) -> usize
-    requires { ⌜ next ≤ 64 ⌝ }
-    ensures { λ r. ⌜ r ≡ cond (eqb row 0) next (suc next) ⌝ }
+// So many rows, and the row that begins; 0 is no row.
+fn and_beginning(rows: usize, row: u64) -> usize
+    requires { ⌜ rows ≤ 64 ⌝ }
+    ensures { λ r. ⌜ r ≡ cond (eqb row 0) rows (suc rows) ⌝ }
 {
-    if row == 0 { next } else { next + 1 }
+    if row == 0 { rows } else { rows + 1 }
+}
+
+// So many rows without the row that ends, by one more than that row; 0 where none does.
+fn but_ending(rows: usize, following: u8) -> usize
+    requires { ⌜ endingCount following ≤ rows ⌝ }
+    ensures { λ r. ⌜ r ≡ rows - endingCount following ⌝ }
+{
+    if following == 0 { rows } else { rows - 1 }
 }
 
 // Section t: its decided bit, and where the branch with that bit leads.
@@ -79,7 +88,7 @@ fn walk_section(
     let row = beginning.row;
     let chosen = decision(decisions, t * sizes.words, at.state);
     let taken = row_taken(row, at.sum, t, chosen);
-    let branch = branch_taking(at.state, at.live, taken);
+    let branch = branch_taking(at.state, at.count, taken);
     let active = at.live + beginning.mark;
     let following = ends[t];
     Walk {
@@ -87,7 +96,8 @@ fn walk_section(
         sum: at.sum ^ taken,
         state: leads(active, following, branch),
         live: active - mark_of(following),
-        next: begun(at.next, row),
+        count: but_ending(and_beginning(at.count, row), following),
+        next: and_beginning(at.next, row),
     }
 }
 
@@ -107,6 +117,7 @@ pub fn read_off(
         sum: 0,
         state: 0,
         live: 0,
+        count: 0,
         next: 0,
     };
     let mut t = 0;

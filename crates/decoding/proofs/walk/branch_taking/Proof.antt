@@ -1,7 +1,6 @@
 -- `decoding::walk::branch_taking` meets its contract.
 use borrow.Author.Needs.{needs}
 use borrow.Author.Tests.{eq-eqb, ne-eqb}
-use lib.Count.{ones}
 use lib.Pow.{pow-mono}
 use mathlib.Core.Bool.{Bool, cond}
 use mathlib.Core.Path.{_∙_, ap, sym}
@@ -9,9 +8,6 @@ use native.Mathlib.Omega.{arith}
 use Prim.Native.Nat.{ℕ, _+_, _^_}
 use Rattle.decoding.proofs.walk.branch_taking.Statement.{statement}
 use Rattle.decoding.proofs.walk.branch_taking.Tie as tie
-
-cast-power : tie.Need-cast-power
-cast-power c = search needs
 
 power-requires : tie.Need-power-requires
 power-requires c κs = search needs
@@ -22,13 +18,13 @@ add-also c = let s = c .before in record { fits = omega (arith, c .power .ensure
 returns : tie.Need-returns
 returns c =
     let s = c .before .before in
-    sym (ap (λ (b : Bool). cond b (s .args .state) (s .args .state + 2 ^ ones (s .args .live))) (eq-eqb (s .args .row) 0 (c .if1 .taken)))
+    sym (ap (λ (b : Bool). cond b (s .args .state) (s .args .state + 2 ^ s .args .count)) (eq-eqb (s .args .row) 0 (c .if1 .taken)))
 
 returns-2 : tie.Need-returns-2
 returns-2 c =
     let s = c .before .before in
     ap (λ (x : ℕ). s .args .state + x) (c .before .power .ensures)
-    ∙ sym (ap (λ (b : Bool). cond b (s .args .state) (s .args .state + 2 ^ ones (s .args .live))) (ne-eqb (s .args .row) 0 (c .if1 .left)))
+    ∙ sym (ap (λ (b : Bool). cond b (s .args .state) (s .args .state + 2 ^ s .args .count)) (ne-eqb (s .args .row) 0 (c .if1 .left)))
 
 pub branch-taking-spec : {M : Type 1} → statement M
-branch-taking-spec = tie.close (tie.spec cast-power power-requires add-also returns returns-2)
+branch-taking-spec = tie.close (tie.spec power-requires add-also returns returns-2)

@@ -4,7 +4,7 @@ use mathlib.Core.Path.{_≡_, refl}
 use native.Mathlib.Omega.{arith}
 use Prim.Native.Nat.{_<_}
 use Rattle.decoding.proofs.PassedRows.{active-fits, ending-few}
-use Rattle.decoding.proofs.WalkSection.{active-is, decision-there, ended-among, live-few, next-few, state-small, walk-begin-small, walked-on}
+use Rattle.decoding.proofs.WalkSection.{active-is, decision-there, ended-among, ending-counted, live-few, next-few, state-small, walk-begin-small, walked-on}
 use Rattle.decoding.proofs.walk.walk_section.Statement.{statement}
 use Rattle.decoding.proofs.walk.walk_section.Tie as tie
 
@@ -53,21 +53,31 @@ sub-t24 c =
     let s = c .before .before .before .before .before .before .before .before .before .before .before .before .before in
     ended-among (s .args .rows .now) (s .args .sizes) (s .args .ends .now) (s .args .samples .now) (s .args .decisions .now) (s .args .t) (s .args .at) (s .pre) _ (c .before .before .before .before .before .before .before .before .before .before .before .row-beginning .ensures .mark) (c .mark-of .ensures)
 
-begun-requires : tie.Need-begun-requires
-begun-requires c κs =
-    let s = c .before .before .before .before .before .before .before .before .before .before .before .before .before in
+and-beginning-requires : tie.Need-and-beginning-requires
+and-beginning-requires c κs = let s = c .before .before .before .before .before .before .before .before .before .before .before .before .before in omega (arith, live-few (s .args .rows .now) (s .args .sizes) (s .args .ends .now) (s .args .samples .now) (s .args .decisions .now) (s .args .t) (s .args .at) (s .pre))
+
+but-ending-requires : tie.Need-but-ending-requires
+but-ending-requires c κs =
+    let s = c .before .before .before .before .before .before .before .before .before .before .before .before .before .before in
+    omega (arith, c .and-beginning .ensures, ending-counted (s .args .rows .now) (s .args .sizes) (s .args .ends .now) (s .args .samples .now) (s .args .decisions .now) (s .args .t) (s .args .at) (s .pre) _ (c .before .before .before .before .before .before .before .before .before .before .before .before .row-beginning .ensures .row))
+
+and-beginning-requires-2 : tie.Need-and-beginning-requires-2
+and-beginning-requires-2 c κs =
+    let s = c .before .before .before .before .before .before .before .before .before .before .before .before .before .before .before in
     next-few (s .args .rows .now) (s .args .sizes) (s .args .ends .now) (s .args .samples .now) (s .args .decisions .now) (s .args .t) (s .args .at) (s .pre)
 
 returns : tie.Need-returns
 returns c =
-    let s = c .before .before .before .before .before .before .before .before .before .before .before .before .before .before in
-    let d = c .before .before .before .before .before .before .before .before .before .before .decision in
-    let r = c .before .before .before .before .before .before .before .before .before .before .before .before .row-beginning in
-    let k = c .before .before .before .before .before .before .before .before .before .row-taken in
-    let x = c .before .before .before .before .before .before .before .before .branch-taking in
-    walked-on (s .args .rows .now) (s .args .sizes) (s .args .ends .now) (s .args .samples .now) (s .args .decisions .now) (s .args .t) (s .args .at) (s .pre) (d .result) (d .ensures) _ (r .ensures .row) (k .result) (k .ensures) (x .result) (x .ensures) _ _ _ _ _ _
-    (active-is (s .args .rows .now) (s .args .sizes) (s .args .ends .now) (s .args .samples .now) (s .args .decisions .now) (s .args .t) (s .args .at) (s .pre) _ (r .ensures .mark)) refl (c .before .before .leads .ensures) (c .before .mark-of .ensures)
-    (omega (arith, ended-among (s .args .rows .now) (s .args .sizes) (s .args .ends .now) (s .args .samples .now) (s .args .decisions .now) (s .args .t) (s .args .at) (s .pre) _ (r .ensures .mark) (c .before .mark-of .ensures))) (c .begun .ensures)
+    let s = c .before .before .before .before .before .before .before .before .before .before .before .before .before .before .before .before in
+    let d = c .before .before .before .before .before .before .before .before .before .before .before .before .decision in
+    let r = c .before .before .before .before .before .before .before .before .before .before .before .before .before .before .row-beginning in
+    let k = c .before .before .before .before .before .before .before .before .before .before .before .row-taken in
+    let x = c .before .before .before .before .before .before .before .before .before .before .branch-taking in
+    let m = c .before .before .before .mark-of in
+    walked-on (s .args .rows .now) (s .args .sizes) (s .args .ends .now) (s .args .samples .now) (s .args .decisions .now) (s .args .t) (s .args .at) (s .pre) (d .result) (d .ensures) _ (r .ensures .row) (k .result) (k .ensures) (x .result) (x .ensures) _ _ _ _ _ _ _
+    (active-is (s .args .rows .now) (s .args .sizes) (s .args .ends .now) (s .args .samples .now) (s .args .decisions .now) (s .args .t) (s .args .at) (s .pre) _ (r .ensures .mark)) refl (c .before .before .before .before .leads .ensures) (m .ensures)
+    (omega (arith, ended-among (s .args .rows .now) (s .args .sizes) (s .args .ends .now) (s .args .samples .now) (s .args .decisions .now) (s .args .t) (s .args .at) (s .pre) _ (r .ensures .mark) (m .ensures)))
+    (omega (arith, c .before .but-ending .ensures, c .before .before .and-beginning .ensures)) (c .and-beginning2 .ensures)
 
 pub walk-section-spec : {M : Type 1} → statement M
 walk-section-spec =
@@ -84,5 +94,7 @@ walk-section-spec =
     leads-requires
     mark-of-requires
     sub-t24
-    begun-requires
+    and-beginning-requires
+    but-ending-requires
+    and-beginning-requires-2
     returns)
