@@ -60,6 +60,12 @@ fn library_replies(
     (reply, word, metric)
 }
 
+/// The library's test of a plate: a block with a sample too many is refused once the plate has passed.
+pub fn plate_test(plate: &[u64]) {
+    let block = [0; 65];
+    assert_eq!(library_replies(plate, &block[..=plate[0] as usize], &mut [], &mut []).0, 6);
+}
+
 /// Whether the library and the C with the tests say the same of a plate, good or damaged.
 pub fn same_verdict(plate: &[u64], samples: &[i16], metrics: &mut [i32], decisions: &mut [u64]) -> bool {
     let (mut word, mut metric) = (0, 0);

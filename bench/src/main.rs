@@ -11,7 +11,7 @@ mod steps;
 mod timing;
 
 use codes::{codes, Code};
-use contestants::{by_library, exhaustive, same_verdict, DECODERS};
+use contestants::{by_library, exhaustive, plate_test, same_verdict, DECODERS};
 use std::hint::black_box;
 use timing::{best, clock};
 
@@ -28,13 +28,6 @@ fn prepare(code: &Code) -> Vec<u64> {
     };
     assert_eq!(reply, 0);
     plate
-}
-
-/// The library's test of a plate: a branch with bit 2 is refused once the plate has passed it.
-fn plate_test(plate: &[u64]) {
-    let mut next = 0;
-    let reply = unsafe { library::yendrufal_branch(plate.as_ptr(), plate.len(), 0, 0, 2, &mut next, 1) };
-    assert_eq!(reply, 12);
 }
 
 /// Blocks of samples below a size, the same in every run.
