@@ -39,7 +39,7 @@ static uint64_t ask(uint64_t call, const uint64_t *n, const struct run *r) {
     case 5: return yendrufal_write_plate(RUN(0), RUN(1), RUN(2));
     case 6: return yendrufal_write_profile(RUN(0), RUN(1), RUN(2));
     case 7: return yendrufal_write_word(RUN(0), n[0], (int32_t)n[1], n[2], n[3], RUN(1), RUN(2));
-    case 8: return yendrufal_write_refused(n[0], n[1], RUN(0), RUN(1));
+    case 8: return yendrufal_write_refused(n[0], n[1], n[2], RUN(0), RUN(1));
     case 9: return yendrufal_write_end(n[0], RUN(0), RUN(1));
     case 10: return yendrufal_firmness(RUN(0), RUN(1), n[0], RUN(2), RUN(3), RUN(4), RUN(5), RUN(6));
     default: return yendrufal_listing(RUN(0), RUN(1), RUN(2), RUN(3), RUN(4));

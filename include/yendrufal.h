@@ -27,19 +27,23 @@ extern "C" {
 #define YENDRUFAL_LENGTH 1          /* n is 0 or over 64 */
 #define YENDRUFAL_ROW_COUNT 2       /* more than 64 rows */
 #define YENDRUFAL_ROW_BEYOND 3      /* a row has a one at n or beyond; place: the first such row */
-#define YENDRUFAL_TOO_WIDE 4        /* some profile entry exceeds 12 */
+#define YENDRUFAL_TOO_WIDE 4        /* some profile entry exceeds 12; place: the first such depth */
 #define YENDRUFAL_NO_PLATE 5        /* the plate is not one that preparing gives */
 #define YENDRUFAL_SAMPLE_COUNT 6    /* the number of samples is not n */
 #define YENDRUFAL_SAMPLE_RANGE 7    /* a sample outside -2047 to 2047; place: the first such position */
 #define YENDRUFAL_METRIC_ROOM 8     /* metric room too short */
 #define YENDRUFAL_DECISION_ROOM 9   /* decision room too short */
-#define YENDRUFAL_SHEET_LINE 10     /* sheet line not of its form (in a listing only) */
+#define YENDRUFAL_SHEET_LINE 10     /* sheet line missing or not ended (in a listing only) */
 #define YENDRUFAL_LINE_ROOM 11      /* listing line longer than its room */
 #define YENDRUFAL_NO_STATE 12       /* depth n or more, state not present, or bit over 1 */
 #define YENDRUFAL_INFORMATION 13    /* information has a one at k or beyond */
 #define YENDRUFAL_NO_CODEWORD 14    /* word read back is no codeword */
 #define YENDRUFAL_SHEET_LENGTH 15   /* sheet over 32,768 bytes (in a listing only) */
 #define YENDRUFAL_ALIST_FAULT 16    /* fault in an alist text (by no call of this header) */
+#define YENDRUFAL_FIRST_FIELD 17    /* first field unknown or out of its turn (in a listing only) */
+#define YENDRUFAL_FIELD_COUNT 18    /* wrong number of fields; the first missing or extra (in a listing only) */
+#define YENDRUFAL_FIELD_VALUE 19    /* bad number, letter or order (in a listing only) */
+#define YENDRUFAL_ROW_FIELD 20      /* row of wrong length or character (in a listing only) */
 #define YENDRUFAL_POSITION 21       /* the position is n or beyond */
 #define YENDRUFAL_WHOLE_SPACE 22    /* k is 64 (by no call of this header) */
 #define YENDRUFAL_SETTING 24        /* step or top of the levels out of range (by no call of this header) */
@@ -110,7 +114,9 @@ uint64_t yendrufal_firmness(const uint64_t *plate, size_t plate_length, const in
                             size_t value_length, uint64_t *place, size_t place_length);
 
 /* The five kinds of listing line. Each begins at the start of `line`; `written` receives its bytes,
-   the line feed included. Refusals 5 (where a plate is taken), 11. Fixed: plate 131, written 1. */
+   the line feed included. Refusals 5 (where a plate is taken), 11. Fixed: plate 131, written 1.
+   A refused line has number and place; the place of 10 and of 17 to 20 is a line and a field of the
+   sheet, both from 1, the field 0 for 10. Of other numbers `field` is not looked at. */
 uint64_t yendrufal_write_plate(const uint64_t *plate, size_t plate_length, uint8_t *line,
                                size_t line_length, uint64_t *written, size_t written_length);
 uint64_t yendrufal_write_profile(const uint64_t *plate, size_t plate_length, uint8_t *line,
@@ -119,7 +125,7 @@ uint64_t yendrufal_write_word(const uint64_t *plate, size_t plate_length, uint64
                               int32_t metric, uint64_t additions, uint64_t comparisons,
                               uint8_t *line, size_t line_length, uint64_t *written,
                               size_t written_length);
-uint64_t yendrufal_write_refused(uint64_t number, uint64_t place, uint8_t *line,
+uint64_t yendrufal_write_refused(uint64_t number, uint64_t place, uint64_t field, uint8_t *line,
                                  size_t line_length, uint64_t *written, size_t written_length);
 uint64_t yendrufal_write_end(uint64_t count, uint8_t *line, size_t line_length, uint64_t *written,
                              size_t written_length);

@@ -1,6 +1,7 @@
 //! Makers of calls. `Rooms` says how long the lent runs are, so that any of them can be too short.
 
 use crate::call::{Call, Name, Run};
+use crate::plate::Refusal;
 
 /// Lengths of lent runs, other than the working rooms: by default what each use fixes.
 #[derive(Clone, Copy)]
@@ -98,13 +99,15 @@ pub fn write_word(flat: &[u64], values: (u64, i32, u64, u64), line: usize, rooms
     Call { name: Name::WriteWord, numbers, ..write_plate(flat, line, rooms) }
 }
 
-pub fn write_refused(number: u64, place: u64, line: usize, rooms: Rooms) -> Call {
+pub fn write_refused(refusal: Refusal, line: usize, rooms: Rooms) -> Call {
+    let Refusal { number, place, field } = refusal;
     let runs = vec![Run::room_bytes("line", line), Run::room_words("written", rooms.single)];
-    Call { name: Name::WriteRefused, numbers: vec![number, place], runs }
+    Call { name: Name::WriteRefused, numbers: vec![number, place, field], runs }
 }
 
 pub fn write_end(count: u64, line: usize, rooms: Rooms) -> Call {
-    Call { name: Name::WriteEnd, numbers: vec![count], ..write_refused(0, 0, line, rooms) }
+    let refusal = Refusal { number: 0, place: 0, field: 0 };
+    Call { name: Name::WriteEnd, numbers: vec![count], ..write_refused(refusal, line, rooms) }
 }
 
 pub fn listing(sheet: &[u8], metrics: usize, decisions: usize, listing: usize, rooms: Rooms) -> Call {

@@ -34,7 +34,7 @@ pub fn answer(call: &mut Call) -> u64 {
         Name::WriteRefused | Name::WriteEnd => {
             let ((line, a), (written, b)) = (lent!(r[0], bytes), lent!(r[1], words));
             match call.name {
-                Name::WriteRefused => unsafe { yendrufal_write_refused(n[0], n[1], line, a, written, b) },
+                Name::WriteRefused => unsafe { yendrufal_write_refused(n[0], n[1], n[2], line, a, written, b) },
                 _ => unsafe { yendrufal_write_end(n[0], line, a, written, b) },
             }
         }

@@ -100,6 +100,7 @@ extern "C" {
     pub fn yendrufal_write_refused(
         number: u64,
         place: u64,
+        field: u64,
         line: *mut u8,
         line_length: usize,
         written: *mut u64,

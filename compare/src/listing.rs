@@ -17,8 +17,13 @@ pub fn word_line(plate: &Plate, word: u64, metric: i32, additions: u64, comparis
     format!("word\t{}\t{metric}\t{additions}\t{comparisons}\n", printed(word, plate.n))
 }
 
+/// A sheet's bad line is told by line and field, everything else by its place.
 pub fn refused_line(refusal: Refusal) -> String {
-    format!("refused\t{}\t{}\n", refusal.number, refusal.place)
+    let Refusal { number, place, field } = refusal;
+    match number {
+        10 | 17 | 18 | 19 | 20 => format!("refused\t{number}\t{place}\t{field}\n"),
+        _ => format!("refused\t{number}\t{place}\n"),
+    }
 }
 
 pub fn end_line(count: u64) -> String {

@@ -18,8 +18,8 @@ pub const LINE_MOST: usize = 256;
 pub const METRICS_MOST: usize = 8192;
 pub const DECISIONS_MOST: usize = 4096;
 
-const NO_PLATE: Refusal = Refusal { number: 5, place: 0 };
-const LINE_ROOM: Refusal = Refusal { number: 11, place: 0 };
+const NO_PLATE: Refusal = Refusal { number: 5, place: 0, field: 0 };
+const LINE_ROOM: Refusal = Refusal { number: 11, place: 0, field: 0 };
 
 /// Answers calls; keeps what it found out about the last run of words given as a plate.
 pub struct Model {
@@ -81,7 +81,7 @@ impl Model {
             (Name::Decode, runs) => self.answer_decode(runs),
             (Name::Firmness, runs) => self.answer_firmness(numbers[0], runs),
             (Name::WriteRefused, [line, written]) => {
-                let refusal = Refusal { number: numbers[0], place: numbers[1] };
+                let refusal = Refusal { number: numbers[0], place: numbers[1], field: numbers[2] };
                 put_line(Ok(refused_line(refusal)), line.bytes(), written.words())
             }
             (Name::WriteEnd, [line, written]) => {

@@ -6,15 +6,16 @@
 use crate::linear::{columns, even_with_all, Basis};
 use crate::words::{bit, ones_before};
 
-/// A refusal of the paper: its number and place.
+/// A refusal of the paper: its number and place. For a sheet's bad line the place is the line, and the field stands beside it.
 #[derive(Clone, Copy, Debug, PartialEq, Eq)]
 pub struct Refusal {
     pub number: u64,
     pub place: u64,
+    pub field: u64,
 }
 
 pub fn refuse<T>(number: u64, place: usize) -> Result<T, Refusal> {
-    Err(Refusal { number, place: place as u64 })
+    Err(Refusal { number, place: place as u64, field: 0 })
 }
 
 #[derive(Clone, Copy, Debug, PartialEq, Eq)]
@@ -145,8 +146,8 @@ fn earliest(columns: &[u64], head: usize, last: usize) -> u64 {
 pub fn prepare(n: u64, kind: Kind, rows: &[u64]) -> Result<Plate, Refusal> {
     let columns = check_columns(n, kind, rows)?;
     let profile = profile(&columns);
-    if profile.iter().any(|&entry| entry > WIDEST) {
-        return refuse(4, 0);
+    if let Some(depth) = profile.iter().position(|&entry| entry > WIDEST) {
+        return refuse(4, depth);
     }
     let row = |head| soonest_last(&columns, head).map(|last| earliest(&columns, head, last));
     let rows = (0..columns.len()).filter_map(row).collect();

@@ -119,16 +119,21 @@ fn lines(comparison: &mut Comparison, plate: &Plate) {
     }
 }
 
-/// Lines without a plate, over numbers of every length.
+/// Lines without a plate, over numbers of every length, and over every number that a refusal may have.
 fn plain_lines(comparison: &mut Comparison) {
+    for number in 0..40 {
+        comparison.agree(asked::write_refused(Refusal { number, place: 3, field: 2 }, 256, FIXED));
+    }
     let tens = (0..20).map(|i| 10u64.pow(i));
     for value in tens.flat_map(|ten| [ten - 1, ten, ten + 1]).chain([u64::MAX - 1, u64::MAX]) {
         for room in 0..end_line(value).len() + 4 {
             comparison.agree(asked::write_end(value, room, FIXED));
         }
-        for (number, place) in [(value, 0), (0, value), (value, u64::MAX - value)] {
-            for room in 0..refused_line(Refusal { number, place }).len() + 4 {
-                comparison.agree(asked::write_refused(number, place, room, FIXED));
+        let numbers = [(value, 0, 0), (0, value, 0), (value, u64::MAX - value, value), (10, value, 0), (18, 1, value)];
+        for (number, place, field) in numbers {
+            let refusal = Refusal { number, place, field };
+            for room in 0..refused_line(refusal).len() + 4 {
+                comparison.agree(asked::write_refused(refusal, room, FIXED));
             }
         }
     }
@@ -151,7 +156,7 @@ fn shapes(comparison: &mut Comparison, plate: &Plate) {
         comparison.agree(asked::write_plate(&flat, 256, rooms));
         comparison.agree(asked::write_profile(&flat, 256, rooms));
         comparison.agree(asked::write_word(&flat, (0, 0, 0, 0), 256, rooms));
-        comparison.agree(asked::write_refused(1, 0, 256, rooms));
+        comparison.agree(asked::write_refused(Refusal { number: 1, place: 0, field: 0 }, 256, rooms));
         comparison.agree(asked::write_end(1, 256, rooms));
         for (n, kind, rows) in [
             (8, 0, &[3, 5][..]),

@@ -8,6 +8,12 @@ pub const SHEET_MOST: usize = 32_768;
 const SAMPLE_DIGITS: usize = 4;
 const LENGTH_DIGITS: usize = 3;
 
+/// The words that a line may begin with: the first line, the lines up to the first block, those after it, and those after end.
+const COVER: &[&str] = &["cover"];
+const BODY: &[&str] = &["row", "block", "end"];
+const BLOCKS: &[&str] = &["block", "end"];
+const NOTHING: &[&str] = &[];
+
 struct Cover {
     n: usize,
     kind: Kind,
@@ -18,13 +24,6 @@ struct Sheet {
     first: bool,
     plate: Plate,
     blocks: Vec<Vec<i16>>,
-}
-
-/// One line after the cover.
-enum Line {
-    Row(u64),
-    Block(Vec<i16>),
-    End,
 }
 
 /// A number of one to `digits` digits without a leading zero.
@@ -45,68 +44,93 @@ fn sample(field: &str) -> Option<i16> {
     }
 }
 
-fn cover(line: &str) -> Option<Cover> {
-    let fields: Vec<&str> = line.split('\t').collect();
-    let ["cover", n, kind, order] = fields[..] else {
-        return None;
+/// What is wrong with a line: the number of its refusal, and the field, from 1. In their order the least comes first.
+type Fault = (u64, usize);
+
+/// Whether a field is of its form, and the number that says it is not. Fields that no line of this word has are of every form.
+fn form(word: &str, at: usize, field: &str, n: usize) -> Option<u64> {
+    let (number, good) = match (word, at) {
+        ("cover", 2) => (19, number(field, LENGTH_DIGITS).is_some()),
+        ("cover", 3) => (19, ["G", "H"].contains(&field)),
+        ("cover", 4) => (19, ["first", "last"].contains(&field)),
+        ("row", 2) => (20, field.len() == n && field.bytes().all(|b| b == b'0' || b == b'1')),
+        ("block", 2..) => (19, sample(field).is_some()),
+        _ => (0, true),
     };
-    let kind = match kind {
-        "G" => Kind::G,
-        "H" => Kind::H,
-        _ => return None,
+    (!good).then_some(number)
+}
+
+/// All that is wrong with an ended line, by its fields, where it may begin with the words in turn.
+fn faults(fields: &[&str], turn: &[&str], n: usize) -> Vec<Fault> {
+    let word = fields[0];
+    let mut found = Vec::new();
+    if !turn.contains(&word) {
+        found.push((17, 1));
+    }
+    let due = match word {
+        "cover" => 4,
+        "row" => 2,
+        "end" => 1,
+        _ => fields.len(),
     };
-    let first = match order {
-        "first" => true,
-        "last" => false,
-        _ => return None,
-    };
-    let n = number(n, LENGTH_DIGITS)? as usize;
-    Some(Cover { n, kind, first })
+    if fields.len() != due {
+        found.push((18, fields.len().min(due) + 1));
+    }
+    let forms = fields.iter().enumerate().filter_map(|(i, field)| form(word, i + 1, field, n).map(|number| (number, i + 1)));
+    found.extend(forms);
+    found
+}
+
+/// The fields of a line, counted from 1, or its first fault. A line that is missing or not ended is not among the lines.
+fn fields<'a>(lines: &[&'a str], line: usize, turn: &[&str], n: usize) -> Result<Vec<&'a str>, Refusal> {
+    let place = line as u64;
+    let text = lines.get(line - 1).ok_or(Refusal { number: 10, place, field: 0 })?;
+    let fields: Vec<&str> = text.split('\t').collect();
+    match faults(&fields, turn, n).into_iter().min() {
+        Some((number, field)) => Err(Refusal { number, place, field: field as u64 }),
+        None => Ok(fields),
+    }
+}
+
+fn cover(fields: &[&str]) -> Cover {
+    let n = number(fields[1], LENGTH_DIGITS).unwrap() as usize;
+    Cover { n, kind: if fields[2] == "G" { Kind::G } else { Kind::H }, first: fields[3] == "first" }
 }
 
 /// A row's word: the leftmost character is position 0 under `first`, position n-1 under `last`.
-fn row(characters: &str, cover: &Cover) -> Option<u64> {
-    let form = characters.len() == cover.n && characters.bytes().all(|b| b == b'0' || b == b'1');
+fn row(characters: &str, cover: &Cover) -> u64 {
     let position = |i| if cover.first { i } else { cover.n - 1 - i };
     let ones = characters.bytes().enumerate().filter(|(_, b)| *b == b'1');
-    form.then(|| ones.map(|(i, _)| 1u64 << position(i)).sum())
+    ones.map(|(i, _)| 1u64 << position(i)).sum()
 }
 
 /// Under `last` the sample listed first is that of position n-1, so the list is read from its far end. (Where it has another
 /// number of samples than n the block is refused for that.)
-fn by_position(listed: Vec<i16>, cover: &Cover) -> Vec<i16> {
+fn by_position(listed: &[&str], cover: &Cover) -> Vec<i16> {
+    let samples = listed.iter().map(|field| sample(field).unwrap());
     if cover.first {
-        listed
+        samples.collect()
     } else {
-        listed.into_iter().rev().collect()
+        samples.rev().collect()
     }
 }
 
-fn line(text: &str, cover: &Cover) -> Option<Line> {
-    let fields: Vec<&str> = text.split('\t').collect();
-    match fields[..] {
-        ["row", characters] => row(characters, cover).map(Line::Row),
-        ["block", ref samples @ ..] => {
-            let listed = samples.iter().map(|field| sample(field)).collect::<Option<Vec<_>>>();
-            listed.map(|listed| Line::Block(by_position(listed, cover)))
-        }
-        ["end"] => Some(Line::End),
-        _ => None,
-    }
-}
-
-/// The lines between cover and end taken in; an error is the number of the first bad line.
-fn body(lines: &[&str], unended: bool, cover: &Cover) -> Result<(Vec<u64>, Vec<Vec<i16>>), usize> {
+/// The lines between cover and end taken in, or the refusal of the first that is bad.
+fn body(lines: &[&str], unended: bool, cover: &Cover) -> Result<(Vec<u64>, Vec<Vec<i16>>), Refusal> {
     let (mut rows, mut blocks) = (Vec::new(), Vec::new());
-    for at in 1.. {
-        let found = lines.get(at).and_then(|text| line(text, cover));
-        match found {
-            Some(Line::Row(word)) if blocks.is_empty() => rows.push(word),
-            Some(Line::Block(samples)) => blocks.push(samples),
-            Some(Line::End) if lines.len() == at + 1 && !unended => break,
-            Some(Line::End) => return Err(at + 2),
-            _ => return Err(at + 1),
+    let mut line = 2;
+    loop {
+        let turn = if blocks.is_empty() { BODY } else { BLOCKS };
+        let found = fields(lines, line, turn, cover.n)?;
+        line += 1;
+        match found[0] {
+            "row" => rows.push(row(found[1], cover)),
+            "block" => blocks.push(by_position(&found[1..], cover)),
+            _ => break,
         }
+    }
+    if lines.len() >= line || unended {
+        fields(lines, line, NOTHING, cover.n)?;
     }
     Ok((rows, blocks))
 }
@@ -119,13 +143,11 @@ fn read(bytes: &[u8]) -> Result<Sheet, Refusal> {
     let text: String = bytes.iter().map(|&b| char::from(b)).collect();
     let mut lines: Vec<&str> = text.split('\n').collect();
     let unended = lines.pop() != Some("");
-    let Some(cover) = lines.first().and_then(|text| cover(text)) else {
-        return refuse(10, 1);
-    };
+    let cover = cover(&fields(&lines, 1, COVER, 0)?);
     if cover.n == 0 || cover.n > 64 {
         return refuse(1, 0);
     }
-    let (rows, blocks) = body(&lines, unended, &cover).or_else(|at| refuse(10, at))?;
+    let (rows, blocks) = body(&lines, unended, &cover)?;
     let plate = prepare(cover.n as u64, cover.kind, &rows)?;
     Ok(Sheet { first: cover.first, plate, blocks })
 }

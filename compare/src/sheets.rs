@@ -8,7 +8,7 @@ use crate::sheet::SHEET_MOST;
 use crate::words::printed;
 
 /// Sheets that stand just inside or outside of the grammar.
-const AWKWARD: [&str; 44] = [
+const AWKWARD: [&str; 56] = [
     "",
     "\n",
     "cover",
@@ -53,6 +53,18 @@ const AWKWARD: [&str; 44] = [
     "cover\t2\tG\tlast\nblock\t--1\t1\nend\n",
     "cover\t2\tG\tlast\nblock\t-\t1\nend\n",
     "cover\t2\tG\tlast\nblock\t1\t2\t\nend\n",
+    "row\t12\t\n",
+    "cover\t1\tG\n",
+    "cover\t01\tg\n",
+    "cover\t01\tg\tfirst\tlast\n",
+    "cover\t01\tg\tnext\n",
+    "cover\t2\tG\tlast\ncover\t0\n",
+    "cover\t2\tG\tlast\nrow\t12\t\n",
+    "cover\t2\tG\tlast\nblock\nrow\t12\t\n",
+    "cover\t2\tG\tlast\nblock\t-0\tx\t1\n",
+    "cover\t2\tG\tlast\nrow\t12\nword\n",
+    "cover\t2\tG\tlast\nend\nrow\t12\t\n",
+    "cover\t2\tG\tlast\nend\t0\t1\nend\n",
 ];
 
 /// A room for three lines and one for each line of the sheet is enough.

@@ -124,7 +124,7 @@ impl Checked<'_> {
         let pairs = |count: u64| (0..count).map(|i| 1 << i | 1 << (i + count)).collect::<Vec<u64>>();
         let widest = self.plate(24, 0, &pairs(12));
         assert_eq!(widest[66..].iter().max(), Some(&12));
-        self.expect(asked::prepare(26, 0, &pairs(13), FIXED), 4, Some((2, 0, 0)));
+        self.expect(asked::prepare(26, 0, &pairs(13), FIXED), 4, Some((2, 0, 13)));
     }
 }
 

@@ -198,9 +198,9 @@ module _ (room : List ℕ) (r : Written) (room′ : List ℕ) where
   write-word-refuses plate word metric additions comparisons = of-plate plate (wordLine (plate .n) word metric additions comparisons)
 
   -- the line refused
-  pub write-refused-refuses : (number place : ℕ) → WritesRefused number place room r room′
-      → WriteRefuses (lineRoom (refusedLine number place) room ∷ []) room r room′
-  write-refused-refuses number place = of-line (refusedLine number place)
+  pub write-refused-refuses : (number place field : ℕ) → WritesRefused number place field room r room′
+      → WriteRefuses (lineRoom (refusedLine number place field) room ∷ []) room r room′
+  write-refused-refuses number place field = of-line (refusedLine number place field)
 
   -- the line end
   pub write-end-refuses : (blocks : ℕ) → WritesEnd blocks room r room′ → WriteRefuses (lineRoom (endLine blocks) room ∷ []) room r room′

@@ -23,7 +23,7 @@ use Rattle.plates.specs.declared.Plate.{Plate}
 use Rattle.plates.specs.declared.Prepared.{Prepared}
 use Rattle.plates.specs.declared.Refusal.{Refusal}
 use Rattle.plates.specs.Prepare.{Prepares, Tests}
-use Rattle.plates.specs.Refusals.{number, place}
+use Rattle.plates.specs.Refusals.{field, number, place}
 use Rattle.trellises.proofs.BranchDetermined.{branch-determined}
 use Rattle.trellises.specs.Branching.{Branches}
 use Rattle.trellises.specs.declared.Next.{Next}
@@ -62,6 +62,10 @@ refusal-number refusal r s x y = x ∙ sym y
 -- its place
 pub refusal-place : (refusal : Refusal) (r s : ℕ) → r ≡ place refusal → s ≡ place refusal → r ≡ s
 refusal-place refusal r s x y = x ∙ sym y
+
+-- its field
+pub refusal-field : (refusal : Refusal) (r s : ℕ) → r ≡ field refusal → s ≡ field refusal → r ≡ s
+refusal-field refusal r s x y = x ∙ sym y
 
 -- preparing a matrix
 pub prepare : (n : ℕ) (kind : Kind) (rows : List ℕ) (r s : Prepared) → Prepares n kind rows r → Prepares n kind rows s → r ≡ s
@@ -125,7 +129,7 @@ module _ (room : List ℕ) (r s : Written) (a b : List ℕ) where
   write-word = write-word-determined
 
   -- the line refused
-  pub write-refused : (number place : ℕ) → WritesRefused number place room r a → WritesRefused number place room s b → (r ≡ s) × (a ≡ b)
+  pub write-refused : (number place field : ℕ) → WritesRefused number place field room r a → WritesRefused number place field room s b → (r ≡ s) × (a ≡ b)
   write-refused = write-refused-determined
 
   -- the line end

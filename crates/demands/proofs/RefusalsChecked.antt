@@ -1,27 +1,27 @@
--- Tests of a refusal: it is told by its number and place, and prepare replies it.
+-- Tests of a refusal: it is told by its number, place and field, and prepare replies it.
 use lib.Dec.{eqb}
 use lib.ListN.{getD, length}
 use mathlib.Core.Bool.{cond}
 use mathlib.Core.List.{List}
 use mathlib.Core.Logic.{inl, inr, _⊎_}
-use mathlib.Core.Path.{ap₂, refl, sym, _∙_, _≡_}
+use mathlib.Core.Path.{ap, ap₂, refl, sym, _∙_, _≡_}
 use native.Mathlib.Omega.{arith}
 use Prim.Native.Nat.{_<_, _^_, ℕ, _≤_}
 use Rattle.demands.proofs.Checking.{Check, atMost, both, by, each, either, equal, less}
 use Rattle.plates.specs.declared.Kind.{Kind}
 use Rattle.plates.specs.declared.Refusal.{Refusal}
-use Rattle.plates.specs.declared.Refusal.the-variants.{AlistFault, BadSetting, DecisionRoom, Information, InputTooLong, Length, LineRoom, MetricRoom, NoCodeword, NoSuchBranch, NotANumber, NotPrepared, PositionBeyond, RowBeyond, SampleCount, SampleRange, SheetLine, TooManyRows, TooWide, WholeSpace}
+use Rattle.plates.specs.declared.Refusal.the-variants.{AlistFault, BadSetting, DecisionRoom, FieldCount, FieldValue, FirstField, Information, InputTooLong, Length, LineRoom, MetricRoom, NoCodeword, NoSuchBranch, NotANumber, NotPrepared, PositionBeyond, RowBeyond, RowField, SampleCount, SampleRange, SheetLine, TooManyRows, TooWide, WholeSpace}
 use Rattle.plates.specs.Prepare.{Prepares, RowOver, badLength}
-use Rattle.plates.specs.Refusals.{number, place}
+use Rattle.plates.specs.Refusals.{field, number, place}
 use Rattle.plates.specs.Replying.{refusedWith}
 
--- the refusal of a number and place
-abbrev pub refusalOf : ℕ → ℕ → Refusal
-refusalOf i p =
+-- the refusal of a number, place and field
+abbrev pub refusalOf : ℕ → ℕ → ℕ → Refusal
+refusalOf i p f =
     cond (eqb i 1) Length
     (cond (eqb i 2) TooManyRows
     (cond (eqb i 3) (RowBeyond p)
-    (cond (eqb i 4) TooWide
+    (cond (eqb i 4) (TooWide p)
     (cond (eqb i 5) NotPrepared
     (cond (eqb i 6) SampleCount
     (cond (eqb i 7) (SampleRange p)
@@ -29,14 +29,22 @@ refusalOf i p =
     (cond (eqb i 9) DecisionRoom
     (cond (eqb i 10) (SheetLine p)
     (cond (eqb i 11) LineRoom
-    (cond (eqb i 12) NoSuchBranch (cond (eqb i 13) Information (cond (eqb i 14) NoCodeword (cond (eqb i 15) InputTooLong (cond (eqb i 16) (AlistFault p) (cond (eqb i 21) PositionBeyond (cond (eqb i 22) WholeSpace (cond (eqb i 24) BadSetting (NotANumber p)))))))))))))))))))
+    (cond (eqb i 12) NoSuchBranch
+    (cond (eqb i 13) Information
+    (cond (eqb i 14) NoCodeword
+    (cond (eqb i 15) InputTooLong
+    (cond (eqb i 16) (AlistFault p)
+    (cond (eqb i 17) (FirstField p)
+    (cond (eqb i 18) (FieldCount p f)
+    (cond (eqb i 19) (FieldValue p f)
+    (cond (eqb i 20) (RowField p f) (cond (eqb i 21) PositionBeyond (cond (eqb i 22) WholeSpace (cond (eqb i 24) BadSetting (NotANumber p)))))))))))))))))))))))
 
--- a refusal is told by its number and place
-pub told : (q : Refusal) → refusalOf (number q) (place q) ≡ q
+-- a refusal is told by its number, place and field
+pub told : (q : Refusal) → refusalOf (number q) (place q) (field q) ≡ q
 told Length = refl
 told TooManyRows = refl
 told (RowBeyond row) = refl
-told TooWide = refl
+told (TooWide depth) = refl
 told NotPrepared = refl
 told SampleCount = refl
 told (SampleRange position) = refl
@@ -53,14 +61,19 @@ told BadSetting = refl
 told (NotANumber position) = refl
 told WholeSpace = refl
 told (AlistFault line) = refl
+told (FirstField line) = refl
+told (FieldCount line at) = refl
+told (FieldValue line at) = refl
+told (RowField line at) = refl
 
--- so two of one number and place are the same
-pub same-refusal : (p q : Refusal) → (number p ≡ number q) × (place p ≡ place q) → p ≡ q
-same-refusal p q e = sym (told p) ∙ ap₂ refusalOf (e .0) (e .1) ∙ told q
+-- so two of one number, place and field are the same
+pub same-refusal : (p q : Refusal) → (number p ≡ number q) × ((place p ≡ place q) × (field p ≡ field q)) → p ≡ q
+same-refusal p q e =
+    sym (told p) ∙ ap₂ (λ (i : ℕ) (x : ℕ). refusalOf i x (field p)) (e .0) (e .1 .0) ∙ ap (refusalOf (number q) (place q)) (e .1 .1) ∙ told q
 
 -- the test of that
 abbrev pub refusal : (p q : Refusal) → Check (p ≡ q)
-refusal p q = by (same-refusal p q) (both (equal (number p) (number q)) (equal (place p) (place q)))
+refusal p q = by (same-refusal p q) (both (equal (number p) (number q)) (both (equal (place p) (place q)) (equal (field p) (field q))))
 
 -- ---- prepare refuses: 1, or 3
 

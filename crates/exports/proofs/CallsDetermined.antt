@@ -105,9 +105,9 @@ module _ (room cell : List ℕ) (r s : ℕ) (a b c d : List ℕ) where
   write-word-call-determined words word metric additions comparisons =
       write-call-determined _ (WritesWord (plateOf words) word metric additions comparisons) (λ x y e f. write-word-determined (plateOf words) word metric additions comparisons)
 
-  pub write-refused-call-determined : (q p : ℕ) → CallsWriteRefused q p room cell r a b → CallsWriteRefused q p room cell s c d
+  pub write-refused-call-determined : (q p f : ℕ) → CallsWriteRefused q p f room cell r a b → CallsWriteRefused q p f room cell s c d
       → SameRuns r s a b c d
-  write-refused-call-determined q p = write-call-determined _ (WritesRefused q p) (λ x y e f. write-refused-determined q p)
+  write-refused-call-determined q p f = write-call-determined _ (WritesRefused q p f) (λ x y e g. write-refused-determined q p f)
 
   pub write-end-call-determined : (blocks : ℕ) → CallsWriteEnd blocks room cell r a b → CallsWriteEnd blocks room cell s c d
       → SameRuns r s a b c d

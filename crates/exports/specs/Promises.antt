@@ -90,8 +90,8 @@ abbrev pub CallsWriteWord : List ℕ → ℕ → ℤ → ℕ → ℕ → List �
 CallsWriteWord words word metric additions comparisons room cell =
     CallsWrite (PlateLong words × HasCell cell) (WritesWord (plateOf words) word metric additions comparisons) room cell
 
-abbrev pub CallsWriteRefused : ℕ → ℕ → List ℕ → List ℕ → ℕ → List ℕ → List ℕ → Type 0
-CallsWriteRefused number place room cell = CallsWrite (HasCell cell) (WritesRefused number place) room cell
+abbrev pub CallsWriteRefused : ℕ → ℕ → ℕ → List ℕ → List ℕ → ℕ → List ℕ → List ℕ → Type 0
+CallsWriteRefused number place field room cell = CallsWrite (HasCell cell) (WritesRefused number place field) room cell
 
 abbrev pub CallsWriteEnd : ℕ → List ℕ → List ℕ → ℕ → List ℕ → List ℕ → Type 0
 CallsWriteEnd blocks room cell = CallsWrite (HasCell cell) (WritesEnd blocks) room cell

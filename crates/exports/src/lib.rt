@@ -1,5 +1,4 @@
-// The C interface: the calls of the crates below over numbers and slices, as include/yendrufal.h has them. A plate crosses as a flat
-// run of words. No call asks anything of its caller: a run that is too short for its fixed use is answered by 101.
+// The C interface, as include/yendrufal.h has it. No call asks anything of its caller: a run that is too short for its fixed use is answered by 101.
 ghost use Rattle.exports.specs.Judging.{CallsFirmness, firmnessCells};
 ghost use Rattle.exports.specs.Promises.{CallsBranch, CallsDecode, CallsEncode, CallsListing, CallsPrepare, CallsReadBack, CallsWriteEnd, CallsWritePlate, CallsWriteProfile, CallsWriteRefused, CallsWriteWord, decodeCells};
 ghost use Rattle.reports.specs.Remaining.{rooms};
@@ -251,20 +250,21 @@ pub extern "C" fn yendrufal_write_word(
     )
 }
 
-// The line `refused`.
+// The line `refused`, whose field is printed where the place of the number is a line and a field.
 #[no_mangle]
 pub extern "C" fn yendrufal_write_refused(
     number: u64,
     place: u64,
+    field: u64,
     line: &mut [u8],
     written: &mut [u64],
 ) -> u64
-    ensures { λ r. ⌜ CallsWriteRefused number place (now (line .entry)) (now (written .entry)) r (now (line .exit)) (now (written .exit)) ⌝ }
+    ensures { λ r. ⌜ CallsWriteRefused number place field (now (line .entry)) (now (written .entry)) r (now (line .exit)) (now (written .exit)) ⌝ }
 {
     if written.len() < 1 {
         return MISSHAPEN;
     }
-    cells::written_length(listings::write_refused(number, place, line), written)
+    cells::written_length(listings::write_refused(number, place, field, line), written)
 }
 
 // The line `end`.

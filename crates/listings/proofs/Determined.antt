@@ -62,8 +62,8 @@ module _ {room : List ℕ} {r s : Written} {a b : List ℕ} where
       → WritesWord plate word metric additions comparisons room r a → WritesWord plate word metric additions comparisons room s b → Same r s a b
   write-word-determined plate word metric additions comparisons = plate-determined
 
-  pub write-refused-determined : (number place : ℕ) → WritesRefused number place room r a → WritesRefused number place room s b → Same r s a b
-  write-refused-determined number place = line-determined
+  pub write-refused-determined : (number place field : ℕ) → WritesRefused number place field room r a → WritesRefused number place field room s b → Same r s a b
+  write-refused-determined number place field = line-determined
 
   pub write-end-determined : (blocks : ℕ) → WritesEnd blocks room r a → WritesEnd blocks room s b → Same r s a b
   write-end-determined blocks = line-determined

@@ -25,10 +25,20 @@ pub end-example : endLine 1 ≡ 101 ∷ 110 ∷ 100 ∷ 9 ∷ 49 ∷ 10 ∷ []
 unfolding endLine decimal
 end-example = refl
 
--- refused 10 1
-pub refused-example : refusedLine 10 1 ≡ 114 ∷ 101 ∷ 102 ∷ 117 ∷ 115 ∷ 101 ∷ 100 ∷ 9 ∷ 49 ∷ 48 ∷ 9 ∷ 49 ∷ 10 ∷ []
+-- refused 4 13
+pub refused-example : refusedLine 4 13 0 ≡ 114 ∷ 101 ∷ 102 ∷ 117 ∷ 115 ∷ 101 ∷ 100 ∷ 9 ∷ 52 ∷ 9 ∷ 49 ∷ 51 ∷ 10 ∷ []
 unfolding refusedLine decimal
 refused-example = refl
+
+-- refused 10 1 0
+pub missing-example : refusedLine 10 1 0 ≡ 114 ∷ 101 ∷ 102 ∷ 117 ∷ 115 ∷ 101 ∷ 100 ∷ 9 ∷ 49 ∷ 48 ∷ 9 ∷ 49 ∷ 9 ∷ 48 ∷ 10 ∷ []
+unfolding refusedLine decimal
+missing-example = refl
+
+-- refused 19 1 3
+pub field-example : refusedLine 19 1 3 ≡ 114 ∷ 101 ∷ 102 ∷ 117 ∷ 115 ∷ 101 ∷ 100 ∷ 9 ∷ 49 ∷ 57 ∷ 9 ∷ 49 ∷ 9 ∷ 51 ∷ 10 ∷ []
+unfolding refusedLine decimal
+field-example = refl
 
 -- 18446744073709551615
 pub greatest-number : decimal 18446744073709551615 ≡ 49 ∷ 56 ∷ 52 ∷ 52 ∷ 54 ∷ 55 ∷ 52 ∷ 52 ∷ 48 ∷ 55 ∷ 51 ∷ 55 ∷ 48 ∷ 57 ∷ 53 ∷ 53 ∷ 49 ∷ 54 ∷ 49 ∷ 53 ∷ []

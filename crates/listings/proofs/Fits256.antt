@@ -12,7 +12,7 @@ use Prim.Native.Nat.{_%_, _*_, _+_, _/_, _<_, suc, zero, ℕ, _≤_}
 use Rattle.listings.proofs.Backwards.{positions-length}
 use Rattle.listings.proofs.Digits.{decimal-high, decimal-low}
 use Rattle.listings.specs.Decimal.{decimal, digits, signed}
-use Rattle.listings.specs.Lines.{endLine, following, largest, leastLine, noLeastLine, plateLine, profileLine, refusedLine, weightLine, wordLine}
+use Rattle.listings.specs.Lines.{endLine, following, largest, leastLine, namesField, noLeastLine, plateLine, profileLine, refusedLine, weightLine, wordLine}
 use Rattle.words.proofs.Span.{lt-tri}
 
 -- ---- numbers
@@ -65,10 +65,16 @@ pub end-fits-256 : (blocks : ℕ) → length (endLine blocks) ≤ 256
 unfolding endLine
 end-fits-256 blocks = simp length-append (omega (arith, decimal-length blocks))
 
--- 7 + 21 + 21 + 1
-pub refused-fits-256 : (number place : ℕ) → length (refusedLine number place) ≤ 256
+-- a number that may be named, and the line feed
+last-length : (t : Bool) (value : ℕ) → length (following (cond t (decimal value ∷ []) [])) ≤ 22
+last-length true value = simp length-append (omega (arith, decimal-length value))
+last-length false value = omega arith
+
+-- 7 + 21 + 21 + 21 + 1
+pub refused-fits-256 : (number place field : ℕ) → length (refusedLine number place field) ≤ 256
 unfolding refusedLine
-refused-fits-256 number place = simp length-append (omega (arith, decimal-length number, decimal-length place))
+refused-fits-256 number place field =
+    simp length-append (omega (arith, decimal-length number, decimal-length place, last-length (namesField number) field))
 
 -- 5 + 21 + 21 + 21 + 1
 pub plate-fits-256 : (n k : ℕ) (entries : List ℕ) → length (plateLine n k entries) ≤ 256

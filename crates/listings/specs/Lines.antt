@@ -1,5 +1,7 @@
 -- The kinds of listing line, byte by byte.
+use lib.Dec.{eqb, leb}
 use lib.IntN.{ℤ}
+use mathlib.Core.Bool.{Bool, cond, _&&_, _||_}
 use mathlib.Core.List.{_++_, List, [], map, _∷_}
 use Prim.Native.Nat.{_+_, max, suc, zero, ℕ}
 use Rattle.listings.specs.Decimal.{decimal, signed}
@@ -61,9 +63,13 @@ unfoldable pub wordLine : ℕ → ℕ → ℤ → ℕ → ℕ → List ℕ
 wordLine n word metric additions comparisons =
     line wordName (positions word 0 n ∷ signed metric ∷ decimal additions ∷ decimal comparisons ∷ [])
 
--- refused: number and place
-unfoldable pub refusedLine : ℕ → ℕ → List ℕ
-refusedLine number place = line refusedName (decimal number ∷ decimal place ∷ [])
+-- whether the place of a refusal is a line and a field: 10, and 17 to 20
+abbrev pub namesField : ℕ → Bool
+namesField number = eqb number 10 || (leb 17 number && leb number 20)
+
+-- refused: number and place, which for those is line and field
+unfoldable pub refusedLine : ℕ → ℕ → ℕ → List ℕ
+refusedLine number place field = line refusedName (decimal number ∷ decimal place ∷ cond (namesField number) (decimal field ∷ []) [])
 
 -- end: the number of block lines
 unfoldable pub endLine : ℕ → List ℕ

@@ -53,9 +53,9 @@ WritesProfile plate = WritesOf plate (profileLine (entriesOf plate))
 abbrev pub WritesWord : Plate → ℕ → ℤ → ℕ → ℕ → List ℕ → Written → List ℕ → Type 0
 WritesWord plate word metric additions comparisons = WritesOf plate (wordLine (plate .n) word metric additions comparisons)
 
--- refused: a number and a place
-abbrev pub WritesRefused : ℕ → ℕ → List ℕ → Written → List ℕ → Type 0
-WritesRefused number place = WritesLine (refusedLine number place)
+-- refused: a number and a place, with a field where the number names one
+abbrev pub WritesRefused : ℕ → ℕ → ℕ → List ℕ → Written → List ℕ → Type 0
+WritesRefused number place field = WritesLine (refusedLine number place field)
 
 -- end: the number of block lines
 abbrev pub WritesEnd : ℕ → List ℕ → Written → List ℕ → Type 0

@@ -140,14 +140,15 @@ pub fn write_word(
     Written::Refused(Refusal::NotPrepared)
 }
 
-// The line `refused`: a number and a place.
-pub fn write_refused(number: u64, place: u64, room: &mut [u8]) -> Written
-    ensures { λ r. ⌜ WritesRefused number place (now (room .entry)) r (now (room .exit)) ⌝ }
+// The line `refused`: a number and a place, and the field where the place of this number is a line and a field.
+pub fn write_refused(number: u64, place: u64, field: u64, room: &mut [u8]) -> Written
+    ensures { λ r. ⌜ WritesRefused number place field (now (room .entry)) r (now (room .exit)) ⌝ }
 {
     let mut line = [0; 256];
-    let feed = pieces::line_feed(&mut line);
-    let last = pieces::prepend_field(&mut line, feed, place);
-    let first = pieces::prepend_field(&mut line, last, number);
+    let named = pieces::names_field(number);
+    let last = pieces::last_field(&mut line, named, field);
+    let after = pieces::prepend_field(&mut line, last, place);
+    let first = pieces::prepend_field(&mut line, after, number);
     let at = pieces::prepend_name(&mut line, first, b"refused");
     write_line(&line, at, room)
 }

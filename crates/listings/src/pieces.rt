@@ -1,13 +1,14 @@
 // The pieces of a line, each put before a place of the array: from the last byte to the first, since a number's digits come that way.
 // Where a piece does not fit before its place nothing is promised.
 ghost use mathlib.Core.Path.{_≡_};
+ghost use mathlib.Core.Bool.{cond};
 ghost use mathlib.Core.List.{_∷_, [], map};
 ghost use Prim.Native.Nat.{_+_, max};
 ghost use lib.IntN.{natAbs};
 ghost use Rattle.words.specs.Word.{bit};
 ghost use Rattle.listings.specs.Building.{Prepends};
 ghost use Rattle.listings.specs.Decimal.{decimal, signed};
-ghost use Rattle.listings.specs.Lines.{largest, following, positions};
+ghost use Rattle.listings.specs.Lines.{largest, following, namesField, positions};
 
 // The array that a line is built in.
 pub type Line = [u8; 256];
@@ -52,6 +53,24 @@ pub fn prepend_field(line: &mut Line, end: usize, value: u64) -> usize
 {
     let at = prepend_number(line, end, value);
     prepend_byte(line, at, 9)
+}
+
+// Whether the place of a refusal is a line and a field.
+pub fn names_field(number: u64) -> bool
+    ensures { λ r. ⌜ r ≡ namesField number ⌝ }
+{
+    number == 10 || (17 <= number && number <= 20)
+}
+
+// The line feed at the end of the array and, where it is named, a tab and a number before it.
+pub fn last_field(line: &mut Line, named: bool, value: u64) -> usize
+    ensures { λ r. ⌜ Prepends (now (line .entry)) 256 (following (cond named (decimal value ∷ []) [])) (now (line .exit)) r ⌝ }
+{
+    let feed = line_feed(line);
+    if named {
+        return prepend_field(line, feed, value);
+    }
+    feed
 }
 
 // The letters of a name before a place.

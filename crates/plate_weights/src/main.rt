@@ -27,7 +27,8 @@ fn print_made(written: Written, room: &[u8]) -> bool {
 fn print_refused(refusal: Refusal, room: &mut [u8]) -> bool {
     let number = plates::refusal_number(refusal);
     let place = plates::refusal_place(refusal) as u64;
-    let written = listings::write_refused(number, place, &mut *room);
+    let field = plates::refusal_field(refusal) as u64;
+    let written = listings::write_refused(number, place, field, &mut *room);
     print_made(written, room)
 }
 

@@ -16,10 +16,10 @@ use Rattle.plates.specs.declared.Kind.{Kind}
 use Rattle.plates.specs.declared.Plate.{Plate}
 use Rattle.plates.specs.declared.Prepared.{Prepared}
 use Rattle.plates.specs.declared.Refusal.{Refusal}
-use Rattle.plates.specs.declared.Refusal.the-variants.{RowBeyond}
+use Rattle.plates.specs.declared.Refusal.the-variants.{RowBeyond, TooWide}
 use Rattle.plates.specs.declared.Verdict.{Verdict}
 use Rattle.plates.specs.declared.Verdict.the-variants.{Accepted, Refused}
-use Rattle.plates.specs.Prepare.{PlateOf, Prepares, PreparesAs, RowOver, Tests, prepareConditions, rowsOf}
+use Rattle.plates.specs.Prepare.{PlateOf, Prepares, PreparesAs, RowOver, Tests, Wide, prepareConditions, rowsOf}
 use Rattle.plates.specs.Profile.{liveAt}
 use Rattle.words.proofs.Span.{lt-tri}
 
@@ -58,9 +58,25 @@ row-over-once n rows p q x y = x .is ∙ ap RowBeyond (go (lt-tri (x .row) (y .r
     go (inr (inl e)) = e
     go (inr (inr h)) = absurd (omega (arith, x .first (y .row) h, y .over))
 
+-- a code has one plate, and the first depth at which that is too wide is one
+wide-once : (C : ℕ → Type 0) (n : ℕ) (p q : Refusal) → Wide C n p → Wide C n q → p ≡ q
+wide-once C n p q x y = x .is ∙ ap TooWide (go (lt-tri (x .depth) (y .depth))) ∙ sym (y .is)
+  where
+    same : x .rows ≡ y .rows
+    same = one-plate C (x .rows) (y .rows) _ _ _ _ (x .plate) (y .plate)
+
+    live : (t : ℕ) → liveAt (x .rows) t ≡ liveAt (y .rows) t
+    live t = ap (λ (l : List ℕ). liveAt l t) same
+
+    go : (x .depth < y .depth) ⊎ ((x .depth ≡ y .depth) ⊎ (y .depth < x .depth)) → x .depth ≡ y .depth
+    go (inl h) = absurd (omega (arith, y .first (x .depth) h, x .over, live (x .depth)))
+    go (inr (inl e)) = e
+    go (inr (inr h)) = absurd (omega (arith, x .first (y .depth) h, y .over, live (y .depth)))
+
+-- each condition gives one refusal
 prepare-single : (n : ℕ) (kind : Kind) (rows : List ℕ) → Single (prepareConditions n kind rows)
 prepare-single n kind rows =
-    ((λ p q x y. x .1 ∙ sym (y .1)), ((λ p q x y. x .1 ∙ sym (y .1)), (row-over-once n rows, ((λ p q x y. x .is ∙ sym (y .is)), tt))))
+    ((λ p q x y. x .1 ∙ sym (y .1)), ((λ p q x y. x .1 ∙ sym (y .1)), (row-over-once n rows, (wide-once (InCode kind n rows) n, tt))))
 
 module _ (n : ℕ) (kind : Kind) (rows : List ℕ) where
   same-reply : (a b : Plate) (v w : Verdict)

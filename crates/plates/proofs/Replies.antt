@@ -142,7 +142,7 @@ good-rows small c o = omega (arith, o .over, small (o .row) (o .there))
 
 module _ {n d : ℕ} {kind : Kind} {rows : List ℕ} {plate : Plate} (some : 0 < n) (short : n ≤ 64) (few : length rows ≤ 64)
     (small : (j : ℕ) → j < length rows → getD rows j 0 < 2 ^ n) (p : PlateOf (InCode kind n rows) n plate) (w : FirstWhere (plate .profile) OverTwelve 0 (n + 1) d) where
-  pub refuse-wide : {r : Prepared} → d ≤ n → r ≡ refusedWith TooWide → Prepares n kind rows r
+  pub refuse-wide : {r : Prepared} → d ≤ n → r ≡ refusedWith (TooWide d) → Prepares n kind rows r
   refuse-wide h =
       refuse (inr (
         good-length some short,
@@ -156,11 +156,16 @@ module _ {n d : ℕ} {kind : Kind} {rows : List ℕ} {plate : Plate} (some : 0 <
               depth = d;
               within = h;
               over = subst (λ (x : ℕ). 12 < x) (p .profile d h) (w .here (omega arith));
+              first = λ t l. subst (λ (x : ℕ). x ≤ 12) (p .profile t (omega arith)) (entry t (decLt 12 (getD (plate .profile) t 0)) (w .none t zero-le l));
               is = refl;
             }),
           ),
         ),
       ))
+    where
+      entry : (t : ℕ) → Dec (12 < getD (plate .profile) t 0) → (12 < getD (plate .profile) t 0 → ⊥) → getD (plate .profile) t 0 ≤ 12
+      entry t (yes o) f = absurd (f o)
+      entry t (no o) f = omega arith
 
   pub accept : n < d → Prepares n kind rows (record { verdict = Accepted; plate = plate })
   accept h = record { reply = ((good-length some short, ((λ c o. omega (arith, o .0)), (good-rows small, (narrow, tt)))), p) }

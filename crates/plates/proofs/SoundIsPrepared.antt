@@ -42,6 +42,23 @@ rows-below n rows h (suc m) b j k = go (rows-below n rows h m (omega arith)) (lt
     go before (inr (inl e)) = subst (λ (x : ℕ). getD rows x 0 < 2 ^ n) (sym e) (row-below n rows h m b before)
     go before (inr (inr a)) = absurd (omega arith)
 
+-- where a code's plate is not too wide, none of its profile exceeds 12
+depths-narrow : (C : ℕ → Type 0) (n : ℕ) (rows : List ℕ) → RowsOf C rows (firsts rows) (lasts rows) → ((q : Refusal) → Wide C n q → ⊥) → (m : ℕ) → (t : ℕ) → t < m → t ≤ n → liveAt rows t ≤ 12
+depths-narrow C n rows p h zero t l b = absurd (omega arith)
+depths-narrow C n rows p h (suc m) t l b = here (decLt 12 (liveAt rows t)) (depths-narrow C n rows p h m)
+  where
+    here : Dec (12 < liveAt rows t) → ((i : ℕ) → i < m → i ≤ n → liveAt rows i ≤ 12) → liveAt rows t ≤ 12
+    here (no o) before = omega arith
+    here (yes o) before = absurd (h (TooWide t) (record {
+      rows = rows;
+      plate = p;
+      depth = t;
+      within = b;
+      over = o;
+      first = λ i k. before i (omega arith) (omega arith);
+      is = refl;
+    }))
+
 -- the rows in use are the first k of the table
 pub used-rows : (plate : Plate) → plate .k ≤ 64 → length (plate .rows) ≡ 64 → length (rowsOf plate) ≡ plate .k
 used-rows plate h e = length-take-le (plate .k) (plate .rows) (omega arith)
@@ -61,7 +78,7 @@ sound {plate} p = record {
   entries = answer .entries;
   profile = answer .profile;
   unused-entries = answer .unused-entries;
-  narrow = λ t h. narrow t h (decLt 12 (liveAt (rowsOf plate) t));
+  narrow = λ t h. depths-narrow (IsSum (rowsOf plate)) (plate .n) (rowsOf plate) (answer .rows) (pass .1 .1 .1 .0) (suc t) t (omega arith) h;
 }
   where
     pass : Passes (prepareConditions (plate .n) G (rowsOf plate))
@@ -80,10 +97,6 @@ sound {plate} p = record {
     not-over : Dec (64 < plate .n) → plate .n ≤ 64
     not-over (yes h) = absurd (pass .0 Length (inr h, refl))
     not-over (no h) = omega arith
-
-    narrow : (t : ℕ) → t ≤ plate .n → Dec (12 < liveAt (rowsOf plate) t) → liveAt (rowsOf plate) t ≤ 12
-    narrow t h (yes o) = absurd (pass .1 .1 .1 .0 TooWide (record { rows = rowsOf plate; plate = answer .rows; depth = t; within = h; over = o; is = refl }))
-    narrow t h (no o) = omega arith
 
 pub prepared : {plate : Plate} → Sound plate → IsPrepared plate
 prepared {plate} s = record { few = s .few; same = record { reply = (pass, answer) } }

@@ -37,14 +37,15 @@ pub record RowOver (n : ℕ) (rows : List ℕ) (q : Refusal) : Type 0 where
   pub first : (j : ℕ) → j < row → getD rows j 0 < 2 ^ n
   pub is : q ≡ RowBeyond row
 
--- 4: some s(t) of the code's plate exceeds 12
+-- 4: some s(t) of the code's plate exceeds 12; the place is the first such depth
 pub record Wide (C : ℕ → Type 0) (n : ℕ) (q : Refusal) : Type 0 where
   pub rows : List ℕ
   pub plate : RowsOf C rows (firsts rows) (lasts rows)
   pub depth : ℕ
   pub within : depth ≤ n
   pub over : 12 < liveAt rows depth
-  pub is : q ≡ TooWide
+  pub first : (t : ℕ) → t < depth → liveAt rows t ≤ 12
+  pub is : q ≡ TooWide depth
 
 abbrev pub prepareConditions : ℕ → Kind → List ℕ → List (Refusal → Type 0)
 prepareConditions n kind rows = badLength n ∷ tooManyRows rows ∷ RowOver n rows ∷ Wide (InCode kind n rows) n ∷ []

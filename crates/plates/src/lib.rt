@@ -4,7 +4,7 @@ ghost use Prim.Native.Nat.{ℕ, _^_, _<_, _≤_};
 ghost use lib.ListN.{getD, length};
 ghost use Rattle.plates.specs.Code.{InCode};
 ghost use Rattle.plates.specs.Prepare.{PlateOf, Prepares, Tests};
-ghost use Rattle.plates.specs.Refusals.{number, place};
+ghost use Rattle.plates.specs.Refusals.{field, number, place};
 ghost use Rattle.plates.specs.Replying.{refusedWith};
 
 mod matrix;
@@ -27,12 +27,12 @@ pub struct Plate {
     pub profile: [u8; 65],
 }
 
-// Why a call is refused, with the place where the paper names one.
+// Why a call is refused, with the place where the paper names one. The place of a sheet's bad line is the line, or line and field.
 pub enum Refusal {
     Length,
     TooManyRows,
     RowBeyond(usize),
-    TooWide,
+    TooWide(usize),
     NotPrepared,
     SampleCount,
     SampleRange(usize),
@@ -49,6 +49,10 @@ pub enum Refusal {
     NotANumber(usize),
     WholeSpace,
     AlistFault(usize),
+    FirstField(usize),
+    FieldCount(usize, usize),
+    FieldValue(usize, usize),
+    RowField(usize, usize),
 }
 
 // What preparing says of a matrix.
@@ -71,7 +75,7 @@ pub fn refusal_number(refusal: Refusal) -> u64
         Refusal::Length => 1,
         Refusal::TooManyRows => 2,
         Refusal::RowBeyond(_) => 3,
-        Refusal::TooWide => 4,
+        Refusal::TooWide(_) => 4,
         Refusal::NotPrepared => 5,
         Refusal::SampleCount => 6,
         Refusal::SampleRange(_) => 7,
@@ -88,22 +92,30 @@ pub fn refusal_number(refusal: Refusal) -> u64
         Refusal::NotANumber(_) => 25,
         Refusal::WholeSpace => 22,
         Refusal::AlistFault(_) => 16,
+        Refusal::FirstField(_) => 17,
+        Refusal::FieldCount(_, _) => 18,
+        Refusal::FieldValue(_, _) => 19,
+        Refusal::RowField(_, _) => 20,
     }
 }
 
-// The place of a refusal: a row, a position or a line where the paper names one, and 0 elsewhere.
+// The place of a refusal: a row, a depth, a position or a line where the paper names one, and 0 elsewhere.
 pub fn refusal_place(refusal: Refusal) -> usize
     ensures { λ r. ⌜ r ≡ place refusal ⌝ }
 {
     match refusal {
         Refusal::RowBeyond(row) => row,
+        Refusal::TooWide(depth) => depth,
         Refusal::SampleRange(position) => position,
         Refusal::SheetLine(line) => line,
         Refusal::AlistFault(line) => line,
         Refusal::NotANumber(position) => position,
+        Refusal::FirstField(line) => line,
+        Refusal::FieldCount(line, _) => line,
+        Refusal::FieldValue(line, _) => line,
+        Refusal::RowField(line, _) => line,
         Refusal::Length => 0,
         Refusal::TooManyRows => 0,
-        Refusal::TooWide => 0,
         Refusal::NotPrepared => 0,
         Refusal::SampleCount => 0,
         Refusal::MetricRoom => 0,
@@ -116,6 +128,38 @@ pub fn refusal_place(refusal: Refusal) -> usize
         Refusal::PositionBeyond => 0,
         Refusal::BadSetting => 0,
         Refusal::WholeSpace => 0,
+    }
+}
+
+// The field of a sheet's bad line, from 1, and 0 where there is none.
+pub fn refusal_field(refusal: Refusal) -> usize
+    ensures { λ r. ⌜ r ≡ field refusal ⌝ }
+{
+    match refusal {
+        Refusal::FieldCount(_, field) => field,
+        Refusal::FieldValue(_, field) => field,
+        Refusal::RowField(_, field) => field,
+        Refusal::FirstField(_) => 1,
+        Refusal::Length => 0,
+        Refusal::TooManyRows => 0,
+        Refusal::RowBeyond(_) => 0,
+        Refusal::TooWide(_) => 0,
+        Refusal::NotPrepared => 0,
+        Refusal::SampleCount => 0,
+        Refusal::SampleRange(_) => 0,
+        Refusal::MetricRoom => 0,
+        Refusal::DecisionRoom => 0,
+        Refusal::SheetLine(_) => 0,
+        Refusal::LineRoom => 0,
+        Refusal::NoSuchBranch => 0,
+        Refusal::Information => 0,
+        Refusal::NoCodeword => 0,
+        Refusal::InputTooLong => 0,
+        Refusal::PositionBeyond => 0,
+        Refusal::BadSetting => 0,
+        Refusal::NotANumber(_) => 0,
+        Refusal::WholeSpace => 0,
+        Refusal::AlistFault(_) => 0,
     }
 }
 
@@ -174,8 +218,9 @@ pub fn prepare(n: usize, kind: Kind, rows: &[u64]) -> Prepared
         return refused(Refusal::RowBeyond(beyond));
     }
     let plate = plate_of_matrix(n, kind, rows);
-    if profile::first_wide(&plate.profile, n) <= n {
-        return refused(Refusal::TooWide);
+    let wide = profile::first_wide(&plate.profile, n);
+    if wide <= n {
+        return refused(Refusal::TooWide(wide));
     }
     Prepared {
         verdict: Verdict::Accepted,

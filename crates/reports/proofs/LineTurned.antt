@@ -7,7 +7,7 @@ use mathlib.Core.Path.{_≡_, ap, ap₂, refl, subst, sym, _∙_}
 use native.Mathlib.Omega.{arith}
 use Rattle.plates.specs.declared.Plate.{Plate}
 use Rattle.plates.specs.Prepare.{IsPrepared}
-use Rattle.plates.specs.Refusals.{number, place}
+use Rattle.plates.specs.Refusals.{field, number, place}
 use Rattle.listings.proofs.Fits256.{end-fits-256, plate-fits-256, refused-fits-256}
 use Rattle.listings.proofs.OfPlate.{entries-fit}
 use Rattle.listings.specs.Lines.{endLine}
@@ -70,8 +70,8 @@ module _ (input : List ℕ) (plate : Plate) (order : Order) (at blocks : ℕ) (l
   turned : (stage : Stage) → ReadyAt stage plate → StepsAt stage input (In stage) lent step left → Turns-at stage
   turned (S.Refused q) ready x =
       gives (lineOfRefusal q) (toNothing (In (S.Refused q)))
-      (line-given _ (lineOfRefusal q) (lent .room) (left .room) _ _ step (refused-fits-256 (number q) (place q))
-      (fits (lineOfRefusal q) (lent .room) (refused-fits-256 (number q) (place q)) (enough .room)) (x .line))
+      (line-given _ (lineOfRefusal q) (lent .room) (left .room) _ _ step (refused-fits-256 (number q) (place q) (field q))
+      (fits (lineOfRefusal q) (lent .room) (refused-fits-256 (number q) (place q) (field q)) (enough .room)) (x .line))
       tt (λ lines l. ap (λ (ls : List (List ℕ)). lineOfRefusal q ∷ ls) l) refl (λ w l. l ∙ kept (x .working))
   turned S.PlateLine ready x =
       gives (lineOfPlate plate) (toProfile (In S.PlateLine))

@@ -13,7 +13,7 @@ use Rattle.plates.specs.declared.Plate.{Plate}
 use Rattle.plates.specs.declared.Refusal.{Refusal}
 use Rattle.plates.specs.Prepare.{IsPrepared, notPrepared}
 use Rattle.plates.proofs.SoundIsPrepared.{sound}
-use Rattle.plates.specs.Refusals.{Passes, Refuses, number, place}
+use Rattle.plates.specs.Refusals.{Passes, Refuses, field, number, place}
 use Rattle.decoding.proofs.PlateSizes.{decision-need-small, plate-sizes-fit}
 use Rattle.decoding.specs.declared.Decoded.{Decoded}
 use Rattle.decoding.specs.declared.Decoded.the-variants as D
@@ -85,8 +85,8 @@ module _ (samples : List ℤ) (before after : Report) (step : Step) (lent left :
   printed q e r same x = record {
     line = lineOfRefusal q;
     is = refusedBlock q r refl;
-    given = line-given _ (lineOfRefusal q) (lent .room) (left .room) before after step (refused-fits-256 (number q) (place q))
-        (fits (lineOfRefusal q) (lent .room) (refused-fits-256 (number q) (place q)) (enough-room .room))
+    given = line-given _ (lineOfRefusal q) (lent .room) (left .room) before after step (refused-fits-256 (number q) (place q) (field q))
+        (fits (lineOfRefusal q) (lent .room) (refused-fits-256 (number q) (place q) (field q)) (enough-room .room))
         (subst (λ (b : Bool). RefusedStep b q before after (lent .room) step (left .room)) e x);
     leaves = untouched q r same;
   }

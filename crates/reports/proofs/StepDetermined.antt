@@ -8,7 +8,7 @@ use native.Mathlib.Omega.{arith}
 use Rattle.plates.proofs.PrepareDetermined.{prepare-determined}
 use Rattle.plates.specs.declared.Prepared.{Prepared}
 use Rattle.plates.specs.declared.Refusal.{Refusal}
-use Rattle.plates.specs.Refusals.{number, place}
+use Rattle.plates.specs.Refusals.{field, number, place}
 use Rattle.decoding.proofs.DecodeDetermined.{decode-determined}
 use Rattle.decoding.specs.declared.Decoded.{Decoded}
 use Rattle.decoding.specs.declared.Decoded.the-variants as D
@@ -53,7 +53,7 @@ module _ (before after : Report) (s t : Step) where
       (x .is ∙ ap (λ (w : Written). stepBy w before after) (e .0) ∙ sym (y .is), e .1)
 
   refused-same : (r : Bool) (q : Refusal) (room a b : List ℕ) → RefusedStep r q before after room s a → RefusedStep r q before after room t b → (s ≡ t) × (a ≡ b)
-  refused-same true q room a b x y = written-same _ (λ w v c d. write-refused-determined (number q) (place q)) a b x y
+  refused-same true q room a b x y = written-same _ (λ w v c d. write-refused-determined (number q) (place q) (field q)) a b x y
   refused-same false q room a b x y = (x .0 ∙ sym (y .0), x .1 ∙ sym (y .1))
 
   decoded-same : (d : Decoded) (room a b : List ℕ) → DecodedStep d before after room s a → DecodedStep d before after room t b → (s ≡ t) × (a ≡ b)
@@ -92,7 +92,7 @@ module _ (report : Report) (s t : Step) (lent a b : Lent) where
   blocks-same noBlock next x y = line-same report _ s t lent a b _ (λ w v c d. write-end-determined (report .blocks)) x y
 
   stage-same : (input : List ℕ) (stage : Stage) → StepsAt stage input report lent s a → StepsAt stage input report lent t b → (s ≡ t) × (a ≡ b)
-  stage-same input (S.Refused q) x y = line-same report _ s t lent a b _ (λ w v c d. write-refused-determined (number q) (place q)) x y
+  stage-same input (S.Refused q) x y = line-same report _ s t lent a b _ (λ w v c d. write-refused-determined (number q) (place q) (field q)) x y
   stage-same input S.PlateLine x y = line-same report _ s t lent a b _ (λ w v c d. write-plate-determined (report .plate)) x y
   stage-same input S.ProfileLine x y = line-same report _ s t lent a b _ (λ w v c d. write-profile-determined (report .plate)) x y
   stage-same input S.BlockLines x y = blocks-same (blockAt input (report .at)) (nextLine input (report .at)) x y

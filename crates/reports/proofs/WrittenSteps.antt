@@ -4,7 +4,7 @@ use mathlib.Core.Bool.{Bool, true, false}
 use mathlib.Core.List.{List}
 use mathlib.Core.Path.{_≡_, refl, subst, sym}
 use Rattle.plates.specs.declared.Refusal.{Refusal}
-use Rattle.plates.specs.Refusals.{number, place}
+use Rattle.plates.specs.Refusals.{field, number, place}
 use Rattle.decoding.specs.declared.Answer.{Answer}
 use Rattle.reports.specs.Printed.{printedAs}
 use Rattle.reports.specs.Report.{lineOfAnswer}
@@ -26,9 +26,10 @@ module _ {Promise : Written → List ℕ → Type 0} {before after after′ : Re
   writes-step written e p s = after-is e (record { written = written; writes = p; is = s })
 
 -- the line of a refusal
-pub refusal-written : {before after : Report} {step : Step} {room room′ : List ℕ} (written : Written) (q : Refusal) {n p : ℕ} → n ≡ number q → p ≡ place q
-    → WritesRefused n p room written room′ → step ≡ stepBy written before after → WritesStep (WritesRefused (number q) (place q) room) before after step room′
-refusal-written written q e f w s = writes-step written refl (rw (← e, ← f) w) s
+pub refusal-written : {before after : Report} {step : Step} {room room′ : List ℕ} (written : Written) (q : Refusal) {n p f : ℕ} → n ≡ number q → p ≡ place q → f ≡ field q
+    → WritesRefused n p f room written room′ → step ≡ stepBy written before after
+    → WritesStep (WritesRefused (number q) (place q) (field q) room) before after step room′
+refusal-written written q a b c w s = writes-step written refl (rw (← a, ← b, ← c) w) s
 
 -- the line of an answer, whose metric is passed on
 pub answer-written : {before after : Report} {step : Step} {room room′ : List ℕ} (written : Written) (a : Answer) {word : ℕ} {metric : ℤ}
@@ -40,7 +41,7 @@ answer-written {before = before} {room = room} {room′ = room′} written a p e
 
 module _ (q : Refusal) (before after : Report) {room room′ : List ℕ} {step : Step} {r : Bool} (e : r ≡ ofBlock q) where
   -- a refusal that is printed
-  pub printed : r ≡ true → WritesStep (WritesRefused (number q) (place q) room) before after step room′ → RefusedStep (ofBlock q) q before after room step room′
+  pub printed : r ≡ true → WritesStep (WritesRefused (number q) (place q) (field q) room) before after step room′ → RefusedStep (ofBlock q) q before after room step room′
   printed t w = rw (← e, t) w
 
   -- one that is not

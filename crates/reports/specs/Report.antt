@@ -10,7 +10,7 @@ use Rattle.plates.specs.declared.Refusal.{Refusal}
 use Rattle.plates.specs.declared.Verdict.{Verdict}
 use Rattle.plates.specs.declared.Verdict.the-variants as J
 use Rattle.plates.specs.Prepare.{Prepares}
-use Rattle.plates.specs.Refusals.{number, place, Passes, Refuses}
+use Rattle.plates.specs.Refusals.{field, number, place, Passes, Refuses}
 use Rattle.decoding.specs.declared.Answer.{Answer}
 use Rattle.decoding.specs.Decode.{Best, SampleOver, sampleCount}
 use Rattle.listings.specs.Lines.{plateLine, profileLine, wordLine, refusedLine, endLine}
@@ -21,9 +21,9 @@ use Rattle.reports.specs.Printed.{printedAs}
 
 -- ---- the kinds of line
 
--- a refusal: its number and its place
+-- a refusal: its number and its place, which for a sheet's bad line is line and field
 abbrev pub lineOfRefusal : Refusal → List ℕ
-lineOfRefusal q = refusedLine (number q) (place q)
+lineOfRefusal q = refusedLine (number q) (place q) (field q)
 
 -- a plate: n, k, m
 abbrev pub lineOfPlate : Plate → List ℕ

@@ -10,11 +10,11 @@ use Rattle.plates.specs.declared.Kind.{Kind}
 use Rattle.plates.specs.declared.Plate.{Plate}
 use Rattle.plates.specs.declared.Prepared.{Prepared}
 use Rattle.plates.specs.declared.Refusal.{Refusal}
-use Rattle.plates.specs.declared.Refusal.the-variants.{Length, TooManyRows, RowBeyond, TooWide, NotPrepared, SampleCount, SampleRange, MetricRoom, DecisionRoom, SheetLine, LineRoom, NoSuchBranch, Information, NoCodeword, InputTooLong, PositionBeyond, BadSetting, NotANumber, WholeSpace, AlistFault}
+use Rattle.plates.specs.declared.Refusal.the-variants.{Length, TooManyRows, RowBeyond, TooWide, NotPrepared, SampleCount, SampleRange, MetricRoom, DecisionRoom, SheetLine, LineRoom, NoSuchBranch, Information, NoCodeword, InputTooLong, PositionBeyond, BadSetting, NotANumber, WholeSpace, AlistFault, FirstField, FieldCount, FieldValue, RowField}
 use Rattle.plates.specs.declared.Verdict.{Verdict}
 use Rattle.plates.specs.declared.Verdict.the-variants as J
 use Rattle.plates.specs.Prepare.{Prepares, zeroPlate}
-use Rattle.plates.specs.Refusals.{number, place}
+use Rattle.plates.specs.Refusals.{field, number, place}
 use Rattle.decoding.specs.declared.Decoded.{Decoded}
 use Rattle.decoding.specs.declared.Decoded.the-variants as D
 use Rattle.decoding.specs.Decode.{Decodes}
@@ -107,7 +107,7 @@ ofBlock (SampleRange position) = true
 ofBlock Length = false
 ofBlock TooManyRows = false
 ofBlock (RowBeyond row) = false
-ofBlock TooWide = false
+ofBlock (TooWide depth) = false
 ofBlock NotPrepared = false
 ofBlock MetricRoom = false
 ofBlock DecisionRoom = false
@@ -122,10 +122,14 @@ ofBlock BadSetting = false
 ofBlock (NotANumber position) = false
 ofBlock WholeSpace = false
 ofBlock (AlistFault line) = false
+ofBlock (FirstField line) = false
+ofBlock (FieldCount line at) = false
+ofBlock (FieldValue line at) = false
+ofBlock (RowField line at) = false
 
 -- a block whose decoding is refused: 6 and 7 are printed, others refuse the call
 abbrev pub RefusedStep : Bool → Refusal → Report → Report → List ℕ → Step → List ℕ → Type 0
-RefusedStep true q before after room step room′ = WritesStep (WritesRefused (number q) (place q) room) before after step room′
+RefusedStep true q before after room step room′ = WritesStep (WritesRefused (number q) (place q) (field q) room) before after step room′
 RefusedStep false q before after room step room′ = (step ≡ refusedStep q before) × (room′ ≡ room)
 
 -- an answer is of a plate whose words have at most 64 positions
@@ -182,7 +186,7 @@ BlocksStep noBlock next report lent step left = LineStep (WritesEnd (report .blo
 -- the step at each stage of a report
 abbrev pub StepsAt : Stage → List ℕ → Report → Lent → Step → Lent → Type 0
 StepsAt (S.Refused q) input report lent step left =
-    LineStep (WritesRefused (number q) (place q) (lent .room)) report (toNothing report) lent step left
+    LineStep (WritesRefused (number q) (place q) (field q) (lent .room)) report (toNothing report) lent step left
 StepsAt S.PlateLine input report lent step left =
     LineStep (WritesPlate (report .plate) (lent .room)) report (toProfile report) lent step left
 StepsAt S.ProfileLine input report lent step left =

@@ -2,7 +2,7 @@
 ghost use mathlib.Core.Path.{_≡_};
 ghost use Prim.Native.Nat.{_≤_};
 ghost use lib.ListN.{length, take};
-ghost use Rattle.plates.specs.Refusals.{number, place};
+ghost use Rattle.plates.specs.Refusals.{field, number, place};
 ghost use Rattle.listings.specs.Writing.{WritesEnd, WritesOf, WritesPlate, WritesProfile, WritesRefused};
 ghost use Rattle.reports.specs.Report.{lineOfAnswer};
 ghost use Rattle.reports.specs.Steps.{BlocksStep, DecodedStep, Printable, RefusedStep, RoomStep, WritesStep, decodable, lends, ofBlock, refusedStep, stepBy, to, toBlocks, toNothing, toProfile};
@@ -65,16 +65,21 @@ fn refused_step(refusal: Refusal, report: Report) -> Step
 
 // The line of a refusal, with the report after it.
 fn refused_line(before: Report, after: Report, refusal: Refusal, room: &mut [u8]) -> Step
-    ensures { λ r. ⌜ WritesStep (WritesRefused (number refusal) (place refusal) (now (room .entry))) before after r (now (room .exit)) ⌝ }
+    ensures { λ r. ⌜ WritesStep (WritesRefused (number refusal) (place refusal) (field refusal) (now (room .entry))) before after r (now (room .exit)) ⌝ }
 {
     let number = plates::refusal_number(refusal);
     let place = plates::refusal_place(refusal) as u64;
-    step_by(listings::write_refused(number, place, room), before, after)
+    let field = plates::refusal_field(refusal) as u64;
+    step_by(
+        listings::write_refused(number, place, field, room),
+        before,
+        after,
+    )
 }
 
 // The refusal of the input.
 pub fn refusal_line(report: Report, refusal: Refusal, room: &mut [u8]) -> Step
-    ensures { λ r. ⌜ WritesStep (WritesRefused (number refusal) (place refusal) (now (room .entry))) report (toNothing report) r (now (room .exit)) ⌝ }
+    ensures { λ r. ⌜ WritesStep (WritesRefused (number refusal) (place refusal) (field refusal) (now (room .entry))) report (toNothing report) r (now (room .exit)) ⌝ }
 {
     let after = at_stage(report, Stage::Done, report.at);
     refused_line(report, after, refusal, room)
@@ -145,7 +150,7 @@ fn is_of_block(refusal: Refusal) -> bool
         Refusal::Length => false,
         Refusal::TooManyRows => false,
         Refusal::RowBeyond(_) => false,
-        Refusal::TooWide => false,
+        Refusal::TooWide(_) => false,
         Refusal::NotPrepared => false,
         Refusal::MetricRoom => false,
         Refusal::DecisionRoom => false,
@@ -160,6 +165,10 @@ fn is_of_block(refusal: Refusal) -> bool
         Refusal::NotANumber(_) => false,
         Refusal::WholeSpace => false,
         Refusal::AlistFault(_) => false,
+        Refusal::FirstField(_) => false,
+        Refusal::FieldCount(_, _) => false,
+        Refusal::FieldValue(_, _) => false,
+        Refusal::RowField(_, _) => false,
     }
 }
 

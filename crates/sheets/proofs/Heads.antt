@@ -11,7 +11,7 @@ use Rattle.plates.specs.declared.Verdict.{Verdict}
 use Rattle.plates.specs.declared.Verdict.the-variants as J
 use Rattle.sheets.specs.Text.{lineFeed, fields, lines}
 use Rattle.sheets.specs.Covers.{coverOf}
-use Rattle.sheets.specs.Sheet.{coverFront, coverIn, coverBad, lengthBad, firstRefusal}
+use Rattle.sheets.specs.Sheet.{coverFront, coverIn, coverBad, lengthBad, firstRefusal, refusalOf}
 use Rattle.sheets.specs.Readers.{HeadIs, HeadRead, Until}
 use Rattle.sheets.specs.declared.line.Fault.{Fault}
 use Rattle.sheets.specs.declared.cover.Cover.{Cover}
@@ -45,8 +45,8 @@ module _ (s : List ℕ) where
       is-line = ap coverFront (parts-front lineFeed s r u) ∙ rw (after-some lineFeed s r (u .high) n) e
 
       -- a line that is no cover
-      pub head-bad : (f : Fault) → line ≡ C.Bad f → HeadRead s (Refused (SheetLine 1))
-      head-bad f q = head-refused (SheetLine 1) (rw (is-line ∙ q))
+      pub head-bad : (f : Fault) → line ≡ C.Bad f → (q : Refusal) → q ≡ refusalOf 1 f → HeadRead s (Refused q)
+      head-bad f g q h = head-refused q (rw (is-line ∙ g, h))
 
       module _ (cover : Cover) (q : line ≡ C.Is cover) where
         -- n out of its range

@@ -22,6 +22,9 @@ pub mod Following
 pub mod Positions
 pub mod Worked
 pub mod Replies
+pub mod LineFaults
+pub mod FirstFaults
+pub mod SheetFaults
 pub mod TurnedLists
 pub mod TurnedLines
 pub mod TurnedText

@@ -5,7 +5,7 @@ use lib.ListN.{length}
 use mathlib.Core.List.{List, [], _∷_}
 use mathlib.Core.Path.{_≡_, refl, sym, _∙_, ap}
 use native.Mathlib.Omega.{arith}
-use Rattle.plates.specs.Refusals.{number, place}
+use Rattle.plates.specs.Refusals.{field, number, place}
 use Rattle.plates.specs.declared.Refusal.{Refusal}
 use Rattle.plates.specs.declared.Refusal.the-variants.{Length, TooManyRows, InputTooLong}
 use Rattle.sheets.specs.Text.{linesFrom}
@@ -19,6 +19,8 @@ use Rattle.sheets.specs.declared.Sheet.{Sheet}
 use Rattle.sheets.specs.declared.SheetReply.{SheetReply}
 use Rattle.sheets.specs.declared.SheetReply.the-variants as S
 use Rattle.sheets.specs.declared.line.Fault.{Fault}
+use Rattle.sheets.specs.declared.line.Fault.the-variants as F
+use Rattle.sheets.specs.Lines.{fieldOf, numberOf}
 use Rattle.sheets.proofs.Ranges.{InRange, sheet-in-range}
 use Rattle.sheets.proofs.Following.{block-ended, block-first, block-none}
 
@@ -52,9 +54,14 @@ module _ {s table table′ : List ℕ} {r : SheetReply} (p : ReadsSheet s table 
   pub sheet-not : (q : Refusal) → r ≡ S.Refused q → SheetNot s table q table′
   sheet-not q e = not-case (reading s) refl q (sym e ∙ p .reply)
 
--- the paper's number and place of each refusal of the input
-pub number-of-line : (line : ℕ) (fault : Fault) → (number (refusalOf line fault) ≡ 10) × (place (refusalOf line fault) ≡ line)
-number-of-line line fault = (refl, refl)
+-- the paper's number, line and field of each refusal of the input
+pub number-of-line : (line : ℕ) (fault : Fault)
+    → (number (refusalOf line fault) ≡ numberOf fault) × (place (refusalOf line fault) ≡ line) × (field (refusalOf line fault) ≡ fieldOf fault)
+number-of-line line F.Missing = (refl, refl, refl)
+number-of-line line F.Turn = (refl, refl, refl)
+number-of-line line (F.Count at) = (refl, refl, refl)
+number-of-line line (F.Value at) = (refl, refl, refl)
+number-of-line line (F.Row at) = (refl, refl, refl)
 
 pub number-of-others : (number InputTooLong ≡ 15) × (number Length ≡ 1) × (number TooManyRows ≡ 2)
 number-of-others = (refl, refl, refl)

@@ -4,7 +4,7 @@ use lib.IntN.{ℤ, pos, negsuc}
 use mathlib.Core.List.{List, [], _∷_, _++_}
 use mathlib.Core.Path.{_≡_, refl}
 use Rattle.plates.specs.declared.Kind.the-variants.{G}
-use Rattle.plates.specs.declared.Refusal.the-variants.{Length, TooManyRows, SheetLine}
+use Rattle.plates.specs.declared.Refusal.the-variants.{FieldCount, FieldValue, FirstField, Length, RowField, SheetLine, TooManyRows}
 use Rattle.sheets.specs.Words.{cover, row, block, end, first, last}
 use Rattle.sheets.specs.Covers.{coverFields}
 use Rattle.sheets.specs.Sheet.{contents, verdict, says, refused, reading, startOf}
@@ -69,7 +69,7 @@ unfolding verdict contents
 empty-input = refl
 
 -- the form of the cover, K for G or H, comes before n is 0
-form-before-length : reading (coverLine (48 ∷ []) (75 ∷ []) first ++ endLine) ≡ refused (SheetLine 1)
+form-before-length : reading (coverLine (48 ∷ []) (75 ∷ []) first ++ endLine) ≡ refused (FieldValue 1 3)
 unfolding verdict contents coverFields
 form-before-length = refl
 
@@ -83,12 +83,12 @@ unfolding verdict contents coverFields
 missing-end = refl
 
 -- a row after a block is out of its turn
-row-after-block : reading (coverLine (56 ∷ []) (71 ∷ []) first ++ blockLine ++ rowLines ++ endLine) ≡ refused (SheetLine 3)
+row-after-block : reading (coverLine (56 ∷ []) (71 ∷ []) first ++ blockLine ++ rowLines ++ endLine) ≡ refused (FirstField 3)
 unfolding verdict contents coverFields
 row-after-block = refl
 
 -- something after end
-after-the-end : reading (sheet first ++ 10 ∷ []) ≡ refused (SheetLine 8)
+after-the-end : reading (sheet first ++ 10 ∷ []) ≡ refused (FirstField 8)
 unfolding verdict contents coverFields
 after-the-end = refl
 
@@ -100,3 +100,49 @@ line-before-rows = refl
 too-many-rows : reading (coverLine (49 ∷ []) (71 ∷ []) first ++ rowsOnly 65 ++ endLine) ≡ refused TooManyRows
 unfolding verdict contents coverFields
 too-many-rows = refl
+
+-- ---- several faults in one line: the lowest number, then the lowest field
+
+-- that a line is not ended comes before its unknown word
+unended-before-word : reading (coverLine (49 ∷ []) (71 ∷ []) first ++ 120 ∷ []) ≡ refused (SheetLine 2)
+unfolding verdict contents coverFields
+unended-before-word = refl
+
+-- a row after a block that has a field too many and a character that is no bit
+turn-before-count : reading (coverLine (49 ∷ []) (71 ∷ []) first ++ block ++ 10 ∷ [] ++ row ++ 9 ∷ 50 ∷ 9 ∷ 10 ∷ [] ++ endLine) ≡ refused (FirstField 3)
+unfolding verdict contents coverFields
+turn-before-count = refl
+
+-- a row with a field too many and a character that is no bit
+count-before-row : reading (coverLine (49 ∷ []) (71 ∷ []) first ++ row ++ 9 ∷ 50 ∷ 9 ∷ 10 ∷ [] ++ endLine) ≡ refused (FieldCount 2 3)
+unfolding verdict contents coverFields
+count-before-row = refl
+
+-- a cover without its order, and with K for G or H
+count-before-value : reading (cover ++ 9 ∷ 49 ∷ 9 ∷ 75 ∷ 10 ∷ []) ≡ refused (FieldCount 1 4)
+unfolding verdict contents coverFields
+count-before-value = refl
+
+-- a cover with a leading zero, K for G or H, and row for an order: the lowest field
+lowest-field : reading (coverLine (48 ∷ 49 ∷ []) (75 ∷ []) row) ≡ refused (FieldValue 1 2)
+unfolding verdict contents coverFields
+lowest-field = refl
+
+-- a row of one character where n is 1, but the character is 2; and one of two characters
+row-character : reading (coverLine (49 ∷ []) (71 ∷ []) first ++ rowLine (50 ∷ [])) ≡ refused (RowField 2 2)
+unfolding verdict contents coverFields
+row-character = refl
+
+row-length : reading (coverLine (49 ∷ []) (71 ∷ []) first ++ rowLine (49 ∷ 49 ∷ [])) ≡ refused (RowField 2 2)
+unfolding verdict contents coverFields
+row-length = refl
+
+-- a block keeps 6 for its sample count; a minus before 0 is its third field
+sample-form : reading (coverLine (49 ∷ []) (71 ∷ []) first ++ block ++ 9 ∷ 49 ∷ 9 ∷ 45 ∷ 48 ∷ 10 ∷ [] ++ endLine) ≡ refused (FieldValue 2 3)
+unfolding verdict contents coverFields
+sample-form = refl
+
+-- the lowest line, whatever the number
+lowest-line : reading (coverLine (49 ∷ []) (71 ∷ []) first ++ rowLine (50 ∷ []) ++ 10 ∷ []) ≡ refused (RowField 2 2)
+unfolding verdict contents coverFields
+lowest-line = refl

@@ -8,5 +8,6 @@ pub mod Blocks
 pub mod Covers
 pub mod Lines
 pub mod Sheet
+pub mod Faults
 pub mod Turned
 pub mod Readers

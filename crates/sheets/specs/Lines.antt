@@ -1,5 +1,5 @@
 -- A line after the cover, by its fields: the first decides among the four words.
--- A fault names the field, from 1; of several in one line it is the first in the order Missing, Turn, Count, Value, Row.
+-- A fault names the field, from 1; of several in one line it is the one of the lowest number, and of these of the lowest field.
 use Prim.Native.Nat.{ℕ}
 use lib.ListN.{drop}
 use mathlib.Core.Bool.{Bool, false, cond}
@@ -15,11 +15,28 @@ use Rattle.sheets.specs.declared.row.Row.{Row}
 use Rattle.sheets.specs.declared.row.Row.the-variants as R
 use Rattle.sheets.specs.declared.block.Samples.{Samples}
 use Rattle.sheets.specs.declared.block.Samples.the-variants as S
+use Rattle.sheets.specs.declared.line.Fault.{Fault}
 use Rattle.sheets.specs.declared.line.Fault.the-variants as F
 use Rattle.sheets.specs.declared.line.Line.{Line}
 use Rattle.sheets.specs.declared.line.Line.the-variants as L
 use Rattle.sheets.specs.declared.body.Ending.{Ending}
 use Rattle.sheets.specs.declared.body.Ending.the-variants.{Fine, NoEnd, After}
+
+-- the number of a fault
+abbrev pub numberOf : Fault → ℕ
+numberOf F.Missing = 10
+numberOf F.Turn = 17
+numberOf (F.Count at) = 18
+numberOf (F.Value at) = 19
+numberOf (F.Row at) = 20
+
+-- its field: none for a line that is missing or not ended
+abbrev pub fieldOf : Fault → ℕ
+fieldOf F.Missing = 0
+fieldOf F.Turn = 1
+fieldOf (F.Count at) = at
+fieldOf (F.Value at) = at
+fieldOf (F.Row at) = at
 
 -- the field after row makes the line
 abbrev pub rowIs : Row → Line

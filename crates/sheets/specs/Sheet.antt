@@ -9,7 +9,7 @@ use mathlib.Core.Path.{_≡_}
 use Rattle.plates.specs.declared.Kind.{Kind}
 use Rattle.plates.specs.declared.Kind.the-variants.{G}
 use Rattle.plates.specs.declared.Refusal.{Refusal}
-use Rattle.plates.specs.declared.Refusal.the-variants.{Length, TooManyRows, SheetLine, InputTooLong}
+use Rattle.plates.specs.declared.Refusal.the-variants.{Length, TooManyRows, SheetLine, InputTooLong, FirstField, FieldCount, FieldValue, RowField}
 use Rattle.plates.specs.declared.Verdict.{Verdict}
 use Rattle.plates.specs.declared.Verdict.the-variants as J
 use Rattle.sheets.specs.Text.{lines, fields, begins}
@@ -24,7 +24,7 @@ use Rattle.sheets.specs.declared.Sheet.{Sheet}
 use Rattle.sheets.specs.declared.SheetReply.{SheetReply}
 use Rattle.sheets.specs.declared.SheetReply.the-variants.{Read, Refused}
 use Rattle.sheets.specs.declared.line.Fault.{Fault}
-use Rattle.sheets.specs.declared.line.Fault.the-variants.{Missing}
+use Rattle.sheets.specs.declared.line.Fault.the-variants as F
 use Rattle.sheets.specs.declared.cover.Cover.{Cover}
 use Rattle.sheets.specs.declared.cover.CoverLine.{CoverLine}
 use Rattle.sheets.specs.declared.cover.CoverLine.the-variants as C
@@ -43,8 +43,8 @@ pub record Contents : Type 0 where
 
 -- the cover is the first line; what follows the last line feed is no line
 abbrev pub coverFront : List (List ℕ) → CoverLine
-coverFront [] = C.Bad Missing
-coverFront (l ∷ []) = C.Bad Missing
+coverFront [] = C.Bad F.Missing
+coverFront (l ∷ []) = C.Bad F.Missing
 coverFront (l ∷ m ∷ ls) = coverOf (fields l)
 
 -- what it says, where it is of its form
@@ -70,15 +70,20 @@ contents s = contentsOf (coverIn (coverFront (lines s))) (drop 1 (lines s))
 
 -- ---- the refusals of the input
 
--- a line that is not of its form: 10 and the line, whatever its fault
+-- a line that is not of its form, by its fault: 10 where it is missing or not ended; 17: its first field is unknown or out of its turn;
+-- 18: wrong number of fields, at the first missing or extra; 19: bad number, letter or order; 20: row of wrong length or character
 abbrev pub refusalOf : ℕ → Fault → Refusal
-refusalOf line fault = SheetLine line
+refusalOf line F.Missing = SheetLine line
+refusalOf line F.Turn = FirstField line
+refusalOf line (F.Count field) = FieldCount line field
+refusalOf line (F.Value field) = FieldValue line field
+refusalOf line (F.Row field) = RowField line field
 
 -- 15: input over 32,768 bytes
 abbrev pub inputTooLong : List ℕ → Verdict
 inputTooLong s = cond (ltb 32768 (length s)) (J.Refused InputTooLong) J.Accepted
 
--- 10: form of the cover
+-- 10, 17 to 20: form of the cover, which is line 1
 abbrev pub coverBad : CoverLine → Verdict
 coverBad (C.Is cover) = J.Accepted
 coverBad (C.Bad fault) = J.Refused (refusalOf 1 fault)
@@ -98,7 +103,7 @@ lineVerdict line Fine = J.Accepted
 lineVerdict line (NoEnd fault) = J.Refused (refusalOf line fault)
 lineVerdict line (After fault) = J.Refused (refusalOf (line + 1) fault)
 
--- 10: the first other bad line. The cover is line 1; the lines after it are good as far as rows and blocks go
+-- 10, 17 to 20: the first other bad line. The cover is line 1; the lines after it are good as far as rows and blocks go
 abbrev pub lineBad : Contents → List (List ℕ) → Verdict
 lineBad c ls = lineVerdict (length (c .rows) + length (c .blocks) + 2) (endingAfter c ls)
 
@@ -106,7 +111,7 @@ lineBad c ls = lineVerdict (length (c .rows) + length (c .blocks) + 2) (endingAf
 abbrev pub rowsTooMany : ℕ → Verdict
 rowsTooMany k = cond (ltb 64 k) (J.Refused TooManyRows) J.Accepted
 
--- in their order: 15; form of the cover, 10; 1; the first other bad line, 10; then 2
+-- in their order: 15; form of the cover, 10 or 17 to 20; 1; the first other bad line, 10 or 17 to 20; then 2
 abbrev pub refusalsOf : List ℕ → CoverLine → Contents → List (List ℕ) → List Verdict
 refusalsOf s cover c ls = inputTooLong s ∷ coverBad cover ∷ lengthBad (c .n) ∷ lineBad c ls ∷ rowsTooMany (length (c .rows)) ∷ []
 

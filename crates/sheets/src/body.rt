@@ -14,6 +14,7 @@ use crate::cover::Cover;
 use crate::line::Fault;
 use crate::line::Line;
 use crate::line::line_between;
+use crate::line::refusal_of;
 use crate::scan::until;
 use plates::Refusal;
 
@@ -132,8 +133,8 @@ fn close(sheet: Sheet, ending: Ending) -> SheetReply
     let rows = sheet.rows;
     let line = rows + sheet.blocks + 2;
     match ending {
-        Ending::NoEnd(_) => SheetReply::Refused(Refusal::SheetLine(line)),
-        Ending::After(_) => SheetReply::Refused(Refusal::SheetLine(line + 1)),
+        Ending::NoEnd(fault) => SheetReply::Refused(refusal_of(line, fault)),
+        Ending::After(fault) => SheetReply::Refused(refusal_of(line + 1, fault)),
         Ending::Fine => {
             if 64 < rows {
                 return SheetReply::Refused(Refusal::TooManyRows);

@@ -3,6 +3,7 @@ ghost use Rattle.sheets.specs.Readers.{HeadRead};
 use crate::cover::Cover;
 use crate::cover::CoverLine;
 use crate::cover::read_cover;
+use crate::line::refusal_of;
 use crate::scan::until;
 use plates::Refusal;
 
@@ -21,16 +22,18 @@ pub fn read_head(input: &[u8]) -> Head
         return Head::Refused(Refusal::SheetLine(1));
     }
     let line = read_cover(&input[..end]);
-    let CoverLine::Is(cover) = line else {
-        return Head::Refused(Refusal::SheetLine(1));
-    };
-    let n = cover.n;
-    if n == 0 {
-        return Head::Refused(Refusal::Length);
+    match line {
+        CoverLine::Bad(fault) => Head::Refused(refusal_of(1, fault)),
+        CoverLine::Is(cover) => {
+            let n = cover.n;
+            if n == 0 {
+                return Head::Refused(Refusal::Length);
+            }
+            if 64 < n {
+                return Head::Refused(Refusal::Length);
+            }
+            let next = end + 1;
+            Head::Is(cover, next)
+        }
     }
-    if 64 < n {
-        return Head::Refused(Refusal::Length);
-    }
-    let next = end + 1;
-    Head::Is(cover, next)
 }

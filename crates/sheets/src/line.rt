@@ -4,6 +4,7 @@ ghost use lib.ListN.{length};
 ghost use mathlib.Core.Path.{_≡_};
 ghost use Rattle.sheets.specs.Text.{lineFeed, fields, fieldsFrom, linesFrom};
 ghost use Rattle.sheets.specs.Readers.{Until};
+ghost use Rattle.sheets.specs.Sheet.{refusalOf};
 ghost use Rattle.sheets.specs.Lines.{rowIs, rowRest, blockIs, blockRest, endRest, lineBy, lineOf, front};
 use crate::Order;
 use crate::block::Samples;
@@ -13,6 +14,7 @@ use crate::row::read_row;
 use crate::scan::until;
 use crate::word::Word;
 use crate::word::read_word;
+use plates::Refusal;
 
 // What is wrong with a line. Fields are counted from 1.
 pub enum Fault {
@@ -26,6 +28,19 @@ pub enum Fault {
     Value(usize),
     // A row of wrong length or character.
     Row(usize),
+}
+
+// The refusal of a line with such a fault.
+pub fn refusal_of(line: usize, fault: Fault) -> Refusal
+    ensures { λ r. ⌜ r ≡ refusalOf line fault ⌝ }
+{
+    match fault {
+        Fault::Count(field) => Refusal::FieldCount(line, field),
+        Fault::Value(field) => Refusal::FieldValue(line, field),
+        Fault::Row(field) => Refusal::RowField(line, field),
+        Fault::Missing => Refusal::SheetLine(line),
+        Fault::Turn => Refusal::FirstField(line),
+    }
 }
 
 // What a line is: a row with its word, a block, the end, or none of these.

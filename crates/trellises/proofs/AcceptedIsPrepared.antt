@@ -106,6 +106,7 @@ module _ (n : ℕ) (kind : Kind) (rows : List ℕ) (r : Prepared) (p : Prepares 
             depth = w .depth;
             within = w .within;
             over = w .over;
+            first = w .first;
             is = w .is;
           })
 

@@ -1,5 +1,5 @@
 -- Preparing a matrix as G and as H: the same verdict, plates of the same length with the same profile, and where they are refused with 4
--- the same first depth.
+-- the same place, which is the first depth over 12 of both.
 use lib.ListN.{getD, length}
 use lib.Seq.{ext-getD}
 use mathlib.Core.List.{List, [], _++_, _∷_}
@@ -23,10 +23,9 @@ use Rattle.plates.specs.declared.Verdict.the-variants.{Accepted, Refused}
 use Rattle.plates.specs.Heads.{RowsOf}
 use Rattle.plates.specs.Prepare.{Prepares, PreparesAs, RowOver, Wide, badLength, prepareConditions, rowsOf, tooManyRows}
 use Rattle.plates.specs.Profile.{liveAt}
-use Rattle.plates.specs.Refusals.{Passes, Refuses, number}
+use Rattle.plates.specs.Refusals.{Passes, Refuses, number, place}
 use Rattle.trellises.proofs.AcceptedIsPrepared.{accepted, all-below}
-use Rattle.trellises.proofs.DualPositions.{first-place}
-use Rattle.trellises.proofs.DualProfiles.{dual-dimensions, dual-profiles, same-first-depth}
+use Rattle.trellises.proofs.DualProfiles.{dual-dimensions, dual-profiles}
 use Rattle.trellises.specs.Dual.{FirstWide, TooWideAt}
 use Rattle.words.specs.Ends.{firsts, lasts}
 
@@ -129,6 +128,7 @@ module _ (n : ℕ) (matrix : List ℕ) where
                   depth = c .depth;
                   within = c .within;
                   over = omega (arith, c .over, profiles (x .0) kind (c .rows) (d .rows) (c .plate) (d .plate) (c .depth) (c .within));
+                  first = λ t h. omega (arith, c .first t h, profiles (x .0) kind (c .rows) (d .rows) (c .plate) (d .plate) t (omega (arith, c .within)));
                   is = c .is;
                 }),
               ),
@@ -156,23 +156,40 @@ module _ (n : ℕ) (matrix : List ℕ) where
       (record { reply = (refused-both G q b w (x .0) y, x .1) }) (record { reply = y }))
 
   -- past the first three conditions a matrix is accepted or refused with 4
-  accepted-or-wide : Passes early → (kind : Kind) (a : Plate) (v : Verdict) → Reply kind a v → (v ≡ Accepted) ⊎ (v ≡ Refused TooWide)
+  accepted-or-wide : Passes early → (kind : Kind) (a : Plate) (v : Verdict) → Reply kind a v → (v ≡ Accepted) ⊎ ((d : ℕ) × (v ≡ Refused (TooWide d)))
   accepted-or-wide p kind a Accepted x = inl refl
   accepted-or-wide p kind a (Refused q) x = go (by-first early (wide kind ∷ []) q (x .0))
     where
       go : ((es : List (Refusal → Type 0)) → Refuses (early ++ es) q) ⊎ (Passes early × Refuses (wide kind ∷ []) q)
-          → (Refused q ≡ Accepted) ⊎ (Refused q ≡ Refused TooWide)
+          → (Refused q ≡ Accepted) ⊎ ((d : ℕ) × (Refused q ≡ Refused (TooWide d)))
       go (inl e) = absurd (never-both early p q (e []))
-      go (inr z) = inr (ap Refused (by-only (wide kind) q (z .1) .is))
+      go (inr z) = let c : wide kind q = by-only (wide kind) q (z .1) in inr (c .depth, ap Refused (c .is))
 
   -- refusal 4 is by none of the first three conditions
-  not-early : Refuses early TooWide → ⊥
-  not-early (inl c) = omega (arith, ap number (c .1))
-  not-early (inr x) = second (x .1)
+  not-early : (d : ℕ) → Refuses early (TooWide d) → ⊥
+  not-early d (inl c) = omega (arith, ap number (c .1))
+  not-early d (inr x) = second (x .1)
     where
-      second : Refuses (tooManyRows matrix ∷ RowOver n matrix ∷ []) TooWide → ⊥
+      second : Refuses (tooManyRows matrix ∷ RowOver n matrix ∷ []) (TooWide d) → ⊥
       second (inl c) = omega (arith, ap number (c .1))
-      second (inr z) = omega (arith, ap number (by-only (RowOver n matrix) TooWide (z .1) .is))
+      second (inr z) = omega (arith, ap number (by-only (RowOver n matrix) (TooWide d) (z .1) .is))
+
+  -- the place of refusal 4 is the first depth over 12 of the code's plate
+  refused-at : (kind : Kind) (d : ℕ) (a : Plate) (v : Verdict) → Reply kind a v → v ≡ Refused (TooWide d) → TooWideAt (InCode kind n matrix) n d
+  refused-at kind d a v x e = go (by-first early (wide kind ∷ []) (TooWide d) (subst (Reply kind a) e x .0))
+    where
+      found : wide kind (TooWide d) → TooWideAt (InCode kind n matrix) n d
+      found c =
+          let first : FirstWide (c .rows) n (c .depth) = record { within = c .within; over = c .over; earlier = c .first } in record {
+            rows = c .rows;
+            plate = c .plate;
+            first = subst (FirstWide (c .rows) n) (sym (ap place (c .is))) first;
+          }
+
+      go : ((es : List (Refusal → Type 0)) → Refuses (early ++ es) (TooWide d)) ⊎ (Passes early × Refuses (wide kind ∷ []) (TooWide d))
+          → TooWideAt (InCode kind n matrix) n d
+      go (inl f) = absurd (not-early d (f []))
+      go (inr z) = found (by-only (wide kind) (TooWide d) (z .1))
 
   -- ---- preparing the same matrix as G and as H
   module _ (r s : Prepared) (x : Prepares n G matrix r) (y : Prepares n H matrix s) where
@@ -192,9 +209,9 @@ module _ (n : ℕ) (matrix : List ℕ) where
     pub same-length : r .plate .n ≡ s .plate .n
     same-length = both .length-n
 
-    -- a valid matrix is accepted both times, or refused with 4 both times
+    -- a valid matrix is accepted both times, or refused with 4 both times, at the same depth
     pub accepted-or-refused-both : 1 ≤ n → n ≤ 64 → length matrix ≤ 64 → ((j : ℕ) → j < length matrix → getD matrix j 0 < 2 ^ n)
-        → ((r .verdict ≡ Accepted) × (s .verdict ≡ Accepted)) ⊎ ((r .verdict ≡ Refused TooWide) × (s .verdict ≡ Refused TooWide))
+        → ((r .verdict ≡ Accepted) × (s .verdict ≡ Accepted)) ⊎ ((d : ℕ) × (r .verdict ≡ Refused (TooWide d)) × (s .verdict ≡ Refused (TooWide d)))
     accepted-or-refused-both positive short few low = go (accepted-or-wide valid G (r .plate) (r .verdict) (x .reply))
       where
         bad : (n ≡ 0) ⊎ (64 < n) → ⊥
@@ -204,10 +221,10 @@ module _ (n : ℕ) (matrix : List ℕ) where
         valid : Passes early
         valid = ((λ q c. bad (c .0)), ((λ q c. omega (arith, c .0)), ((λ q c. omega (arith, low (c .row) (c .there), c .over)), tt)))
 
-        go : (r .verdict ≡ Accepted) ⊎ (r .verdict ≡ Refused TooWide)
-            → ((r .verdict ≡ Accepted) × (s .verdict ≡ Accepted)) ⊎ ((r .verdict ≡ Refused TooWide) × (s .verdict ≡ Refused TooWide))
+        go : (r .verdict ≡ Accepted) ⊎ ((d : ℕ) × (r .verdict ≡ Refused (TooWide d)))
+            → ((r .verdict ≡ Accepted) × (s .verdict ≡ Accepted)) ⊎ ((d : ℕ) × (r .verdict ≡ Refused (TooWide d)) × (s .verdict ≡ Refused (TooWide d)))
         go (inl e) = inl (e, sym same-verdict ∙ e)
-        go (inr e) = inr (e, sym same-verdict ∙ e)
+        go (inr e) = inr (e .0, e .1, sym same-verdict ∙ e .1)
 
     -- where they are accepted, k of the one and k of the other are n
     pub dimensions-together : r .verdict ≡ Accepted → r .plate .k + s .plate .k ≡ n
@@ -221,35 +238,9 @@ module _ (n : ℕ) (matrix : List ℕ) where
           used-rows (s .plate) (h .1 .few) (h .1 .table),
         )
 
-    -- where they are refused with 4, both plates are too wide at the same first depth
-    pub refused-at-same-depth : r .verdict ≡ Refused TooWide → (d : ℕ) × TooWideAt (InCode G n matrix) n d × TooWideAt (InCode H n matrix) n d
-    refused-at-same-depth e = go (by-first early (wide G ∷ []) TooWide (subst (Reply G (r .plate)) e (x .reply) .0))
-      where
-        Depth : Type 0
-        Depth = (d : ℕ) × TooWideAt (InCode G n matrix) n d × TooWideAt (InCode H n matrix) n d
-
-        found : Passes early → (c : wide G TooWide) → Plated (InCode H n matrix)
-            → ((d : ℕ) × (d < suc n) × (12 < liveAt (c .rows) d) × ((t : ℕ) → t < d → 12 < liveAt (c .rows) t → ⊥))
-            ⊎ ((d : ℕ) → d < suc n → 12 < liveAt (c .rows) d → ⊥) → Depth
-        found v c b (inr none) = absurd (none (c .depth) (omega (arith, c .within)) (c .over))
-        found v c b (inl t) =
-            let w : FirstWide (c .rows) n (t .0) = record { within = omega (arith, t .1); over = t .2; earlier = λ i h. narrow i (decLt 12 (liveAt (c .rows) i)) (t .3 i h) } in (
-              t .0,
-              record { rows = c .rows; plate = c .plate; first = w },
-              record {
-                rows = b .rows;
-                plate = b .plate;
-                first = same-first-depth n matrix (below v) (c .rows) (b .rows) (c .plate) (b .plate) (t .0) .0 w;
-              },
-            )
-          where
-            narrow : (i : ℕ) → Dec (12 < liveAt (c .rows) i) → (12 < liveAt (c .rows) i → ⊥) → liveAt (c .rows) i ≤ 12
-            narrow i (yes o) h = absurd (h o)
-            narrow i (no o) h = omega arith
-
-        go : ((es : List (Refusal → Type 0)) → Refuses (early ++ es) TooWide) ⊎ (Passes early × Refuses (wide G ∷ []) TooWide) → Depth
-        go (inl f) = absurd (not-early (f []))
-        go (inr z) =
-            let c : wide G TooWide = by-only (wide G) TooWide (z .1) in
-            found (z .0) c (plated (z .0) H (s .plate) (s .verdict) (y .reply))
-            (first-place (λ t. 12 < liveAt (c .rows) t) (λ t. decLt 12 (liveAt (c .rows) t)) (suc n))
+    -- where the one is refused with 4 at a depth, so is the other, and that is the first depth at which each of the two plates is too wide
+    pub refused-at-same-depth : (d : ℕ) → r .verdict ≡ Refused (TooWide d)
+        → (s .verdict ≡ Refused (TooWide d)) × TooWideAt (InCode G n matrix) n d × TooWideAt (InCode H n matrix) n d
+    refused-at-same-depth d e =
+        let f : s .verdict ≡ Refused (TooWide d) = sym same-verdict ∙ e in
+        (f, refused-at G d (r .plate) (r .verdict) (x .reply) e, refused-at H d (s .plate) (s .verdict) (y .reply) f)

@@ -25,7 +25,7 @@ returns-2 : tie.Need-returns-2
 returns-2 c =
     let done = c .before .before .before .before .before .before in
     let start = done .before .before .before .before .before in
-    wrote (WritesRefused (start .args .number) (start .args .place)) _ _ _ _ _ (done .write-refused .result) (search needs) (done .write-refused .ensures) (c .before .before .written-length .ensures)
+    wrote (WritesRefused (start .args .number) (start .args .place) (start .args .field)) _ _ _ _ _ (done .write-refused .result) (search needs) (done .write-refused .ensures) (c .before .before .written-length .ensures)
 
 pub yendrufal-write-refused-spec : {M : Type 1} → statement M
 yendrufal-write-refused-spec =

@@ -7,8 +7,11 @@ use Rattle.listings.proofs.Prepending.{Built, prepend-then, built-ends}
 use Rattle.listings.proofs.write_refused.Statement.{statement}
 use Rattle.listings.proofs.write_refused.Tie as tie
 
-line-feed-requires : tie.Need-line-feed-requires
-line-feed-requires c κs = search needs
+names-field-requires : tie.Need-names-field-requires
+names-field-requires c κs = search needs
+
+last-field-requires : tie.Need-last-field-requires
+last-field-requires c κs = search needs
 
 prepend-field-requires : tie.Need-prepend-field-requires
 prepend-field-requires c κs = search needs
@@ -24,19 +27,20 @@ prepend-name-requires c κs = search needs
 
 -- what the call takes
 abbrev start : tie.After-prepend-name → tie.Start
-start c = c .before .before .before .before .before .before .before .before .before .before
+start c = c .before .before .before .before .before .before .before .before .before .before .before
 
 -- the whole line stands at the end of the array
-built : (c : tie.After-prepend-name) → Built (refusedLine (start c .args .number) (start c .args .place)) (c .prepend-name .last .0) (c .prepend-name .result)
+built : (c : tie.After-prepend-name) → Built (refusedLine (start c .args .number) (start c .args .place) (start c .args .field)) (c .prepend-name .last .0) (c .prepend-name .result)
 unfolding refusedLine
 built c =
     let a = start c .args in
     let number = c .before .before .before in
     let place = number .before .before in
-    let feed = place .before .before in
-    let fields = prepend-then (prepend-then (feed .line-feed .ensures) (place .prepend-field .ensures)) (number .prepend-field2 .ensures) in
+    let field = place .before .before in
+    let last = rw (field .before .before .names-field .ensures) at (field .last-field .ensures) in
+    let fields = prepend-then (prepend-then last (place .prepend-field .ensures)) (number .prepend-field2 .ensures) in
     record {
-      short = refused-fits-256 (a .number) (a .place);
+      short = refused-fits-256 (a .number) (a .place) (a .field);
       put = prepend-then fields (c .prepend-name .ensures);
     }
 
@@ -53,7 +57,8 @@ pub write-refused-spec : {M : Type 1} → statement M
 write-refused-spec =
     tie.close
     (tie.spec
-    line-feed-requires
+    names-field-requires
+    last-field-requires
     prepend-field-requires
     prepend-field-requires-2
     slice-aggregate-prepend-name

@@ -20,6 +20,21 @@ enum-known-refusal-4 c = search needs
 enum-known-refusal-5 : tie.Need-enum-known-refusal-5
 enum-known-refusal-5 c = search needs
 
+enum-known-refusal-6 : tie.Need-enum-known-refusal-6
+enum-known-refusal-6 c = search needs
+
+enum-known-refusal-7 : tie.Need-enum-known-refusal-7
+enum-known-refusal-7 c = search needs
+
+enum-known-refusal-8 : tie.Need-enum-known-refusal-8
+enum-known-refusal-8 c = search needs
+
+enum-known-refusal-9 : tie.Need-enum-known-refusal-9
+enum-known-refusal-9 c = search needs
+
+enum-known-refusal-10 : tie.Need-enum-known-refusal-10
+enum-known-refusal-10 c = search needs
+
 enum-told : tie.Need-enum-told
 enum-told c = search needs
 
@@ -62,9 +77,6 @@ enum-told-13 c = search needs
 enum-told-14 : tie.Need-enum-told-14
 enum-told-14 c = search needs
 
-enum-told-15 : tie.Need-enum-told-15
-enum-told-15 c = search needs
-
 returns : tie.Need-returns
 returns c = sym (ap place (c .before .refusal .given .1))
 
@@ -81,49 +93,61 @@ returns-5 : tie.Need-returns-5
 returns-5 c = sym (ap place (c .before .refusal5 .given .1))
 
 returns-6 : tie.Need-returns-6
-returns-6 c = sym (ap place (c .enum-told .given .1))
+returns-6 c = sym (ap place (c .before .refusal6 .given .1))
 
 returns-7 : tie.Need-returns-7
-returns-7 c = sym (ap place (c .enum-told2 .given .1))
+returns-7 c = sym (ap place (c .before .refusal7 .given .1))
 
 returns-8 : tie.Need-returns-8
-returns-8 c = sym (ap place (c .enum-told3 .given .1))
+returns-8 c = sym (ap place (c .before .refusal8 .given .1))
 
 returns-9 : tie.Need-returns-9
-returns-9 c = sym (ap place (c .enum-told4 .given .1))
+returns-9 c = sym (ap place (c .before .refusal9 .given .1))
 
 returns-10 : tie.Need-returns-10
-returns-10 c = sym (ap place (c .enum-told5 .given .1))
+returns-10 c = sym (ap place (c .before .refusal10 .given .1))
 
 returns-11 : tie.Need-returns-11
-returns-11 c = sym (ap place (c .enum-told6 .given .1))
+returns-11 c = sym (ap place (c .enum-told .given .1))
 
 returns-12 : tie.Need-returns-12
-returns-12 c = sym (ap place (c .enum-told7 .given .1))
+returns-12 c = sym (ap place (c .enum-told2 .given .1))
 
 returns-13 : tie.Need-returns-13
-returns-13 c = sym (ap place (c .enum-told8 .given .1))
+returns-13 c = sym (ap place (c .enum-told3 .given .1))
 
 returns-14 : tie.Need-returns-14
-returns-14 c = sym (ap place (c .enum-told9 .given .1))
+returns-14 c = sym (ap place (c .enum-told4 .given .1))
 
 returns-15 : tie.Need-returns-15
-returns-15 c = sym (ap place (c .enum-told10 .given .1))
+returns-15 c = sym (ap place (c .enum-told5 .given .1))
 
 returns-16 : tie.Need-returns-16
-returns-16 c = sym (ap place (c .enum-told11 .given .1))
+returns-16 c = sym (ap place (c .enum-told6 .given .1))
 
 returns-17 : tie.Need-returns-17
-returns-17 c = sym (ap place (c .enum-told12 .given .1))
+returns-17 c = sym (ap place (c .enum-told7 .given .1))
 
 returns-18 : tie.Need-returns-18
-returns-18 c = sym (ap place (c .enum-told13 .given .1))
+returns-18 c = sym (ap place (c .enum-told8 .given .1))
 
 returns-19 : tie.Need-returns-19
-returns-19 c = sym (ap place (c .enum-told14 .given .1))
+returns-19 c = sym (ap place (c .enum-told9 .given .1))
 
 returns-20 : tie.Need-returns-20
-returns-20 c = sym (ap place (c .enum-told15 .given .1))
+returns-20 c = sym (ap place (c .enum-told10 .given .1))
+
+returns-21 : tie.Need-returns-21
+returns-21 c = sym (ap place (c .enum-told11 .given .1))
+
+returns-22 : tie.Need-returns-22
+returns-22 c = sym (ap place (c .enum-told12 .given .1))
+
+returns-23 : tie.Need-returns-23
+returns-23 c = sym (ap place (c .enum-told13 .given .1))
+
+returns-24 : tie.Need-returns-24
+returns-24 c = sym (ap place (c .enum-told14 .given .1))
 
 pub refusal-place-spec : {M : Type 1} → statement M
 refusal-place-spec =
@@ -134,6 +158,11 @@ refusal-place-spec =
     enum-known-refusal-3
     enum-known-refusal-4
     enum-known-refusal-5
+    enum-known-refusal-6
+    enum-known-refusal-7
+    enum-known-refusal-8
+    enum-known-refusal-9
+    enum-known-refusal-10
     enum-told
     enum-told-2
     enum-told-3
@@ -148,7 +177,6 @@ refusal-place-spec =
     enum-told-12
     enum-told-13
     enum-told-14
-    enum-told-15
     returns
     returns-2
     returns-3
@@ -168,4 +196,8 @@ refusal-place-spec =
     returns-17
     returns-18
     returns-19
-    returns-20)
+    returns-20
+    returns-21
+    returns-22
+    returns-23
+    returns-24)

@@ -65,6 +65,18 @@ enum-told-19 c = search needs
 enum-told-20 : tie.Need-enum-told-20
 enum-told-20 c = search needs
 
+enum-told-21 : tie.Need-enum-told-21
+enum-told-21 c = search needs
+
+enum-told-22 : tie.Need-enum-told-22
+enum-told-22 c = search needs
+
+enum-told-23 : tie.Need-enum-told-23
+enum-told-23 c = search needs
+
+enum-told-24 : tie.Need-enum-told-24
+enum-told-24 c = search needs
+
 returns : tie.Need-returns
 returns c = sym (ap ofBlock (c .enum-told .given .1))
 
@@ -125,6 +137,18 @@ returns-19 c = sym (ap ofBlock (c .enum-told19 .given .1))
 returns-20 : tie.Need-returns-20
 returns-20 c = sym (ap ofBlock (c .enum-told20 .given .1))
 
+returns-21 : tie.Need-returns-21
+returns-21 c = sym (ap ofBlock (c .enum-told21 .given .1))
+
+returns-22 : tie.Need-returns-22
+returns-22 c = sym (ap ofBlock (c .enum-told22 .given .1))
+
+returns-23 : tie.Need-returns-23
+returns-23 c = sym (ap ofBlock (c .enum-told23 .given .1))
+
+returns-24 : tie.Need-returns-24
+returns-24 c = sym (ap ofBlock (c .enum-told24 .given .1))
+
 pub is-of-block-spec : {M : Type 1} → statement M
 is-of-block-spec =
     tie.close
@@ -149,6 +173,10 @@ is-of-block-spec =
     enum-told-18
     enum-told-19
     enum-told-20
+    enum-told-21
+    enum-told-22
+    enum-told-23
+    enum-told-24
     returns
     returns-2
     returns-3
@@ -168,4 +196,8 @@ is-of-block-spec =
     returns-17
     returns-18
     returns-19
-    returns-20)
+    returns-20
+    returns-21
+    returns-22
+    returns-23
+    returns-24)

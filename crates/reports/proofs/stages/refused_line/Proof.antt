@@ -10,6 +10,9 @@ refusal-number-requires c κs = search needs
 refusal-place-requires : tie.Need-refusal-place-requires
 refusal-place-requires c κs = search needs
 
+refusal-field-requires : tie.Need-refusal-field-requires
+refusal-field-requires c κs = search needs
+
 write-refused-requires : tie.Need-write-refused-requires
 write-refused-requires c κs = search needs
 
@@ -20,7 +23,13 @@ same-length : tie.Need-same-length
 same-length c = search needs
 
 returns : tie.Need-returns
-returns c = refusal-written (c .before .before .before .write-refused .result) (c .before .before .before .before .before .before .before .before .args .refusal) (c .before .before .before .before .before .before .refusal-number .ensures) (c .before .before .before .before .before .refusal-place .ensures) (c .before .before .before .write-refused .ensures) (c .step-by .ensures)
+returns c =
+    let line = c .before .before .before in
+    let field = line .before .before in
+    let place = field .before in
+    let number = place .before in
+    refusal-written (line .write-refused .result) (number .before .before .args .refusal) (number .refusal-number .ensures) (place .refusal-place .ensures)
+    (field .refusal-field .ensures) (line .write-refused .ensures) (c .step-by .ensures)
 
 pub refused-line-spec : {M : Type 1} → statement M
 refused-line-spec =
@@ -28,6 +37,7 @@ refused-line-spec =
     (tie.spec
     refusal-number-requires
     refusal-place-requires
+    refusal-field-requires
     write-refused-requires
     step-by-requires
     same-length

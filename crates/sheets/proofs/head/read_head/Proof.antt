@@ -23,37 +23,41 @@ read-cover-requires c κs = search needs
 enum-known-line : tie.Need-enum-known-line
 enum-known-line c = search needs
 
-enum-told : tie.Need-enum-told
-enum-told c = search needs
+refusal-of-requires : tie.Need-refusal-of-requires
+refusal-of-requires c κs = search needs
+
+enum-known-line-2 : tie.Need-enum-known-line-2
+enum-known-line-2 c = search needs
 
 returns-2 : tie.Need-returns-2
 returns-2 c =
-    let u = c .before .before .before .before .before .until in
-    let l = c .before .before .read-cover in
-    head-bad (c .before .before .before .before .before .before .before .args .input .now) (u .result) (u .ensures) (c .before .before .before .before .if1 .left) (l .result) (sym (l .ensures)) _ (c .enum-told .given .1)
+    let l = c .before .before .before .before .read-cover in
+    let u = c .before .before .before .before .before .before .before .until in
+    let q = c .before .before .line2 .given in
+    head-none (c .before .before .before .before .before .before .before .before .before .args .input .now) (u .result) (u .ensures) (c .before .before .before .before .before .before .if1 .left) (l .result) (sym (l .ensures)) (q .0 .0) (q .1) (c .if2 .taken)
 
 returns-3 : tie.Need-returns-3
 returns-3 c =
-    let u = c .before .before .before .before .before .before .before .until in
-    let l = c .before .before .before .before .read-cover in
-    let q = c .before .before .line .given in
-    head-none (c .before .before .before .before .before .before .before .before .before .args .input .now) (u .result) (u .ensures) (c .before .before .before .before .before .before .if1 .left) (l .result) (sym (l .ensures)) (q .0 .0) (q .1) (c .if2 .taken)
-
-returns-4 : tie.Need-returns-4
-returns-4 c =
-    let u = c .before .before .before .before .before .before .before .before .until in
     let l = c .before .before .before .before .before .read-cover in
-    let q = c .before .before .before .line .given in
+    let u = c .before .before .before .before .before .before .before .before .until in
+    let q = c .before .before .before .line2 .given in
     head-over (c .before .before .before .before .before .before .before .before .before .before .args .input .now) (u .result) (u .ensures) (c .before .before .before .before .before .before .before .if1 .left) (l .result) (sym (l .ensures)) (q .0 .0) (q .1) (c .before .if2 .left) (c .if3 .taken)
 
 add-next : tie.Need-add-next
 add-next c = search needs
 
+returns-4 : tie.Need-returns-4
+returns-4 c =
+    let l = c .before .before .before .before .read-cover in
+    let u = c .before .before .before .before .before .before .before .until in
+    let q = c .before .before .line .given in
+    head-bad (c .before .before .before .before .before .before .before .before .before .args .input .now) (u .result) (u .ensures) (c .before .before .before .before .before .before .if1 .left) (l .result) (sym (l .ensures)) (q .0 .0) (q .1) (c .refusal-of .result) (c .refusal-of .ensures)
+
 returns-5 : tie.Need-returns-5
 returns-5 c =
-    let u = c .before .before .before .before .before .before .before .before .until in
     let l = c .before .before .before .before .before .read-cover in
-    let q = c .before .before .before .line .given in
+    let u = c .before .before .before .before .before .before .before .before .until in
+    let q = c .before .before .before .line2 .given in
     head-is (c .before .before .before .before .before .before .before .before .before .before .args .input .now) (u .result) (u .ensures) (c .before .before .before .before .before .before .before .if1 .left) (l .result) (sym (l .ensures)) (q .0 .0) (q .1) (c .before .if2 .left) (c .if3 .left)
 
 pub read-head-spec : {M : Type 1} → statement M
@@ -65,9 +69,10 @@ read-head-spec =
     slice-aggregate-read-cover
     read-cover-requires
     enum-known-line
-    enum-told
+    refusal-of-requires
+    enum-known-line-2
     returns-2
     returns-3
-    returns-4
     add-next
+    returns-4
     returns-5)
