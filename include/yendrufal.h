@@ -62,7 +62,8 @@ extern "C" {
 #define YENDRUFAL_PLATE_ROWS 2
 #define YENDRUFAL_PLATE_PROFILE 66
 
-/* Rooms that decoding and firmness need, in cells; m is the largest profile entry, at most 12. */
+/* Rooms that decoding, its two parts and firmness need, in cells; m is the largest profile entry, at
+   most 12. The metric alone needs no decisions. */
 #define YENDRUFAL_METRICS(m) ((size_t)2 << (m))
 #define YENDRUFAL_DECISIONS(n, m) ((size_t)(n) << ((m) < 6 ? 0 : (m) - 6))
 #define YENDRUFAL_METRICS_MOST 8192   /* enough for every plate */
@@ -101,6 +102,23 @@ uint64_t yendrufal_decode(const uint64_t *plate, size_t plate_length, const int1
                           size_t word_length, int32_t *metric, size_t metric_length,
                           uint64_t *counts, size_t counts_length, uint64_t *place,
                           size_t place_length);
+
+/* The greatest metric of any codeword, and the counts of additions and of comparisons, as decoding
+   gives them; no word, and no decision room. For a receiver that tries several plates on one block.
+   Afterwards the needed part of the metric room is zero. Refusals 5 to 8.
+   Fixed: plate 131, metric 1, counts 2, place 1. */
+uint64_t yendrufal_metric(const uint64_t *plate, size_t plate_length, const int16_t *samples,
+                          size_t sample_count, int32_t *metrics, size_t metric_count,
+                          int32_t *metric, size_t metric_length, uint64_t *counts,
+                          size_t counts_length, uint64_t *place, size_t place_length);
+
+/* The word that decoding gives, and the same counts, without the metric. Both rooms are left as by
+   decoding. Refusals 5 to 9. Fixed: plate 131, word 1, counts 2, place 1. */
+uint64_t yendrufal_word(const uint64_t *plate, size_t plate_length, const int16_t *samples,
+                        size_t sample_count, int32_t *metrics, size_t metric_count,
+                        uint64_t *decisions, size_t decision_count, uint64_t *word,
+                        size_t word_length, uint64_t *counts, size_t counts_length,
+                        uint64_t *place, size_t place_length);
 
 /* How firmly a position was received. Where every codeword has the same bit there, `fixed` receives 1
    and `value` that bit; else `fixed` receives 0 and `value` the margin: the best metric among the

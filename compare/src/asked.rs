@@ -59,6 +59,31 @@ pub fn decode(flat: &[u64], samples: &[i16], metrics: usize, decisions: usize, r
     Call { name: Name::Decode, numbers: vec![], runs }
 }
 
+pub fn metric(flat: &[u64], samples: &[i16], metrics: usize, rooms: Rooms) -> Call {
+    let runs = vec![
+        lent_plate(flat, rooms),
+        Run::of_samples("samples", samples),
+        Run::room_metrics("metrics", metrics),
+        Run::room_metrics("metric", rooms.single),
+        Run::room_words("counts", rooms.counts),
+        Run::room_words("place", rooms.place),
+    ];
+    Call { name: Name::Metric, numbers: vec![], runs }
+}
+
+pub fn word(flat: &[u64], samples: &[i16], metrics: usize, decisions: usize, rooms: Rooms) -> Call {
+    let runs = vec![
+        lent_plate(flat, rooms),
+        Run::of_samples("samples", samples),
+        Run::room_metrics("metrics", metrics),
+        Run::room_words("decisions", decisions),
+        Run::room_words("word", rooms.single),
+        Run::room_words("counts", rooms.counts),
+        Run::room_words("place", rooms.place),
+    ];
+    Call { name: Name::Word, numbers: vec![], runs }
+}
+
 pub fn firmness(
     flat: &[u64],
     samples: &[i16],

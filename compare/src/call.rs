@@ -18,6 +18,8 @@ pub enum Name {
     WriteRefused,
     WriteEnd,
     Firmness,
+    Metric,
+    Word,
     Listing,
 }
 

@@ -131,11 +131,17 @@ pub fn bad_samples(plate: &Plate, samples: &[i16]) -> Result<(), Refusal> {
     Ok(())
 }
 
-/// Refusals 8 and 9, for rooms of these lengths.
-pub fn short_rooms(plate: &Plate, metric_count: usize, decision_count: usize) -> Result<(), Refusal> {
+/// Refusal 8, for a metric room of this length.
+pub fn short_metrics(plate: &Plate, metric_count: usize) -> Result<(), Refusal> {
     if metric_count < plate.metrics_needed() {
         return refuse(8, 0);
     }
+    Ok(())
+}
+
+/// Refusals 8 and 9, for rooms of these lengths.
+pub fn short_rooms(plate: &Plate, metric_count: usize, decision_count: usize) -> Result<(), Refusal> {
+    short_metrics(plate, metric_count)?;
     if decision_count < plate.decisions_needed() {
         return refuse(9, 0);
     }

@@ -30,6 +30,8 @@ pub fn answer(call: &mut Call) -> u64 {
             }
         }
         Name::Decode => decode(call),
+        Name::Metric => metric(call),
+        Name::Word => word(call),
         Name::Firmness => firmness(call),
         Name::WriteRefused | Name::WriteEnd => {
             let ((line, a), (written, b)) = (lent!(r[0], bytes), lent!(r[1], words));
@@ -54,6 +56,23 @@ fn decode(call: &mut Call) -> u64 {
             plate, a, samples, b, metrics, c, decisions, d, word, e, metric, f, counts, g, place, h,
         )
     }
+}
+
+fn metric(call: &mut Call) -> u64 {
+    let r = &mut call.runs[..];
+    let ((plate, a), (samples, b), (metrics, c)) =
+        (lent!(r[0], words), lent!(r[1], samples), lent!(r[2], metrics));
+    let ((metric, d), (counts, e), (place, f)) =
+        (lent!(r[3], metrics), lent!(r[4], words), lent!(r[5], words));
+    unsafe { yendrufal_metric(plate, a, samples, b, metrics, c, metric, d, counts, e, place, f) }
+}
+
+fn word(call: &mut Call) -> u64 {
+    let r = &mut call.runs[..];
+    let ((plate, a), (samples, b)) = (lent!(r[0], words), lent!(r[1], samples));
+    let ((metrics, c), (decisions, d)) = (lent!(r[2], metrics), lent!(r[3], words));
+    let ((word, e), (counts, f), (place, g)) = (lent!(r[4], words), lent!(r[5], words), lent!(r[6], words));
+    unsafe { yendrufal_word(plate, a, samples, b, metrics, c, decisions, d, word, e, counts, f, place, g) }
 }
 
 fn firmness(call: &mut Call) -> u64 {

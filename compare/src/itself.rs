@@ -1,5 +1,6 @@
 //! The model held to the definitions, the paper's worked examples and outside sheets.
 
+use crate::alone::{by_endings, by_gray_order};
 use crate::brute;
 use crate::coding::{encode, read_back};
 use crate::decoding::{by_forward_pass, counts, decode, of_all_codewords};
@@ -60,6 +61,8 @@ fn one_small(n: u64, kind: Kind, rows: &[u64], blocks: &[Vec<i16>]) {
         let best = brute::best(&code, block);
         assert_eq!(of_all_codewords(&plate, block), best);
         assert_eq!(by_forward_pass(&plate, block), best);
+        assert_eq!(by_gray_order(&plate, block), best.0);
+        assert_eq!(by_endings(&plate, block), best.0);
         for (position, digit) in (0..plate.n).flat_map(|position| [(position, 0), (position, 1)]) {
             let best = brute::best_with(&code, block, position, digit);
             assert_eq!(best_of_all(&plate, block, position, digit), best);
@@ -102,6 +105,7 @@ fn larger_matrices(random: &mut Random) -> usize {
         if plate.k() <= 12 {
             assert_eq!(of_all_codewords(&plate, &block), by_forward_pass(&plate, &block));
         }
+        assert_eq!(by_endings(&plate, &block), by_forward_pass(&plate, &block).0);
         assert!(plate.is_codeword(decode(&plate, &block).word));
         count += 1;
     }

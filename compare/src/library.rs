@@ -52,6 +52,36 @@ extern "C" {
         place: *mut u64,
         place_length: usize,
     ) -> u64;
+    pub fn yendrufal_metric(
+        plate: *const u64,
+        plate_length: usize,
+        samples: *const i16,
+        sample_count: usize,
+        metrics: *mut i32,
+        metric_count: usize,
+        metric: *mut i32,
+        metric_length: usize,
+        counts: *mut u64,
+        counts_length: usize,
+        place: *mut u64,
+        place_length: usize,
+    ) -> u64;
+    pub fn yendrufal_word(
+        plate: *const u64,
+        plate_length: usize,
+        samples: *const i16,
+        sample_count: usize,
+        metrics: *mut i32,
+        metric_count: usize,
+        decisions: *mut u64,
+        decision_count: usize,
+        word: *mut u64,
+        word_length: usize,
+        counts: *mut u64,
+        counts_length: usize,
+        place: *mut u64,
+        place_length: usize,
+    ) -> u64;
     pub fn yendrufal_firmness(
         plate: *const u64,
         plate_length: usize,

@@ -1,6 +1,7 @@
 //! Compares the library, over its C interface, with an independent model of the paper on many inputs.
 //! README.md beside this folder says how to build and run it.
 
+mod alone;
 mod asked;
 mod bridge;
 mod brute;

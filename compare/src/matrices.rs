@@ -52,6 +52,8 @@ fn blocks(comparison: &mut Comparison, random: &mut Random, plate: &Plate, flat:
         let block = samples(random, plate.n);
         let more = random.pick(&[0, 0, 1, 17]);
         comparison.agree(asked::decode(flat, &block, metrics + more, decisions + more, FIXED));
+        comparison.agree(asked::metric(flat, &block, metrics + more, FIXED));
+        comparison.agree(asked::word(flat, &block, metrics + more, decisions + more, FIXED));
         let position = random.below(plate.n) as u64;
         comparison.agree(asked::firmness(flat, &block, position, metrics + more, decisions + more, FIXED));
     }

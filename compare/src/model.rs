@@ -1,5 +1,6 @@
 //! The model behind the C interface: each call answered from the paper's rules, with every lent cell.
 
+use crate::alone;
 use crate::call::{Call, Name, Run};
 use crate::coding::{encode, read_back};
 use crate::decoding;
@@ -36,6 +37,12 @@ fn reply_into(answer: Result<u64, Refusal>, cell: &mut [u64]) -> u64 {
         }
         Err(refusal) => refusal.number,
     }
+}
+
+/// The reply of a refused call that has a cell for the place.
+fn refused_at(refusal: Refusal, place: &mut Run) -> u64 {
+    place.words()[0] = refusal.place;
+    refusal.number
 }
 
 /// A line put at the start of its room, or refusal 11.
@@ -79,6 +86,8 @@ impl Model {
                 reply_into(self.plate(plate.words()).and_then(|p| read_back(&p, numbers[0])), word.words())
             }
             (Name::Decode, runs) => self.answer_decode(runs),
+            (Name::Metric, runs) => self.answer_metric(runs),
+            (Name::Word, runs) => self.answer_word(runs),
             (Name::Firmness, runs) => self.answer_firmness(numbers[0], runs),
             (Name::WriteRefused, [line, written]) => {
                 let refusal = Refusal { number: numbers[0], place: numbers[1], field: numbers[2] };
@@ -115,10 +124,7 @@ impl Model {
         });
         let plate = match accepted {
             Ok(plate) => plate,
-            Err(refusal) => {
-                place.words()[0] = refusal.place;
-                return refusal.number;
-            }
+            Err(refusal) => return refused_at(refusal, place),
         };
         let found = decoding::decode(&plate, samples);
         clear_rooms(&plate, metrics.metrics(), decisions.words());
@@ -131,6 +137,47 @@ impl Model {
 }
 
 impl Model {
+    fn answer_metric(&mut self, runs: &mut [Run]) -> u64 {
+        let [plate, samples, metrics, metric, counts, place] = runs else {
+            unreachable!("metric has six runs")
+        };
+        let samples = samples.samples();
+        let accepted = self.plate(plate.words()).and_then(|plate| {
+            decoding::bad_samples(&plate, samples)?;
+            decoding::short_metrics(&plate, metrics.metrics().len())?;
+            Ok(plate)
+        });
+        let plate = match accepted {
+            Ok(plate) => plate,
+            Err(refusal) => return refused_at(refusal, place),
+        };
+        metrics.metrics()[..plate.metrics_needed()].fill(0);
+        metric.metrics()[0] = alone::best_metric(&plate, samples);
+        counts.words()[..2].copy_from_slice(&<[u64; 2]>::from(decoding::counts(&plate)));
+        place.words()[0] = 0;
+        DONE
+    }
+
+    fn answer_word(&mut self, runs: &mut [Run]) -> u64 {
+        let [plate, samples, metrics, decisions, word, counts, place] = runs else {
+            unreachable!("word has seven runs")
+        };
+        let samples = samples.samples();
+        let accepted = self.plate(plate.words()).and_then(|plate| {
+            decoding::refused(&plate, samples, metrics.metrics().len(), decisions.words().len())?;
+            Ok(plate)
+        });
+        let plate = match accepted {
+            Ok(plate) => plate,
+            Err(refusal) => return refused_at(refusal, place),
+        };
+        clear_rooms(&plate, metrics.metrics(), decisions.words());
+        word.words()[0] = decoding::decode(&plate, samples).word;
+        counts.words()[..2].copy_from_slice(&<[u64; 2]>::from(decoding::counts(&plate)));
+        place.words()[0] = 0;
+        DONE
+    }
+
     fn answer_firmness(&mut self, position: u64, runs: &mut [Run]) -> u64 {
         let [plate, samples, metrics, decisions, fixed, value, place] = runs else {
             unreachable!("firmness has seven runs")
@@ -143,10 +190,7 @@ impl Model {
         });
         let plate = match accepted {
             Ok(plate) => plate,
-            Err(refusal) => {
-                place.words()[0] = refusal.place;
-                return refusal.number;
-            }
+            Err(refusal) => return refused_at(refusal, place),
         };
         let reading = firmness::firmness(&plate, samples, position as usize);
         clear_rooms(&plate, metrics.metrics(), decisions.words());
@@ -180,10 +224,7 @@ fn answer_prepare(numbers: &[u64], rows: &mut Run, plate: &mut Run, place: &mut 
             place.words()[0] = 0;
             DONE
         }
-        Err(refusal) => {
-            place.words()[0] = refusal.place;
-            refusal.number
-        }
+        Err(refusal) => refused_at(refusal, place),
     }
 }
 

@@ -21,9 +21,11 @@ fn about(needed: usize) -> [usize; 5] {
 fn working_rooms(comparison: &mut Comparison, random: &mut Random, plate: &Plate) {
     let flat = plate.flat();
     for metrics in about(plate.metrics_needed()) {
+        comparison.agree(asked::metric(&flat, &samples(random, plate.n), metrics, FIXED));
         for decisions in about(plate.decisions_needed()) {
             let block = samples(random, plate.n);
             comparison.agree(asked::decode(&flat, &block, metrics, decisions, FIXED));
+            comparison.agree(asked::word(&flat, &block, metrics, decisions, FIXED));
             let position = random.below(plate.n) as u64;
             comparison.agree(asked::firmness(&flat, &block, position, metrics, decisions, FIXED));
         }
@@ -44,10 +46,17 @@ fn bad_samples(comparison: &mut Comparison, random: &mut Random, plate: &Plate) 
         comparison.agree(asked::decode(&flat, &block, metrics, decisions, FIXED));
         comparison.agree(asked::decode(&flat, &block, 0, decisions, FIXED));
         comparison.agree(asked::decode(&flat, &block, metrics, 0, FIXED));
+        for metrics in [metrics, 0] {
+            comparison.agree(asked::metric(&flat, &block, metrics, FIXED));
+            comparison.agree(asked::word(&flat, &block, metrics, 0, FIXED));
+            comparison.agree(asked::word(&flat, &block, metrics, decisions, FIXED));
+        }
         comparison.agree(asked::firmness(&flat, &block, place as u64, metrics, decisions, FIXED));
         comparison.agree(asked::firmness(&flat, &block, plate.n as u64, 0, 0, FIXED));
         block.push(value);
         comparison.agree(asked::decode(&flat, &block, 0, 0, FIXED));
+        comparison.agree(asked::metric(&flat, &block, 0, FIXED));
+        comparison.agree(asked::word(&flat, &block, 0, 0, FIXED));
         comparison.agree(asked::firmness(&flat, &block, u64::MAX, 0, 0, FIXED));
     }
 }
@@ -59,6 +68,8 @@ fn plain_samples(comparison: &mut Comparison, plate: &Plate) {
         for value in [2047, -2047, 0, 1, -1] {
             let (metrics, decisions) = (plate.metrics_needed(), plate.decisions_needed());
             comparison.agree(asked::decode(&flat, &vec![value; count], metrics, decisions, FIXED));
+            comparison.agree(asked::metric(&flat, &vec![value; count], metrics, FIXED));
+            comparison.agree(asked::word(&flat, &vec![value; count], metrics, decisions, FIXED));
         }
     }
 }
@@ -151,6 +162,10 @@ fn shapes(comparison: &mut Comparison, plate: &Plate) {
         comparison.agree(asked::read_back(&flat, 0, rooms));
         comparison.agree(asked::decode(&flat, &block, metrics, decisions, rooms));
         comparison.agree(asked::decode(&flat, &[300], 0, 0, rooms));
+        comparison.agree(asked::metric(&flat, &block, metrics, rooms));
+        comparison.agree(asked::metric(&flat, &[300], 0, rooms));
+        comparison.agree(asked::word(&flat, &block, metrics, decisions, rooms));
+        comparison.agree(asked::word(&flat, &[300], 0, 0, rooms));
         comparison.agree(asked::firmness(&flat, &block, 0, metrics, decisions, rooms));
         comparison.agree(asked::firmness(&flat, &[300], 64, 0, 0, rooms));
         comparison.agree(asked::write_plate(&flat, 256, rooms));

@@ -40,6 +40,8 @@ fn all_questions(comparison: &mut Comparison, plate: &Plate, flat: &[u64]) {
     }
     let (metrics, decisions) = (plate.metrics_needed(), plate.decisions_needed());
     for samples in all_samples(plate.n) {
+        comparison.agree(asked::metric(flat, &samples, metrics, FIXED));
+        comparison.agree(asked::word(flat, &samples, metrics, decisions, FIXED));
         for position in 0..=n {
             comparison.agree(asked::firmness(flat, &samples, position, metrics, decisions, FIXED));
         }

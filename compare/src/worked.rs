@@ -49,6 +49,11 @@ impl Checked<'_> {
         let mut left = self.expect(call, 0, Some((4, 0, word(answer))));
         assert_eq!(left.runs[5].metrics(), [metric]);
         assert_eq!(left.runs[6].words(), counts);
+        let mut left = self.expect(asked::metric(plate, samples, METRICS_MOST, FIXED), 0, None);
+        assert_eq!((left.runs[3].metrics()[0], left.runs[4].words().to_vec()), (metric, counts.to_vec()));
+        let call = asked::word(plate, samples, METRICS_MOST, DECISIONS_MOST, FIXED);
+        let mut left = self.expect(call, 0, Some((4, 0, word(answer))));
+        assert_eq!(left.runs[5].words(), counts);
     }
 
     /// The reading of a position: whether it is fixed, and its bit or margin.
@@ -105,6 +110,9 @@ impl Checked<'_> {
         let plate = self.plate(8, 0, &ROWS.map(word));
         for (metrics, decisions, reply) in [(15, 8, 8), (16, 7, 9), (16, 8, 0)] {
             self.expect(asked::decode(&plate, &SAMPLES, metrics, decisions, FIXED), reply, None);
+            self.expect(asked::word(&plate, &SAMPLES, metrics, decisions, FIXED), reply, None);
+            let reply = if reply == 9 { 0 } else { reply };
+            self.expect(asked::metric(&plate, &SAMPLES, metrics, FIXED), reply, None);
         }
         for (position, metrics, reply) in [(7, 16, 0), (8, 15, 21), (7, 15, 8)] {
             self.expect(asked::firmness(&plate, &SAMPLES, position, metrics, 8, FIXED), reply, None);

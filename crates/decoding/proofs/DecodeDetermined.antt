@@ -34,7 +34,7 @@ module _ (plate : Plate) (samples metrics : List ℤ) (decisions : List ℕ) whe
       go (inr (inl e)) = e
       go (inr (inr h)) = absurd (omega (arith, x .first (y .position) h, y .over))
 
-  single : Single (decodeConditions plate samples metrics decisions)
+  pub single : Single (decodeConditions plate samples metrics decisions)
   single = ((λ p q x y. x .1 ∙ sym (y .1)), ((λ p q x y. x .1 ∙ sym (y .1)), (sample-once, ((λ p q x y. x .1 ∙ sym (y .1)), ((λ p q x y. x .1 ∙ sym (y .1)), tt)))))
 
   -- neither of two words can be earlier than the other
@@ -52,7 +52,7 @@ module _ (plate : Plate) (samples metrics : List ℤ) (decisions : List ℕ) whe
       go (inr s) (inl e) = sym e
       go (inr s) (inr t) = absurd (not-both (a .word) (b .word) s t)
 
-  answer-same : (a b : Answer) → Best plate samples a → Best plate samples b → a ≡ b
+  pub answer-same : (a b : Answer) → Best plate samples a → Best plate samples b → a ≡ b
   answer-same a b x y =
       let e : a .word ≡ b .word = best-word-same a b x y in
       ap₂ (λ (w : ℕ) (m : ℤ). record { word = w; metric = m; counts = a .counts }) e (x .metric ∙ ap (metricOf samples) e ∙ sym (y .metric))

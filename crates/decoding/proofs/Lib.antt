@@ -45,6 +45,10 @@ pub mod PlateSizes
 pub mod ZeroedRooms
 pub mod DecodeCalls
 pub mod DecodeDetermined
+pub mod Undecided
+pub mod ApartCalls
+pub mod ApartDetermined
+pub mod ApartTogether
 pub mod Gathering
 pub mod Entries
 pub mod Storing

@@ -78,7 +78,7 @@ module _ (plate : Plate) (given : IsPrepared plate) where
     chain = plate-chain plate given;
     half-room = section-states;
     half-small = pow-mono widest-small;
-    words-room = λ t h. omega (arith, section-states t (omega arith), words-enough (widest plate));
+    words-room = λ w t h. omega (arith, section-states t (omega arith), words-enough (widest plate));
     words-small = words-few (widest plate) widest-small;
     end-state = omega (arith, section-agrees (rowsOf plate) (plate-spans plate given) (plate .n) .states, end);
     end-live = none-live-last (rowsOf plate) (plate .n) (plate-fits plate given);

@@ -37,13 +37,14 @@ swept-unforced {table} {z} {samples} {metrics} {metrics′} {decisions} {decisio
 module _ (table : List ℕ) (z : Sizes) (samples metrics : List ℤ) (decisions : List ℕ) (fit : SizesFit table z) (rooms : RoomsFit z samples metrics decisions)
     (ends : List ℕ) (ends-are : EndsAre (take (z .k) table) ends) (metrics′ : List ℤ) (decisions′ : List ℕ) (s : Standing)
     (w : SectionSwept table z samples 0 metrics decisions metrics′ decisions′ s) where
-  pub walk-fits : WalkFits table z ends samples decisions′
-  walk-fits = record {
+  pub walk-fits : 0 < z .words → WalkFits table z ends samples decisions′
+  walk-fits wanted = record {
     fit = fit;
+    wanted = wanted;
     ends-are = ends-are;
     size = rooms .size;
     room = omega (arith, rooms .decision-room, w .kept .decisions-size);
-    decision = λ t h i k. w .swept .decision t zero-le h i k;
+    decision = λ t h i k. w .swept .decision wanted t zero-le h i k;
   }
 
   first-side : (s .from ≡ 0) ⊎ (s .from ≡ z .half) → s .from ≤ z .half

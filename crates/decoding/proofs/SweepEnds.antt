@@ -57,7 +57,7 @@ module _ (table : List ℕ) (z : Sizes) (samples metrics : List ℤ) (decisions 
       side = inl refl;
       live = record { marks-are = sym (fit .end-live); next-is = sym (fit .all-begun) };
       metric = λ i h. only i (omega (arith, h, ap (λ (x : ℕ). 2 ^ x) (fit .end-state))) ∙ ap (λ (ys : List ℤ). best (sectionOf (take (z .k) table)) ys (z .n) i) (sym no-samples);
-      decision = λ u h k. absurd (omega arith);
+      decision = λ d u h k. absurd (omega arith);
       counts = ap (λ (ys : List ℤ). counted (sectionOf (take (z .k) table)) ys (z .n)) (sym no-samples);
     };
     kept = record {

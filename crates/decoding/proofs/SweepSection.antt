@@ -5,6 +5,7 @@ use lib.Seq.{drop-cons, getD-drop, length-take-le}
 use mathlib.Core.List.{_++_, List, _∷_}
 use mathlib.Core.Logic.{inl, inr, _⊎_}
 use mathlib.Core.Path.{ap, subst, sym, _∙_, _≡_}
+use native.Mathlib.Decide.{decLt}
 use native.Mathlib.Nat.{eq-or-lt-of-le, le-trans, mul-le-mul-left, mul-le-mul-right, suc-mul}
 use native.Mathlib.Omega.{arith}
 use Prim.Native.Nat.{_%_, _*_, _+_, _-_, _/_, _<_, _^_, suc, ℕ, _≤_}
@@ -71,6 +72,11 @@ module _ (table : List ℕ) (z : Sizes) (samples metrics : List ℤ) (decisions 
   part-size : length part ≡ z .words
   part-size = ap (λ (m : ℕ). length (take m (drop begin decisions))) width ∙ length-take-le (z .words) (drop begin decisions) (omega (arith, length-drop begin decisions, words-end t h))
 
+  -- the part has a bit for each state where decisions are wanted, and no word where they are not
+  part-wanted : Dec (0 < z .words) → (length part ≡ 0) ⊎ (2 ^ (sectionOf (take (z .k) table) t) .live ≤ length part * 64)
+  part-wanted (yes p) = inr (omega (arith, part-size, fit .words-room p t h))
+  part-wanted (no p) = inl (omega (arith, part-size, p))
+
   next : ℕ
   next = 2 ^ (sectionOf (take (z .k) table) (suc t)) .live
 
@@ -105,7 +111,7 @@ module _ (table : List ℕ) (z : Sizes) (samples metrics : List ℤ) (decisions 
         new-room = omega (arith, fit .half-room t (omega arith), rooms .metric-room);
         gain = omega (arith, rooms .within t (omega (arith, rooms .size)));
         small = λ i k. omega (arith, ap natAbs (w .metric i k), best-within sections gainLimit behind behind-within (suc t) i, mul-le-mul-left gainLimit behind-size);
-        wanted = inr (omega (arith, part-size, fit .words-room t h));
+        wanted = part-wanted (decLt 0 (z .words));
         additions = small-counts .0;
         comparisons = small-counts .1;
       }))
@@ -135,26 +141,26 @@ module _ (table : List ℕ) (z : Sizes) (samples metrics : List ℤ) (decisions 
     metric′ : (i : ℕ) → i < 2 ^ (sectionOf (take (z .k) table) t) .live → olds metrics′ (z .half - s .from) i ≡ best (sectionOf (take (z .k) table)) (drop t samples) t i
     metric′ i k = did .metric i k ∙ ap (λ (x : Taken). x .metric) (same-choice i k) ∙ ap (λ (ys : List ℤ). best sections ys t i) (sym samples-split)
 
-    here : (i : ℕ) → i < 2 ^ (sectionOf (take (z .k) table) t) .live → bit (getD decisions′ (begin + i / 64) 0) (i % 64) ≡ decided (sectionOf (take (z .k) table)) sample behind t i
-    here i k =
-        let q : i / 64 < begin + z .words - begin = omega (arith, width, fit .words-room t h) in
+    here : 0 < z .words → (i : ℕ) → i < 2 ^ (sectionOf (take (z .k) table) t) .live → bit (getD decisions′ (begin + i / 64) 0) (i % 64) ≡ decided (sectionOf (take (z .k) table)) sample behind t i
+    here p i k =
+        let q : i / 64 < begin + z .words - begin = omega (arith, width, fit .words-room p t h) in
         ap (λ (x : ℕ). bit x (i % 64)) (back-inside decisions part′ begin (begin + z .words - begin) size′ room′ 0 (i / 64) q)
         ∙ did .decision (omega (arith, part-size, q, width)) i k ∙ ap (λ (x : Taken). x .bit) (same-choice i k)
 
-    later : (u : ℕ) → suc t ≤ u → u < z .n → (i : ℕ) → i < 2 ^ (sectionOf (take (z .k) table) u) .live
+    later : 0 < z .words → (u : ℕ) → suc t ≤ u → u < z .n → (i : ℕ) → i < 2 ^ (sectionOf (take (z .k) table) u) .live
         → bit (getD decisions′ (u * z .words + i / 64) 0) (i % 64) ≡ decided (sectionOf (take (z .k) table)) (getD samples u (pos 0)) (drop (suc u) samples) u i
-    later u l m i k =
+    later p u l m i k =
         ap (λ (x : ℕ). bit x (i % 64)) (back-behind decisions part′ begin (begin + z .words - begin) size′ room′ 0 (u * z .words + i / 64) (omega (arith, width, mul-le-mul-right (z .words) l, suc-mul t (z .words))))
-        ∙ w .decision u l m i k
+        ∙ w .decision p u l m i k
 
-    decision′ : (u : ℕ) → t ≤ u → u < z .n → (i : ℕ) → i < 2 ^ (sectionOf (take (z .k) table) u) .live
+    decision′ : 0 < z .words → (u : ℕ) → t ≤ u → u < z .n → (i : ℕ) → i < 2 ^ (sectionOf (take (z .k) table) u) .live
         → bit (getD decisions′ (u * z .words + i / 64) 0) (i % 64) ≡ decided (sectionOf (take (z .k) table)) (getD samples u (pos 0)) (drop (suc u) samples) u i
-    decision′ u l m i k = go (eq-or-lt-of-le l)
+    decision′ p u l m i k = go (eq-or-lt-of-le l)
       where
         go : (t ≡ u) ⊎ (t < u) → bit (getD decisions′ (u * z .words + i / 64) 0) (i % 64) ≡ decided (sectionOf (take (z .k) table)) (getD samples u (pos 0)) (drop (suc u) samples) u i
         go (inl e) =
-            subst (λ (v : ℕ). (j : ℕ) → j < 2 ^ (sections v) .live → bit (getD decisions′ (v * z .words + j / 64) 0) (j % 64) ≡ decided sections (getD samples v (pos 0)) (drop (suc v) samples) v j) e here i k
-        go (inr g) = later u g m i k
+            subst (λ (v : ℕ). (j : ℕ) → j < 2 ^ (sections v) .live → bit (getD decisions′ (v * z .words + j / 64) 0) (j % 64) ≡ decided sections (getD samples v (pos 0)) (drop (suc v) samples) v j) e (here p) i k
+        go (inr g) = later p u g m i k
 
     counts′ : k′ ≡ counted (sectionOf (take (z .k) table)) (drop t samples) t
     counts′ =

@@ -35,6 +35,7 @@ module _ (table : List ℕ) (z : Sizes) (ends : List ℕ) (samples : List ℤ) (
   pub before-walk : (t : ℕ) → t < z .n → (w : Walk) → Walked (take (z .k) table) samples t w → BeforeWalk table z ends samples decisions t w
   before-walk t h w a = record {
     fit = f .fit;
+    wanted = f .wanted;
     ends-are = f .ends-are;
     depth = h;
     size = f .size;

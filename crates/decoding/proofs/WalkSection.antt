@@ -63,7 +63,7 @@ module _ (table : List ℕ) (z : Sizes) (ends : List ℕ) (samples : List ℤ) (
   pub decision-there : t * z .words + w .state / 64 < length decisions
   decision-there =
       let k : t * z .words + z .words ≤ length decisions = omega (arith, b .room, mul-le-mul-right (z .words) (b .depth), suc-mul t (z .words)) in
-      omega (arith, b .walked .state, b .fit .words-room t (b .depth))
+      omega (arith, b .walked .state, b .fit .words-room (b .wanted) t (b .depth))
 
   pub section-fits : SectionFits (sectionOf (take (z .k) table) t)
   section-fits = b .fit .chain .fits t (b .depth)

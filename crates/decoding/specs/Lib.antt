@@ -18,3 +18,4 @@ pub mod Picking
 pub mod Halves
 pub mod Forcing
 pub mod Firmness
+pub mod Apart

@@ -1,5 +1,5 @@
 -- What the parts of a decode find: the first sample outside the limit, and the best codeword.
-use Prim.Native.Nat.{ℕ, _≤_, _<_}
+use Prim.Native.Nat.{ℕ, _+_, _≤_, _<_}
 use lib.IntN.{ℤ, pos, natAbs}
 use lib.ListN.{length, getD, take}
 use mathlib.Core.Bool.{Bool, true, false}
@@ -7,6 +7,7 @@ use mathlib.Core.List.{List}
 use mathlib.Core.Path.{_≡_}
 use Rattle.trellises.specs.SectionOf.{sectionOf}
 use Rattle.decoding.specs.declared.Answer.{Answer}
+use Rattle.decoding.specs.declared.apart.Measure.{Measure}
 use Rattle.decoding.specs.declared.sweep.Sizes.{Sizes}
 use Rattle.decoding.specs.Backward.{best, counted, wordFrom}
 use Rattle.decoding.specs.Metric.{limit}
@@ -29,3 +30,10 @@ pub record Searched (table : List ℕ) (z : Sizes) (samples metrics : List ℤ) 
   pub metric : a .metric ≡ best (sectionOf (take (z .k) table)) samples 0 0
   pub counts : a .counts ≡ counted (sectionOf (take (z .k) table)) samples 0
   pub kept : Kept z metrics decisions metrics′ decisions′
+
+-- the best metric and the counts without decisions, and the metric room behind the needed places kept
+pub record MetricSearched (table : List ℕ) (z : Sizes) (samples metrics metrics′ : List ℤ) (m : Measure) : Type 0 where
+  pub metric : m .metric ≡ best (sectionOf (take (z .k) table)) samples 0 0
+  pub counts : m .counts ≡ counted (sectionOf (take (z .k) table)) samples 0
+  pub size : length metrics′ ≡ length metrics
+  pub rest : (i : ℕ) → z .half + z .half ≤ i → getD metrics′ i (pos 0) ≡ getD metrics i (pos 0)

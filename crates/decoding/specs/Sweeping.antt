@@ -15,18 +15,23 @@ use Rattle.decoding.specs.Backward.{Chain, best, counted, decided, wordF
 use Rattle.decoding.specs.LiveRows.{EndsAre, LiveAt, PlateRows, Taken, begunBefore, liveMarks}
 use Rattle.decoding.specs.Stepping.{gainLimit, olds}
 
--- the sizes of a decode fit its rows: half the metric room has a place for each state, and a section's decision words a bit for each
+-- the sizes of a decode fit its rows: half the metric room has a place for each state, and a section's decision words, where it has any,
+-- a bit for each; a section without decision words is one whose decisions are not wanted
 pub record SizesFit (table : List ℕ) (z : Sizes) : Type 0 where
   pub plate : PlateRows table (z .k)
   pub short : z .n ≤ 64
   pub chain : Chain (sectionOf (take (z .k) table)) (z .n)
   pub half-room : (t : ℕ) → t ≤ z .n → 2 ^ (sectionOf (take (z .k) table) t) .live ≤ z .half
   pub half-small : z .half ≤ 4096
-  pub words-room : (t : ℕ) → t < z .n → 2 ^ (sectionOf (take (z .k) table) t) .live ≤ z .words * 64
+  pub words-room : 0 < z .words → (t : ℕ) → t < z .n → 2 ^ (sectionOf (take (z .k) table) t) .live ≤ z .words * 64
   pub words-small : z .words ≤ 64
   pub end-state : (sectionOf (take (z .k) table) (z .n)) .live ≡ 0
   pub end-live : liveMarks (take (z .k) table) (z .n) ≡ 0
   pub all-begun : begunBefore (take (z .k) table) (z .n) ≡ z .k
+
+-- the same sizes where decisions are not wanted
+abbrev pub undecided : Sizes → Sizes
+undecided z = record { n = z .n; k = z .k; half = z .half; words = 0 }
 
 -- the gains with which the sections are taken: the samples, but at the forced position its own gain; beyond the samples nothing is forced
 abbrev pub forcedTo : List ℤ → Forced → List ℤ
@@ -39,13 +44,13 @@ pub record RoomsFit (z : Sizes) (samples metrics : List ℤ) (decisions : List �
   pub metric-room : z .half + z .half ≤ length metrics
   pub decision-room : z .n * z .words ≤ length decisions
 
--- what the sweep has when it has come to depth t: the best metrics of its states, the decisions of the sections from t on, the live rows,
--- and what was counted
+-- what the sweep has when it has come to depth t: the best metrics of its states, the decisions of the sections from t on where they are
+-- wanted, the live rows, and what was counted
 pub record Swept (rows : List ℕ) (z : Sizes) (samples : List ℤ) (t : ℕ) (metrics : List ℤ) (decisions : List ℕ) (s : Standing) : Type 0 where
   pub side : (s .from ≡ 0) ⊎ (s .from ≡ z .half)
   pub live : LiveAt rows t (s .live)
   pub metric : (i : ℕ) → i < 2 ^ (sectionOf rows t) .live → olds metrics (s .from) i ≡ best (sectionOf rows) (drop t samples) t i
-  pub decision : (u : ℕ) → t ≤ u → u < z .n → (i : ℕ) → i < 2 ^ (sectionOf rows u) .live
+  pub decision : 0 < z .words → (u : ℕ) → t ≤ u → u < z .n → (i : ℕ) → i < 2 ^ (sectionOf rows u) .live
       → bit (getD decisions (u * z .words + i / 64) 0) (i % 64) ≡ decided (sectionOf rows) (getD samples u (pos 0)) (drop (suc u) samples) u i
   pub counts : s .counts ≡ counted (sectionOf rows) (drop t samples) t
 
@@ -69,6 +74,7 @@ pub record Walked (rows : List ℕ) (samples : List ℤ) (t : ℕ) (w : Walk) : 
 -- what section t of the walk asks
 pub record BeforeWalk (table : List ℕ) (z : Sizes) (ends : List ℕ) (samples : List ℤ) (decisions : List ℕ) (t : ℕ) (w : Walk) : Type 0 where
   pub fit : SizesFit table z
+  pub wanted : 0 < z .words
   pub ends-are : EndsAre (take (z .k) table) ends
   pub depth : t < z .n
   pub size : length samples ≡ z .n
@@ -80,6 +86,7 @@ pub record BeforeWalk (table : List ℕ) (z : Sizes) (ends : List ℕ) (samples 
 -- what the whole walk asks: the decisions of every section
 pub record WalkFits (table : List ℕ) (z : Sizes) (ends : List ℕ) (samples : List ℤ) (decisions : List ℕ) : Type 0 where
   pub fit : SizesFit table z
+  pub wanted : 0 < z .words
   pub ends-are : EndsAre (take (z .k) table) ends
   pub size : length samples ≡ z .n
   pub room : z .n * z .words ≤ length decisions

@@ -8,6 +8,7 @@ use plates::Plate;
 use plates::Refusal;
 ghost use Rattle.decoding.specs.Decode.{Decodes};
 
+pub mod apart;
 mod blocks;
 mod choices;
 pub mod firmness;

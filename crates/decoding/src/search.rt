@@ -1,13 +1,17 @@
-// The best codeword of a plate, before the rooms are put to zero.
+// The best codeword of a plate, or its metric alone, before the rooms are put to zero.
 use crate::Answer;
+use crate::apart::Measure;
 use crate::live::ending_rows;
 use crate::sweep::Forced;
 use crate::sweep::Sizes;
 use crate::sweep::sweep;
 use crate::walk::read_off;
-ghost use Rattle.decoding.specs.Searching.{Searched};
-ghost use Rattle.decoding.specs.Sweeping.{RoomsFit, SizesFit};
+ghost use mathlib.Core.List.{[]};
+ghost use Prim.Native.Nat.{_<_};
+ghost use Rattle.decoding.specs.Searching.{MetricSearched, Searched};
+ghost use Rattle.decoding.specs.Sweeping.{RoomsFit, SizesFit, undecided};
 
+// The best codeword, its metric and what was counted; decisions are wanted.
 pub fn search(
     rows: &[u64; 64],
     sizes: Sizes,
@@ -17,6 +21,7 @@ pub fn search(
 ) -> Answer
     requires { ⌜ SizesFit (now rows) sizes ⌝ }
     requires { ⌜ RoomsFit sizes (now samples) (now metrics) (now decisions) ⌝ }
+    requires { ⌜ 0 < sizes .words ⌝ }
     ensures { λ r. ⌜ Searched (now (rows .entry)) sizes (now (samples .entry)) (now (metrics .entry)) (now (decisions .entry)) (now (metrics .exit)) (now (decisions .exit)) r ⌝ }
 {
     let ends = ending_rows(rows, sizes.k);
@@ -42,4 +47,42 @@ pub fn search(
         metric,
         counts,
     }
+}
+
+// The best metric and what was counted; decisions are not wanted, and none are kept.
+pub fn search_metric(
+    rows: &[u64; 64],
+    sizes: Sizes,
+    samples: &[i16],
+    metrics: &mut [i32],
+) -> Measure
+    requires { ⌜ SizesFit (now rows) sizes ⌝ }
+    requires { ⌜ RoomsFit (undecided sizes) (now samples) (now metrics) [] ⌝ }
+    ensures { λ r. ⌜ MetricSearched (now (rows .entry)) sizes (now (samples .entry)) (now (metrics .entry)) (now (metrics .exit)) r ⌝ }
+{
+    let ends = ending_rows(rows, sizes.k);
+    let undecided = Sizes {
+        n: sizes.n,
+        k: sizes.k,
+        half: sizes.half,
+        words: 0,
+    };
+    let none = Forced {
+        position: sizes.n,
+        gain: 0,
+    };
+    let mut decisions = [0u64; 0];
+    let at = sweep(
+        rows,
+        undecided,
+        &ends,
+        samples,
+        none,
+        &mut *metrics,
+        &mut decisions,
+    );
+    let from = at.from;
+    let metric = metrics[from];
+    let counts = at.counts;
+    Measure { metric, counts }
 }

@@ -42,7 +42,7 @@ use Rattle.coding.specs.declared.ReadBack.the-variants as R
 use Rattle.decoding.specs.declared.Decoded.the-variants as D
 
 -- the number of a condition's refusal
-its-number : {Holds : Type 0} {refusal : Refusal} (q : Refusal) → Holds × (q ≡ refusal) → number q ≡ number refusal
+pub its-number : {Holds : Type 0} {refusal : Refusal} (q : Refusal) → Holds × (q ≡ refusal) → number q ≡ number refusal
 its-number q c = ap number (c .1)
 
 -- it has no other

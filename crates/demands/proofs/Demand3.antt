@@ -4,23 +4,19 @@
 use lib.IntN.{ℤ}
 use lib.ListN.{length}
 use mathlib.Core.List.{List}
-use mathlib.Core.Path.{ap, refl, subst, sym, _∙_, _≡_}
-use native.Mathlib.Decide.{ℕ-discrete}
+use mathlib.Core.Path.{_≡_}
 use Prim.Native.Nat.{_+_, _<_, ℕ, _≤_}
-use Rattle.decoding.proofs.BranchesCounted.{additions-are-branches, additions-formula, comparisons-are-entering-less-one, comparisons-formula}
 use Rattle.decoding.specs.Backward.{counted}
 use Rattle.decoding.specs.declared.Answer.{Answer}
-use Rattle.decoding.specs.declared.Counts.{Counts}
 use Rattle.decoding.specs.declared.Decoded.the-variants.{Found}
 use Rattle.decoding.specs.Decode.{Decodes}
 use Rattle.decoding.specs.Totals.{branchTotal, doubledTotal, enteringLessOne, stateTotal}
+use Rattle.demands.proofs.StepCounts.{samples-are-n, steps-additions, steps-additions-formula, steps-comparisons, steps-comparisons-formula}
 use Rattle.plates.specs.Code.{InCode}
 use Rattle.plates.specs.declared.Kind.{Kind}
 use Rattle.plates.specs.declared.Prepared.{Prepared}
-use Rattle.plates.specs.declared.Refusal.the-variants.{SampleCount}
 use Rattle.plates.specs.declared.Verdict.the-variants.{Accepted}
-use Rattle.plates.specs.Prepare.{IsPrepared, Prepares, rowsOf}
-use Rattle.trellises.proofs.AcceptedIsPrepared.{accepted-length, accepted-prepared}
+use Rattle.plates.specs.Prepare.{Prepares, rowsOf}
 use Rattle.trellises.proofs.PlateTrellis.{matrix-smallest}
 use Rattle.trellises.specs.Branching.{trellisOf}
 use Rattle.trellises.specs.Graph.{Branch, Graph, Spells}
@@ -49,15 +45,8 @@ module _ (n : ℕ) (kind : Kind) (rows : List ℕ) (r : Prepared) (p : Prepares 
 
   module _ (samples metrics metrics′ : List ℤ) (decisions decisions′ : List ℕ) (a : Answer)
       (d : Decodes (r .plate) samples metrics decisions metrics′ decisions′ (Found a)) where
-    given : IsPrepared (r .plate)
-    given = accepted-prepared n kind rows r p e
-
     size : length samples ≡ r .plate .n
-    size = go (ℕ-discrete (length samples) (r .plate .n))
-      where
-        go : Dec (length samples ≡ r .plate .n) → length samples ≡ r .plate .n
-        go (yes x) = x
-        go (no x) = absurd (d .0 .1 .0 SampleCount (x, refl))
+    size = samples-are-n (r .plate) samples (d .0 .1 .0)
 
     -- they are what the steps counted, one section after the other
     pub counts-are-of-steps : a .counts ≡ counted (sectionOf (rowsOf (r .plate))) samples 0
@@ -65,26 +54,16 @@ module _ (n : ℕ) (kind : Kind) (rows : List ℕ) (r : Prepared) (p : Prepares 
 
     -- one addition for each branch
     pub addition-for-each-branch : a .counts .additions ≡ branchTotal (trellisOf (r .plate)) n
-    addition-for-each-branch =
-        ap (λ (k : Counts). k .additions) counts-are-of-steps
-        ∙ additions-are-branches (r .plate) given samples size ∙ ap (branchTotal (trellisOf (r .plate))) (accepted-length n kind rows r p e)
+    addition-for-each-branch = steps-additions n kind rows r p e samples size (a .counts) counts-are-of-steps
 
     -- for each state past the start one comparison fewer than the branches entering it
     pub comparison-for-each-entering-less-one : a .counts .comparisons ≡ enteringLessOne (trellisOf (r .plate)) n
-    comparison-for-each-entering-less-one =
-        ap (λ (k : Counts). k .comparisons) counts-are-of-steps
-        ∙ comparisons-are-entering-less-one (r .plate) given samples size
-        ∙ ap (enteringLessOne (trellisOf (r .plate))) (accepted-length n kind rows r p e)
+    comparison-for-each-entering-less-one = steps-comparisons n kind rows r p e samples size (a .counts) counts-are-of-steps
 
     -- as the paper's formulas say: additions are the sum of 2 ^ s(t) over t from 0 to n - 1, doubled where a row begins at t
     pub additions-by-formula : a .counts .additions ≡ doubledTotal (rowsOf (r .plate)) n
-    additions-by-formula =
-        ap (λ (k : Counts). k .additions) counts-are-of-steps
-        ∙ additions-formula (r .plate) given samples size ∙ ap (doubledTotal (rowsOf (r .plate))) (accepted-length n kind rows r p e)
+    additions-by-formula = steps-additions-formula n kind rows r p e samples size (a .counts) counts-are-of-steps
 
     -- and comparisons are additions less the sum of 2 ^ s(t) for t from 1 to n
     pub comparisons-by-formula : a .counts .comparisons + stateTotal (rowsOf (r .plate)) n ≡ a .counts .additions
-    comparisons-by-formula =
-        subst (λ (m : ℕ). a .counts .comparisons + stateTotal (rowsOf (r .plate)) m ≡ a .counts .additions) (accepted-length n kind rows r p e)
-        (subst (λ (k : Counts). k .comparisons + stateTotal (rowsOf (r .plate)) (r .plate .n) ≡ k .additions) (sym counts-are-of-steps)
-        (comparisons-formula (r .plate) given samples size))
+    comparisons-by-formula = steps-comparisons-formula n kind rows r p e samples size (a .counts) counts-are-of-steps

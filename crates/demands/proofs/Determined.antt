@@ -8,8 +8,12 @@ use Rattle.coding.proofs.CodingDetermined.{encode-determined, read-back-determi
 use Rattle.coding.specs.Coding.{Encodes, ReadsBack}
 use Rattle.coding.specs.declared.Encoded.{Encoded}
 use Rattle.coding.specs.declared.ReadBack.{ReadBack}
+use Rattle.decoding.proofs.ApartDetermined.{metric-determined, word-determined}
 use Rattle.decoding.proofs.DecodeDetermined.{decode-determined}
 use Rattle.decoding.proofs.FirmnessDetermined.{firmness-determined}
+use Rattle.decoding.specs.Apart.{Chooses, Measures}
+use Rattle.decoding.specs.declared.apart.Chosen.{Chosen}
+use Rattle.decoding.specs.declared.apart.Measured.{Measured}
 use Rattle.decoding.specs.declared.Decoded.{Decoded}
 use Rattle.decoding.specs.declared.firmness.Judged.{Judged}
 use Rattle.decoding.specs.Decode.{Decodes}
@@ -106,6 +110,16 @@ read-back = read-back-determined
 pub decode : (plate : Plate) (samples metrics : List ℤ) (decisions : List ℕ) (r s : Decoded) (m n : List ℤ) (d e : List ℕ)
     → Decodes plate samples metrics decisions m d r → Decodes plate samples metrics decisions n e s → (r ≡ s) × (m ≡ n) × (d ≡ e)
 decode = decode-determined
+
+-- the metric without the word, with its room
+pub best-metric : (plate : Plate) (samples metrics : List ℤ) (r s : Measured) (m n : List ℤ)
+    → Measures plate samples metrics m r → Measures plate samples metrics n s → (r ≡ s) × (m ≡ n)
+best-metric = metric-determined
+
+-- the word without its metric, with both rooms
+pub best-word : (plate : Plate) (samples metrics : List ℤ) (decisions : List ℕ) (r s : Chosen) (m n : List ℤ) (d e : List ℕ)
+    → Chooses plate samples metrics decisions m d r → Chooses plate samples metrics decisions n e s → (r ≡ s) × (m ≡ n) × (d ≡ e)
+best-word = word-determined
 
 -- a position judged, with both rooms
 pub firmness : (plate : Plate) (samples : List ℤ) (position : ℕ) (metrics : List ℤ) (decisions : List ℕ) (r s : Judged) (m n : List ℤ) (d e : List ℕ)

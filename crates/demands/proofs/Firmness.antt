@@ -16,6 +16,7 @@ use Rattle.decoding.specs.declared.firmness.Judged.the-variants.{Found, Refused
 use Rattle.decoding.specs.Decode.{Decodes, decisionNeed, metricNeed}
 use Rattle.decoding.specs.Firmness.{Always, Judges, Margin, firmnessConditions, isFixed, value}
 use Rattle.decoding.specs.Metric.{limit}
+use Rattle.demands.proofs.Demand1.{its-number}
 use Rattle.demands.specs.Refusing.{Numbered, RefusesExactly}
 use Rattle.plates.proofs.Refusing.{never-both}
 use Rattle.plates.specs.declared.Plate.{Plate}
@@ -24,10 +25,6 @@ use Rattle.plates.specs.Prepare.{IsPrepared}
 use Rattle.plates.specs.Refusals.{Passes, number}
 use Rattle.words.specs.Word.{bit}
 use Rattle.decoding.specs.declared.Decoded.the-variants as D
-
--- the number of a condition's refusal
-its-number : {Holds : Type 0} {refusal : Refusal} (q : Refusal) → Holds × (q ≡ refusal) → number q ≡ number refusal
-its-number q c = ap number (c .1)
 
 module _ (plate : Plate) (samples : List ℤ) (position : ℕ) (metrics : List ℤ) (decisions : List ℕ) where
   -- the conditions, in order

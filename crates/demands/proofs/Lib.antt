@@ -1,8 +1,10 @@
 pub mod Demand1
 pub mod Demand2
+pub mod StepCounts
 pub mod Demand3
 pub mod Determined
 pub mod Firmness
+pub mod Apart
 pub mod Checking
 pub mod CodeWords
 pub mod PlatesChecked

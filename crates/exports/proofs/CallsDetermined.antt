@@ -5,14 +5,18 @@ use mathlib.Core.Logic.{inl, inr, _⊎_}
 use mathlib.Core.Path.{ap, ap₂, sym, _∙_, _≡_}
 use Prim.Native.Nat.{ℕ}
 use Rattle.coding.proofs.CodingDetermined.{encode-determined, read-back-determined}
+use Rattle.decoding.proofs.ApartDetermined.{metric-determined, word-determined}
 use Rattle.decoding.proofs.DecodeDetermined.{decode-determined}
 use Rattle.decoding.proofs.FirmnessDetermined.{firmness-determined}
+use Rattle.decoding.specs.declared.apart.Chosen.{Chosen}
+use Rattle.decoding.specs.declared.apart.Measured.{Measured}
 use Rattle.decoding.specs.declared.Decoded.{Decoded}
 use Rattle.decoding.specs.declared.firmness.Judged.{Judged}
 use Rattle.exports.specs.Calls.{Calls, Crossing, Replies, misshapen}
 use Rattle.exports.specs.Crossing.{DecodeCells, Decoding, Listing, ListingCells, Writing, listingCells}
 use Rattle.exports.specs.Flat.{plateOf}
 use Rattle.exports.specs.Judging.{CallsFirmness, FirmnessCells, Judging, JudgesTo}
+use Rattle.exports.specs.Parting.{CallsMetric, CallsWord, Choosing, ChoosesTo, Measuring, MeasuresTo, MetricCells, WordCells}
 use Rattle.exports.specs.Promises.{CallsBranch, CallsDecode, CallsEncode, CallsListing, CallsPrepare, CallsReadBack, CallsWrite, CallsWriteEnd, CallsWritePlate, CallsWriteProfile, CallsWriteRefused, CallsWriteWord, DecodesTo, kindOf}
 use Rattle.listings.proofs.Determined.{write-end-determined, write-plate-determined, write-profile-determined, write-refused-determined, write-word-determined}
 use Rattle.listings.specs.declared.Written.{Written}
@@ -69,6 +73,25 @@ decode-call-determined words samples lent a b r s = calls-determined one
     one x y p q =
         let same = decode-determined (plateOf words) samples (lent .metrics) (lent .decisions) (x .reply) (y .reply) (x .metrics) (y .metrics) (x .decisions) (y .decisions) p q in
         ap₂ (λ (u : Decoded) (m : List ℤ). record { reply = u; metrics = m; decisions = x .decisions }) (same .0) (same .1)
+        ∙ ap (λ (d : List ℕ). record { reply = y .reply; metrics = y .metrics; decisions = d }) (same .2)
+
+pub metric-call-determined : (words : List ℕ) (samples : List ℤ) (lent a b : MetricCells) (r s : ℕ) → CallsMetric words samples lent r a → CallsMetric words samples lent s b
+    → _≡_ {A = Crossing MetricCells} (record { code = r; cells = a }) (record { code = s; cells = b })
+metric-call-determined words samples lent a b r s = calls-determined one
+  where
+    one : (x y : Measuring) → MeasuresTo (plateOf words) samples lent x → MeasuresTo (plateOf words) samples lent y → x ≡ y
+    one x y p q =
+        let same = metric-determined (plateOf words) samples (lent .metrics) (x .reply) (y .reply) (x .metrics) (y .metrics) p q in
+        ap₂ (λ (u : Measured) (m : List ℤ). record { reply = u; metrics = m }) (same .0) (same .1)
+
+pub word-call-determined : (words : List ℕ) (samples : List ℤ) (lent a b : WordCells) (r s : ℕ) → CallsWord words samples lent r a → CallsWord words samples lent s b
+    → _≡_ {A = Crossing WordCells} (record { code = r; cells = a }) (record { code = s; cells = b })
+word-call-determined words samples lent a b r s = calls-determined one
+  where
+    one : (x y : Choosing) → ChoosesTo (plateOf words) samples lent x → ChoosesTo (plateOf words) samples lent y → x ≡ y
+    one x y p q =
+        let same = word-determined (plateOf words) samples (lent .metrics) (lent .decisions) (x .reply) (y .reply) (x .metrics) (y .metrics) (x .decisions) (y .decisions) p q in
+        ap₂ (λ (u : Chosen) (m : List ℤ). record { reply = u; metrics = m; decisions = x .decisions }) (same .0) (same .1)
         ∙ ap (λ (d : List ℕ). record { reply = y .reply; metrics = y .metrics; decisions = d }) (same .2)
 
 pub firmness-call-determined : (words : List ℕ) (samples : List ℤ) (position : ℕ) (lent a b : FirmnessCells) (r s : ℕ) → CallsFirmness words samples position lent r a

@@ -4,5 +4,6 @@ pub mod PromisesCarried
 pub mod CallsMade
 pub mod DecodeCrossed
 pub mod FirmnessCrossed
+pub mod PartsCrossed
 pub mod ReadingCells
 pub mod CallsDetermined

@@ -7,6 +7,9 @@ use Prim.Native.Nat.{ℕ}
 use Rattle.coding.specs.Coding.{Encodes, ReadsBack}
 use Rattle.coding.specs.declared.Encoded.{Encoded}
 use Rattle.coding.specs.declared.ReadBack.{ReadBack}
+use Rattle.decoding.specs.Apart.{Chooses, Measures}
+use Rattle.decoding.specs.declared.apart.Chosen.{Chosen}
+use Rattle.decoding.specs.declared.apart.Measured.{Measured}
 use Rattle.decoding.specs.declared.Decoded.{Decoded}
 use Rattle.decoding.specs.declared.firmness.Judged.{Judged}
 use Rattle.decoding.specs.Decode.{Decodes}
@@ -22,6 +25,8 @@ use Rattle.trellises.specs.Branching.{Branches}
 use Rattle.trellises.specs.declared.Next.{Next}
 use Rattle.coding.specs.declared.Encoded.the-variants as E
 use Rattle.coding.specs.declared.ReadBack.the-variants as R
+use Rattle.decoding.specs.declared.apart.Chosen.the-variants as C
+use Rattle.decoding.specs.declared.apart.Measured.the-variants as M
 use Rattle.decoding.specs.declared.Decoded.the-variants as D
 use Rattle.decoding.specs.declared.firmness.Judged.the-variants as J
 use Rattle.listings.specs.declared.Written.the-variants as W
@@ -85,6 +90,22 @@ module _ {words : List ℕ} {plate : Plate} (stands : StandsFor words plate) whe
           → Judges plate samples position metrics decisions metrics′ decisions′ x → Judges (plateOf words) samples position metrics decisions metrics′ decisions′ x
       go (J.Found flag) na nb h = absurd (never-passes na (h .0))
       go (J.Refused q) na nb h = (refuses-still na nb (h .0), h .1, h .2)
+
+  pub metric-carried : (samples metrics metrics′ : List ℤ) (r : Measured) → Measures plate samples metrics metrics′ r → Measures (plateOf words) samples metrics metrics′ r
+  metric-carried samples metrics metrics′ r = carried (λ (p : Plate). Measures p samples metrics metrics′ r) (go r)
+    where
+      go : (x : Measured) → (IsPrepared plate → ⊥) → (IsPrepared (plateOf words) → ⊥) → Measures plate samples metrics metrics′ x → Measures (plateOf words) samples metrics metrics′ x
+      go (M.Found m) na nb h = absurd (never-passes na (h .0))
+      go (M.Refused q) na nb h = (refuses-still na nb (h .0), h .1)
+
+  pub word-carried : (samples metrics metrics′ : List ℤ) (decisions decisions′ : List ℕ) (r : Chosen)
+      → Chooses plate samples metrics decisions metrics′ decisions′ r → Chooses (plateOf words) samples metrics decisions metrics′ decisions′ r
+  word-carried samples metrics metrics′ decisions decisions′ r = carried (λ (p : Plate). Chooses p samples metrics decisions metrics′ decisions′ r) (go r)
+    where
+      go : (x : Chosen) → (IsPrepared plate → ⊥) → (IsPrepared (plateOf words) → ⊥)
+          → Chooses plate samples metrics decisions metrics′ decisions′ x → Chooses (plateOf words) samples metrics decisions metrics′ decisions′ x
+      go (C.Found c) na nb h = absurd (never-passes na (h .0))
+      go (C.Refused q) na nb h = (refuses-still na nb (h .0), h .1, h .2)
 
   -- a line that is made from the plate
   pub write-carried : (line : Plate → List ℕ) (room room′ : List ℕ) (r : Written)

@@ -7,6 +7,7 @@ use Prim.Native.Nat.{ℕ}
 use Rattle.coding.specs.declared.Encoded.{Encoded}
 use Rattle.coding.specs.declared.ReadBack.{ReadBack}
 use Rattle.decoding.specs.declared.Answer.{Answer}
+use Rattle.decoding.specs.declared.Counts.{Counts}
 use Rattle.decoding.specs.declared.Decoded.{Decoded}
 use Rattle.exports.specs.Calls.{Crossing, done, noBranch}
 use Rattle.exports.specs.Flat.{flat}
@@ -48,6 +49,10 @@ abbrev pub readBack : List ℕ → ReadBack → Crossing (List ℕ)
 readBack cell (R.Information information) = record { code = done; cells = set cell 0 information }
 readBack cell (R.Refused q) = record { code = number q; cells = cell }
 
+-- the two counts stand in the first two cells
+abbrev pub countsPut : List ℕ → Counts → List ℕ
+countsPut cells k = set (set cells 0 (k .additions)) 1 (k .comparisons)
+
 -- the cells that are lent to decode
 pub record DecodeCells : Type 0 where
   pub metrics : List ℤ
@@ -72,7 +77,7 @@ decodedAs lent metrics decisions (D.Found a) = record {
     decisions = decisions;
     word = set (lent .word) 0 (a .word);
     metric = set (lent .metric) 0 (a .metric);
-    counts = set (set (lent .counts) 0 (a .counts .additions)) 1 (a .counts .comparisons);
+    counts = countsPut (lent .counts) (a .counts);
     at = set (lent .at) 0 0;
   };
 }
@@ -113,7 +118,7 @@ LengthPut reply cell r cell′ =
 pub record AnswerPut (a : Answer) (word : List ℕ) (metric : List ℤ) (counts : List ℕ) (word′ : List ℕ) (metric′ : List ℤ) (counts′ : List ℕ) : Type 0 where
   pub word-is : word′ ≡ set word 0 (a .word)
   pub metric-is : metric′ ≡ set metric 0 (a .metric)
-  pub counts-are : counts′ ≡ set (set counts 0 (a .counts .additions)) 1 (a .counts .comparisons)
+  pub counts-are : counts′ ≡ countsPut counts (a .counts)
 
 -- ---- a whole listing
 

@@ -3,3 +3,4 @@ pub mod Calls
 pub mod Crossing
 pub mod Promises
 pub mod Judging
+pub mod Parting

@@ -1,4 +1,4 @@
--- The promises of the calls, but for firmness (Judging): the fixed shape, the promise of the call below, and how its reply crosses.
+-- The promises of the calls, but for firmness (Judging), the metric and the word (Parting): the fixed shape, the promise of the call below, and how its reply crosses.
 use lib.IntN.{ℤ}
 use lib.ListN.{length}
 use mathlib.Core.Bool.{Bool, false, true}

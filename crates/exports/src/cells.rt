@@ -3,10 +3,14 @@ ghost use mathlib.Core.Path.{_≡_};
 ghost use Prim.Native.Nat.{_≤_};
 ghost use lib.ListN.{length};
 ghost use Rattle.exports.specs.Calls.{RefusedAt};
-ghost use Rattle.exports.specs.Crossing.{AnswerPut, LengthPut};
+ghost use Rattle.exports.specs.Crossing.{AnswerPut, LengthPut, countsPut};
 ghost use Rattle.exports.specs.Judging.{FirmnessTested, FixedFits, ReadingPut};
+ghost use Rattle.exports.specs.Parting.{MeasurePut, PartTested, SelectionPut};
 ghost use Rattle.exports.specs.Promises.{ShapeTested, kindOf};
 use decoding::Answer;
+use decoding::Counts;
+use decoding::apart::Measure;
+use decoding::apart::Selection;
 use decoding::firmness::Flag;
 use decoding::firmness::Reading;
 use listings::Written;
@@ -51,6 +55,22 @@ pub fn decode_shaped(plate: usize, word: usize, metric: usize, counts: usize, at
     1 <= at
 }
 
+// Whether the runs that are lent to the metric call, or to the word call, are long enough for their fixed use.
+pub fn part_shaped(plate: usize, best: usize, counts: usize, at: usize) -> bool
+    ensures { λ r. ⌜ PartTested plate best counts at r ⌝ }
+{
+    if plate < 131 {
+        return false;
+    }
+    if best < 1 {
+        return false;
+    }
+    if counts < 2 {
+        return false;
+    }
+    1 <= at
+}
+
 // Whether the runs that are lent to firmness are long enough for their fixed use.
 pub fn firmness_shaped(plate: usize, fixed: usize, value: usize, at: usize) -> bool
     ensures { λ r. ⌜ FirmnessTested plate fixed value at r ⌝ }
@@ -67,17 +87,43 @@ pub fn firmness_shaped(plate: usize, fixed: usize, value: usize, at: usize) -> b
     1 <= at
 }
 
+// The two counts into the first two cells.
+fn put_counts(counted: Counts, counts: &mut [u64])
+    requires { ⌜ 2 ≤ length (now counts) ⌝ }
+    ensures { λ _. ⌜ now (counts .exit) ≡ countsPut (now (counts .entry)) counted ⌝ }
+{
+    counts[0] = counted.additions;
+    counts[1] = counted.comparisons;
+}
+
 // The answer of decoding into its cells.
 pub fn put_answer(answer: Answer, word: &mut [u64], metric: &mut [i32], counts: &mut [u64])
     requires { ⌜ (1 ≤ length (now word)) × (1 ≤ length (now metric)) × (2 ≤ length (now counts)) ⌝ }
     ensures { λ _. ⌜ AnswerPut answer (now (word .entry)) (now (metric .entry)) (now (counts .entry)) (now (word .exit)) (now (metric .exit)) (now (counts .exit)) ⌝ }
 {
     let best = answer.metric;
-    let counted = answer.counts;
     word[0] = answer.word;
     metric[0] = best;
-    counts[0] = counted.additions;
-    counts[1] = counted.comparisons;
+    put_counts(answer.counts, counts);
+}
+
+// The best metric and what was counted, into their cells.
+pub fn put_measure(measure: Measure, metric: &mut [i32], counts: &mut [u64])
+    requires { ⌜ (1 ≤ length (now metric)) × (2 ≤ length (now counts)) ⌝ }
+    ensures { λ _. ⌜ MeasurePut measure (now (metric .entry)) (now (counts .entry)) (now (metric .exit)) (now (counts .exit)) ⌝ }
+{
+    let best = measure.metric;
+    metric[0] = best;
+    put_counts(measure.counts, counts);
+}
+
+// The best word and what was counted, into their cells.
+pub fn put_selection(selection: Selection, word: &mut [u64], counts: &mut [u64])
+    requires { ⌜ (1 ≤ length (now word)) × (2 ≤ length (now counts)) ⌝ }
+    ensures { λ _. ⌜ SelectionPut selection (now (word .entry)) (now (counts .entry)) (now (word .exit)) (now (counts .exit)) ⌝ }
+{
+    word[0] = selection.word;
+    put_counts(selection.counts, counts);
 }
 
 // A reading into its cells: 1 where it is fixed and 0 where it is open, and its bit or its margin.

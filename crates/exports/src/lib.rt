@@ -1,16 +1,15 @@
-// The C interface, as include/yendrufal.h has it. No call asks anything of its caller: a run that is too short for its fixed use is answered by 101.
-ghost use Rattle.exports.specs.Judging.{CallsFirmness, firmnessCells};
-ghost use Rattle.exports.specs.Promises.{CallsBranch, CallsDecode, CallsEncode, CallsListing, CallsPrepare, CallsReadBack, CallsWriteEnd, CallsWritePlate, CallsWriteProfile, CallsWriteRefused, CallsWriteWord, decodeCells};
+// The C interface: the calls of the crates below over numbers and slices, as include/yendrufal.h has them. A plate crosses as a flat
+// run of words. No call asks anything of its caller: a run that is too short for its fixed use is answered by 101.
+ghost use Rattle.exports.specs.Promises.{CallsBranch, CallsEncode, CallsListing, CallsPrepare, CallsReadBack, CallsWriteEnd, CallsWritePlate, CallsWriteProfile, CallsWriteRefused, CallsWriteWord};
 ghost use Rattle.reports.specs.Remaining.{rooms};
 use coding::Encoded;
 use coding::ReadBack;
-use decoding::Decoded;
-use decoding::firmness::Judged;
 use plates::Verdict;
 use trellises::Next;
 
 mod cells;
 mod flat;
+mod receiving;
 
 // The reply where a run is too short for its fixed use, or the kind is neither G nor H.
 const MISSHAPEN: u64 = 101;
@@ -114,72 +113,6 @@ pub extern "C" fn yendrufal_read_back(plate: &[u64], word: u64, information: &mu
             0
         }
         ReadBack::Refused(refusal) => plates::refusal_number(refusal),
-    }
-}
-
-// The codeword of greatest metric.
-#[no_mangle]
-pub extern "C" fn yendrufal_decode(
-    plate: &[u64],
-    samples: &[i16],
-    metrics: &mut [i32],
-    decisions: &mut [u64],
-    word: &mut [u64],
-    metric: &mut [i32],
-    counts: &mut [u64],
-    at: &mut [u64],
-) -> u64
-    ensures { λ r. ⌜ CallsDecode (now (plate .entry)) (now (samples .entry)) (decodeCells (now (metrics .entry)) (now (decisions .entry)) (now (word .entry)) (now (metric .entry)) (now (counts .entry)) (now (at .entry))) r (decodeCells (now (metrics .exit)) (now (decisions .exit)) (now (word .exit)) (now (metric .exit)) (now (counts .exit)) (now (at .exit))) ⌝ }
-{
-    if !cells::decode_shaped(
-        plate.len(),
-        word.len(),
-        metric.len(),
-        counts.len(),
-        at.len(),
-    ) {
-        return MISSHAPEN;
-    }
-    match decoding::decode(flat::plate_of(plate), samples, metrics, decisions) {
-        Decoded::Found(answer) => {
-            cells::put_answer(answer, word, metric, counts);
-            at[0] = 0;
-            0
-        }
-        Decoded::Refused(refusal) => cells::refused_at(refusal, at),
-    }
-}
-
-// How firmly a position was received.
-#[no_mangle]
-pub extern "C" fn yendrufal_firmness(
-    plate: &[u64],
-    samples: &[i16],
-    position: u64,
-    metrics: &mut [i32],
-    decisions: &mut [u64],
-    fixed: &mut [u64],
-    value: &mut [i32],
-    at: &mut [u64],
-) -> u64
-    ensures { λ r. ⌜ CallsFirmness (now (plate .entry)) (now (samples .entry)) position (firmnessCells (now (metrics .entry)) (now (decisions .entry)) (now (fixed .entry)) (now (value .entry)) (now (at .entry))) r (firmnessCells (now (metrics .exit)) (now (decisions .exit)) (now (fixed .exit)) (now (value .exit)) (now (at .exit))) ⌝ }
-{
-    if !cells::firmness_shaped(plate.len(), fixed.len(), value.len(), at.len()) {
-        return MISSHAPEN;
-    }
-    match decoding::firmness::firmness(
-        flat::plate_of(plate),
-        samples,
-        position as usize,
-        metrics,
-        decisions,
-    ) {
-        Judged::Found(flag) => {
-            cells::put_reading(flag, fixed, value);
-            at[0] = 0;
-            0
-        }
-        Judged::Refused(refusal) => cells::refused_at(refusal, at),
     }
 }
 

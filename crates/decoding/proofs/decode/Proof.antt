@@ -84,8 +84,8 @@ search-requires c κs =
     let e = sizes-are (s .args .t1) given (c .before .before .before .before .before .before .before .before .sizes-of .result) (c .before .before .before .before .before .before .before .before .sizes-of .ensures) in
     let m : metricNeed (s .args .t1) ≤ length (s .args .metrics .now) = omega (arith, c .before .before .before .before .before .before .if4 .left, ap (λ (z : Sizes). z .half) e) in
     let d : decisionNeed (s .args .t1) ≤ length (s .args .decisions .now) = subst (λ (x : ℕ). s .args .t1 .n * x ≤ length (s .args .decisions .now)) (ap (λ (z : Sizes). z .words) e) (omega (arith, c .before .before .before .before .if5 .left)) in
-    subst (λ (z : Sizes). SizesFit (s .args .t1 .rows) z × RoomsFit z (s .args .samples .now) (s .args .metrics .now) (s .args .decisions .now)) (sym e)
-    (plate-sizes-fit (s .args .t1) given, rooms-fit (s .args .t1) (s .args .samples .now) (s .args .metrics .now) (s .args .decisions .now) given ((c .before .before .before .before .before .before .before .before .before .before .before .before .before .if2 .left)) (c .before .before .before .before .before .before .before .before .before .before .before .before .first-over .result) (c .before .before .before .before .before .before .before .before .before .before .before .before .first-over .ensures) (λ h. omega (arith, h, c .before .before .before .before .before .before .before .before .before .before .before .if3 .left)) m d)
+    subst (λ (z : Sizes). SizesFit (s .args .t1 .rows) z × (RoomsFit z (s .args .samples .now) (s .args .metrics .now) (s .args .decisions .now) × (0 < z .words))) (sym e)
+    (plate-sizes-fit (s .args .t1) given, (rooms-fit (s .args .t1) (s .args .samples .now) (s .args .metrics .now) (s .args .decisions .now) given ((c .before .before .before .before .before .before .before .before .before .before .before .before .before .if2 .left)) (c .before .before .before .before .before .before .before .before .before .before .before .before .first-over .result) (c .before .before .before .before .before .before .before .before .before .before .before .before .first-over .ensures) (λ h. omega (arith, h, c .before .before .before .before .before .before .before .before .before .before .before .if3 .left)) m d, omega arith))
 
 clear-metrics-requires : tie.Need-clear-metrics-requires
 clear-metrics-requires c κs = omega (arith, c .before .before .before .before .before .before .before .before .before .before .before .if4 .left, c .before .before .before .before .search .ensures .kept .metrics-size)

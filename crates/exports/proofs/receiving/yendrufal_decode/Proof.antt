@@ -1,10 +1,10 @@
--- `exports::yendrufal_decode` meets its promise.
+-- `exports::receiving::yendrufal_decode` meets its promise.
 use borrow.Author.Needs.{needs}
 use borrow.Author.Tests.{not-false, not-true}
 use Rattle.exports.proofs.CallsMade.{misshaped}
 use Rattle.exports.proofs.DecodeCrossed.{decode-found, decode-refused}
-use Rattle.exports.proofs.yendrufal_decode.Statement.{statement}
-use Rattle.exports.proofs.yendrufal_decode.Tie as tie
+use Rattle.exports.proofs.receiving.yendrufal_decode.Statement.{statement}
+use Rattle.exports.proofs.receiving.yendrufal_decode.Tie as tie
 
 decode-shaped-requires : tie.Need-decode-shaped-requires
 decode-shaped-requires c κs = search needs

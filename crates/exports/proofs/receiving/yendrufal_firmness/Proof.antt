@@ -1,10 +1,10 @@
--- `exports::yendrufal_firmness` meets its promise.
+-- `exports::receiving::yendrufal_firmness` meets its promise.
 use borrow.Author.Needs.{needs}
 use borrow.Author.Tests.{not-false, not-true}
 use Rattle.exports.proofs.CallsMade.{misshaped}
 use Rattle.exports.proofs.FirmnessCrossed.{firmness-found, firmness-refused, reading-fits}
-use Rattle.exports.proofs.yendrufal_firmness.Statement.{statement}
-use Rattle.exports.proofs.yendrufal_firmness.Tie as tie
+use Rattle.exports.proofs.receiving.yendrufal_firmness.Statement.{statement}
+use Rattle.exports.proofs.receiving.yendrufal_firmness.Tie as tie
 use Rattle.exports.specs.Judging.{FirmnessCells, Judging, firmnessCells}
 
 firmness-shaped-requires : tie.Need-firmness-shaped-requires

@@ -1,0 +1,52 @@
+//! The best metric without a word: over the codewords in Gray order where they are few, else by a pass from
+//! the far end that carries values only.
+
+use crate::linear::Basis;
+use crate::plate::Plate;
+use crate::words::metric;
+use std::collections::BTreeMap;
+
+/// The greatest metric of all codewords, each one row away from the one before.
+pub fn by_gray_order(plate: &Plate, samples: &[i16]) -> i32 {
+    let mut word = 0;
+    let mut best = metric(word, samples);
+    for step in 1..1u64 << plate.k() {
+        word ^= plate.rows[step.trailing_zeros() as usize];
+        best = best.max(metric(word, samples));
+    }
+    best
+}
+
+/// The same by endings. An ending goes with the beginnings that have its syndrome, so of each syndrome only
+/// the greatest value counts, and a syndrome that no beginning has is left out.
+pub fn by_endings(plate: &Plate, samples: &[i16]) -> i32 {
+    let mut before = vec![Basis::new()];
+    for &column in &plate.columns {
+        let mut longer = before.last().unwrap().clone();
+        longer.insert(column, 0);
+        before.push(longer);
+    }
+    let mut endings = BTreeMap::from([(0u64, 0i32)]);
+    for t in (0..plate.n).rev() {
+        let mut longer = BTreeMap::new();
+        for (syndrome, value) in endings {
+            let sample = i32::from(samples[t]);
+            let with_zero = (syndrome, value + sample);
+            let with_one = (syndrome ^ plate.columns[t], value - sample);
+            for (syndrome, value) in [with_zero, with_one] {
+                if before[t].express(syndrome).is_some() {
+                    let kept = longer.entry(syndrome).or_insert(value);
+                    *kept = value.max(*kept);
+                }
+            }
+        }
+        endings = longer;
+    }
+    endings[&0]
+}
+
+/// The best metric for `n` permitted samples.
+pub fn best_metric(plate: &Plate, samples: &[i16]) -> i32 {
+    let by = if plate.k() <= 8 { by_gray_order } else { by_endings };
+    by(plate, samples)
+}

@@ -1,0 +1,61 @@
+-- What the steps counted, over the trellis of a matrix that preparing accepts: whichever call reports it.
+use lib.IntN.{ℤ}
+use lib.ListN.{length}
+use mathlib.Core.List.{List}
+use mathlib.Core.Path.{ap, refl, subst, sym, _∙_, _≡_}
+use native.Mathlib.Decide.{ℕ-discrete}
+use Prim.Native.Nat.{_+_, ℕ}
+use Rattle.decoding.proofs.BranchesCounted.{additions-are-branches, additions-formula, comparisons-are-entering-less-one, comparisons-formula}
+use Rattle.decoding.specs.Backward.{counted}
+use Rattle.decoding.specs.declared.Counts.{Counts}
+use Rattle.decoding.specs.Decode.{sampleCount}
+use Rattle.decoding.specs.Totals.{branchTotal, doubledTotal, enteringLessOne, stateTotal}
+use Rattle.plates.specs.declared.Kind.{Kind}
+use Rattle.plates.specs.declared.Plate.{Plate}
+use Rattle.plates.specs.declared.Prepared.{Prepared}
+use Rattle.plates.specs.declared.Refusal.{Refusal}
+use Rattle.plates.specs.declared.Refusal.the-variants.{SampleCount}
+use Rattle.plates.specs.declared.Verdict.the-variants.{Accepted}
+use Rattle.plates.specs.Prepare.{IsPrepared, Prepares, rowsOf}
+use Rattle.trellises.proofs.AcceptedIsPrepared.{accepted-length, accepted-prepared}
+use Rattle.trellises.specs.Branching.{trellisOf}
+use Rattle.trellises.specs.SectionOf.{sectionOf}
+
+-- samples that pass refusal 6 are n
+pub samples-are-n : (plate : Plate) (samples : List ℤ) → ((q : Refusal) → sampleCount plate samples q → ⊥) → length samples ≡ plate .n
+samples-are-n plate samples passed = go (ℕ-discrete (length samples) (plate .n))
+  where
+    go : Dec (length samples ≡ plate .n) → length samples ≡ plate .n
+    go (yes x) = x
+    go (no x) = absurd (passed SampleCount (x, refl))
+
+module _ (n : ℕ) (kind : Kind) (rows : List ℕ) (r : Prepared) (p : Prepares n kind rows r) (e : r .verdict ≡ Accepted)
+    (samples : List ℤ) (size : length samples ≡ r .plate .n) (k : Counts) (steps : k ≡ counted (sectionOf (rowsOf (r .plate))) samples 0) where
+  given : IsPrepared (r .plate)
+  given = accepted-prepared n kind rows r p e
+
+  -- one addition for each branch
+  pub steps-additions : k .additions ≡ branchTotal (trellisOf (r .plate)) n
+  steps-additions =
+      ap (λ (c : Counts). c .additions) steps
+      ∙ additions-are-branches (r .plate) given samples size ∙ ap (branchTotal (trellisOf (r .plate))) (accepted-length n kind rows r p e)
+
+  -- for each state past the start one comparison fewer than the branches entering it
+  pub steps-comparisons : k .comparisons ≡ enteringLessOne (trellisOf (r .plate)) n
+  steps-comparisons =
+      ap (λ (c : Counts). c .comparisons) steps
+      ∙ comparisons-are-entering-less-one (r .plate) given samples size
+      ∙ ap (enteringLessOne (trellisOf (r .plate))) (accepted-length n kind rows r p e)
+
+  -- the paper's formula of the additions
+  pub steps-additions-formula : k .additions ≡ doubledTotal (rowsOf (r .plate)) n
+  steps-additions-formula =
+      ap (λ (c : Counts). c .additions) steps
+      ∙ additions-formula (r .plate) given samples size ∙ ap (doubledTotal (rowsOf (r .plate))) (accepted-length n kind rows r p e)
+
+  -- and of the comparisons
+  pub steps-comparisons-formula : k .comparisons + stateTotal (rowsOf (r .plate)) n ≡ k .additions
+  steps-comparisons-formula =
+      subst (λ (m : ℕ). k .comparisons + stateTotal (rowsOf (r .plate)) m ≡ k .additions) (accepted-length n kind rows r p e)
+      (subst (λ (c : Counts). c .comparisons + stateTotal (rowsOf (r .plate)) (r .plate .n) ≡ c .additions) (sym steps)
+      (comparisons-formula (r .plate) given samples size))
