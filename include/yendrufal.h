@@ -55,6 +55,12 @@ extern "C" {
 #define YENDRUFAL_KIND_G 0 /* generator: the code is all sums of rows */
 #define YENDRUFAL_KIND_H 1 /* parity check: the code is all words even with every row */
 
+/* The reasons of yendrufal_why_not. */
+#define YENDRUFAL_CHOSEN 0
+#define YENDRUFAL_NOT_IN_CODE 1
+#define YENDRUFAL_SCORES_LESS 2
+#define YENDRUFAL_TIES 3
+
 /* A plate is a flat run of 64-bit numbers: n, k, 64 rows, 65 profile entries; unused places are 0. */
 #define YENDRUFAL_PLATE_WORDS 131
 #define YENDRUFAL_PLATE_N 0
@@ -62,7 +68,7 @@ extern "C" {
 #define YENDRUFAL_PLATE_ROWS 2
 #define YENDRUFAL_PLATE_PROFILE 66
 
-/* Rooms that decoding, its two parts and firmness need, in cells; m is the largest profile entry, at
+/* Rooms that decoding, its two parts, firmness and why_not need, in cells; m is the largest profile entry, at
    most 12. The metric alone needs no decisions. */
 #define YENDRUFAL_METRICS(m) ((size_t)2 << (m))
 #define YENDRUFAL_DECISIONS(n, m) ((size_t)(n) << ((m) < 6 ? 0 : (m) - 6))
@@ -130,6 +136,20 @@ uint64_t yendrufal_firmness(const uint64_t *plate, size_t plate_length, const in
                             size_t metric_count, uint64_t *decisions, size_t decision_count,
                             uint64_t *fixed, size_t fixed_length, int32_t *value,
                             size_t value_length, uint64_t *place, size_t place_length);
+
+/* Why a word was not the one that decoding picks. `reason` receives the number of the reason and its
+   position, `difference` the difference; what a reason does not have is 0.
+     YENDRUFAL_CHOSEN       it was chosen
+     YENDRUFAL_NOT_IN_CODE  it is no codeword; the position is the first at which no codeword continues
+                            its beginning, and n where it fails only by a one at n or beyond
+     YENDRUFAL_SCORES_LESS  a codeword that scores less than the answer, by the difference (at most 262,016)
+     YENDRUFAL_TIES         a codeword that scores the same and loses; the position is the first of difference
+   Both rooms are left as by decoding. Refusals 5 to 9. Fixed: plate 131, reason 2, difference 1, place 1. */
+uint64_t yendrufal_why_not(const uint64_t *plate, size_t plate_length, const int16_t *samples,
+                           size_t sample_count, uint64_t word, int32_t *metrics,
+                           size_t metric_count, uint64_t *decisions, size_t decision_count,
+                           uint64_t *reason, size_t reason_length, int32_t *difference,
+                           size_t difference_length, uint64_t *place, size_t place_length);
 
 /* The five kinds of listing line. Each begins at the start of `line`; `written` receives its bytes,
    the line feed included. Refusals 5 (where a plate is taken), 11. Fixed: plate 131, written 1.

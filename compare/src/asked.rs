@@ -104,6 +104,26 @@ pub fn firmness(
     Call { name: Name::Firmness, numbers: vec![position], runs }
 }
 
+pub fn why_not(
+    flat: &[u64],
+    samples: &[i16],
+    word: u64,
+    metrics: usize,
+    decisions: usize,
+    rooms: Rooms,
+) -> Call {
+    let runs = vec![
+        lent_plate(flat, rooms),
+        Run::of_samples("samples", samples),
+        Run::room_metrics("metrics", metrics),
+        Run::room_words("decisions", decisions),
+        Run::room_words("reason", rooms.counts),
+        Run::room_metrics("difference", rooms.single),
+        Run::room_words("place", rooms.place),
+    ];
+    Call { name: Name::WhyNot, numbers: vec![word], runs }
+}
+
 pub fn write_plate(flat: &[u64], line: usize, rooms: Rooms) -> Call {
     let runs = vec![
         lent_plate(flat, rooms),

@@ -83,6 +83,12 @@ pub fn section(code: &BTreeSet<u64>, rows: &[u64], t: usize) -> Vec<(u64, u64, u
     branches
 }
 
+/// The first position at which no codeword continues a word's beginning, and n where there is none below n.
+pub fn stop(code: &BTreeSet<u64>, n: usize, word: u64) -> usize {
+    let stops = |t: &usize| continuations(code, t + 1, word & ones_before(t + 1)).is_empty();
+    (0..n).find(stops).unwrap_or(n)
+}
+
 /// The greatest metric of the codewords with a bit at a position.
 pub fn best_with(code: &BTreeSet<u64>, samples: &[i16], position: usize, digit: u64) -> Option<i32> {
     code.iter().filter(|&&word| bit(word, position) == digit).map(|&word| metric(word, samples)).max()

@@ -20,6 +20,7 @@ pub enum Name {
     Firmness,
     Metric,
     Word,
+    WhyNot,
     Listing,
 }
 

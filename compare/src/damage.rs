@@ -34,6 +34,7 @@ fn every_call(comparison: &mut Comparison, random: &mut Random, sound: &Plate, f
     comparison.agree(asked::metric(flat, &block, metrics, FIXED));
     comparison.agree(asked::word(flat, &block, metrics, decisions, FIXED));
     comparison.agree(asked::firmness(flat, &block, 0, metrics, decisions, FIXED));
+    comparison.agree(asked::why_not(flat, &block, 0, metrics, decisions, FIXED));
     comparison.agree(asked::write_plate(flat, 256, FIXED));
     comparison.agree(asked::write_profile(flat, 256, FIXED));
     comparison.agree(asked::write_word(flat, (1, -1, 1, 0), 256, FIXED));
@@ -48,6 +49,7 @@ fn all_wrong(comparison: &mut Comparison, random: &mut Random, flat: &[u64]) {
     comparison.agree(asked::metric(flat, &[200], 0, FIXED));
     comparison.agree(asked::word(flat, &[200], 0, 0, FIXED));
     comparison.agree(asked::firmness(flat, &[200], 64, 0, 0, FIXED));
+    comparison.agree(asked::why_not(flat, &[200], random.next(), 0, 0, FIXED));
     comparison.agree(asked::write_plate(flat, 0, FIXED));
 }
 

@@ -33,6 +33,7 @@ pub fn answer(call: &mut Call) -> u64 {
         Name::Metric => metric(call),
         Name::Word => word(call),
         Name::Firmness => firmness(call),
+        Name::WhyNot => why_not(call),
         Name::WriteRefused | Name::WriteEnd => {
             let ((line, a), (written, b)) = (lent!(r[0], bytes), lent!(r[1], words));
             match call.name {
@@ -84,6 +85,20 @@ fn firmness(call: &mut Call) -> u64 {
     unsafe {
         yendrufal_firmness(
             plate, a, samples, b, position, metrics, c, decisions, d, fixed, e, value, f, place, g,
+        )
+    }
+}
+
+fn why_not(call: &mut Call) -> u64 {
+    let word = call.numbers[0];
+    let r = &mut call.runs[..];
+    let ((plate, a), (samples, b)) = (lent!(r[0], words), lent!(r[1], samples));
+    let ((metrics, c), (decisions, d)) = (lent!(r[2], metrics), lent!(r[3], words));
+    let ((reason, e), (difference, f)) = (lent!(r[4], words), lent!(r[5], metrics));
+    let (place, g) = lent!(r[6], words);
+    unsafe {
+        yendrufal_why_not(
+            plate, a, samples, b, word, metrics, c, decisions, d, reason, e, difference, f, place, g,
         )
     }
 }

@@ -1,6 +1,7 @@
 //! The model held to the definitions, the paper's worked examples and outside sheets.
 
 use crate::alone::{by_endings, by_gray_order};
+use crate::asking::{stop_by_syndromes, stop_of_all};
 use crate::brute;
 use crate::coding::{encode, read_back};
 use crate::decoding::{by_forward_pass, counts, decode, of_all_codewords};
@@ -57,6 +58,12 @@ fn one_small(n: u64, kind: Kind, rows: &[u64], blocks: &[Vec<i16>]) {
     let plate = prepare(n, kind, rows).expect("no small matrix is refused");
     plate_by_definition(&plate, &code);
     trellis_by_definition(&plate, &code);
+    for word in 0..2u64 << n {
+        let stop = brute::stop(&code, plate.n, word);
+        assert_eq!(stop_of_all(&plate, word), stop);
+        assert_eq!(stop_by_syndromes(&plate, word), stop);
+        assert_eq!(code.contains(&word), stop == plate.n && word < 1 << n);
+    }
     for block in blocks {
         let best = brute::best(&code, block);
         assert_eq!(of_all_codewords(&plate, block), best);
@@ -104,6 +111,8 @@ fn larger_matrices(random: &mut Random) -> usize {
         assert_eq!(Plate::from_flat(&plate.flat()).unwrap().rows, plate.rows);
         if plate.k() <= 12 {
             assert_eq!(of_all_codewords(&plate, &block), by_forward_pass(&plate, &block));
+            let word = plate.rows.first().unwrap_or(&0) ^ 1 << random.below(plate.n);
+            assert_eq!(stop_of_all(&plate, word), stop_by_syndromes(&plate, word));
         }
         assert_eq!(by_endings(&plate, &block), by_forward_pass(&plate, &block).0);
         assert!(plate.is_codeword(decode(&plate, &block).word));

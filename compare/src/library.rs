@@ -99,6 +99,23 @@ extern "C" {
         place: *mut u64,
         place_length: usize,
     ) -> u64;
+    pub fn yendrufal_why_not(
+        plate: *const u64,
+        plate_length: usize,
+        samples: *const i16,
+        sample_count: usize,
+        word: u64,
+        metrics: *mut i32,
+        metric_count: usize,
+        decisions: *mut u64,
+        decision_count: usize,
+        reason: *mut u64,
+        reason_length: usize,
+        difference: *mut i32,
+        difference_length: usize,
+        place: *mut u64,
+        place_length: usize,
+    ) -> u64;
     pub fn yendrufal_write_plate(
         plate: *const u64,
         plate_length: usize,

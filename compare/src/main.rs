@@ -3,6 +3,7 @@
 
 mod alone;
 mod asked;
+mod asking;
 mod bridge;
 mod brute;
 mod call;

@@ -5,6 +5,7 @@ use crate::coding::encode;
 use crate::comparison::Comparison;
 use crate::plate::{check_columns, profile, Kind, Plate};
 use crate::random::{matrix, samples, spoiled, Matrix, Random};
+use crate::words::ones_before;
 
 /// The largest profile entry of a matrix that is in order, refused or not.
 fn width(matrix: &Matrix) -> usize {
@@ -40,6 +41,15 @@ fn codings(comparison: &mut Comparison, random: &mut Random, plate: &Plate, flat
     }
 }
 
+/// A word to ask about: the answer, another codeword, one with another digit, one with ones beyond n, or any word.
+fn named(random: &mut Random, plate: &Plate, answer: u64) -> u64 {
+    let other = encode(plate, random.word(plate.k())).unwrap();
+    let digit = 1 << random.below(plate.n);
+    let beyond = random.next() & !ones_before(plate.n);
+    let any = random.next();
+    random.pick(&[answer, other, other, other ^ digit, answer ^ digit, other | beyond, any])
+}
+
 /// Blocks of many tempers; fewer on wide plates, which cost the model most.
 fn blocks(comparison: &mut Comparison, random: &mut Random, plate: &Plate, flat: &[u64]) {
     let (metrics, decisions) = (plate.metrics_needed(), plate.decisions_needed());
@@ -53,7 +63,10 @@ fn blocks(comparison: &mut Comparison, random: &mut Random, plate: &Plate, flat:
         let more = random.pick(&[0, 0, 1, 17]);
         comparison.agree(asked::decode(flat, &block, metrics + more, decisions + more, FIXED));
         comparison.agree(asked::metric(flat, &block, metrics + more, FIXED));
-        comparison.agree(asked::word(flat, &block, metrics + more, decisions + more, FIXED));
+        let (_, mut left) =
+            comparison.agree(asked::word(flat, &block, metrics + more, decisions + more, FIXED));
+        let word = named(random, plate, left.runs[4].words()[0]);
+        comparison.agree(asked::why_not(flat, &block, word, metrics + more, decisions + more, FIXED));
         let position = random.below(plate.n) as u64;
         comparison.agree(asked::firmness(flat, &block, position, metrics + more, decisions + more, FIXED));
     }

@@ -1,6 +1,7 @@
 //! The model behind the C interface: each call answered from the paper's rules, with every lent cell.
 
 use crate::alone;
+use crate::asking;
 use crate::call::{Call, Name, Run};
 use crate::coding::{encode, read_back};
 use crate::decoding;
@@ -89,6 +90,7 @@ impl Model {
             (Name::Metric, runs) => self.answer_metric(runs),
             (Name::Word, runs) => self.answer_word(runs),
             (Name::Firmness, runs) => self.answer_firmness(numbers[0], runs),
+            (Name::WhyNot, runs) => self.answer_why_not(numbers[0], runs),
             (Name::WriteRefused, [line, written]) => {
                 let refusal = Refusal { number: numbers[0], place: numbers[1], field: numbers[2] };
                 put_line(Ok(refused_line(refusal)), line.bytes(), written.words())
@@ -178,6 +180,27 @@ impl Model {
         DONE
     }
 
+    fn answer_why_not(&mut self, word: u64, runs: &mut [Run]) -> u64 {
+        let [plate, samples, metrics, decisions, reason, difference, place] = runs else {
+            unreachable!("why_not has seven runs")
+        };
+        let samples = samples.samples();
+        let accepted = self.plate(plate.words()).and_then(|plate| {
+            decoding::refused(&plate, samples, metrics.metrics().len(), decisions.words().len())?;
+            Ok(plate)
+        });
+        let plate = match accepted {
+            Ok(plate) => plate,
+            Err(refusal) => return refused_at(refusal, place),
+        };
+        clear_rooms(&plate, metrics.metrics(), decisions.words());
+        let (told, apart) = asking::cells(asking::why_not(&plate, samples, word));
+        reason.words()[..2].copy_from_slice(&told);
+        difference.metrics()[0] = apart;
+        place.words()[0] = 0;
+        DONE
+    }
+
     fn answer_firmness(&mut self, position: u64, runs: &mut [Run]) -> u64 {
         let [plate, samples, metrics, decisions, fixed, value, place] = runs else {
             unreachable!("firmness has seven runs")
@@ -209,8 +232,8 @@ fn misshapen(call: &mut Call) -> bool {
     kind_unknown
         || call.runs.iter_mut().any(|run| match run.name {
             "plate" => run.words().len() < PLATE_WORDS,
-            "counts" => run.words().len() < 2,
-            "metric" | "value" => run.metrics().is_empty(),
+            "counts" | "reason" => run.words().len() < 2,
+            "metric" | "value" | "difference" => run.metrics().is_empty(),
             "next" | "word" | "fixed" | "information" | "written" | "place" => run.words().is_empty(),
             _ => false,
         })

@@ -28,6 +28,7 @@ fn working_rooms(comparison: &mut Comparison, random: &mut Random, plate: &Plate
             comparison.agree(asked::word(&flat, &block, metrics, decisions, FIXED));
             let position = random.below(plate.n) as u64;
             comparison.agree(asked::firmness(&flat, &block, position, metrics, decisions, FIXED));
+            comparison.agree(asked::why_not(&flat, &block, random.next(), metrics, decisions, FIXED));
         }
     }
 }
@@ -50,6 +51,8 @@ fn bad_samples(comparison: &mut Comparison, random: &mut Random, plate: &Plate) 
             comparison.agree(asked::metric(&flat, &block, metrics, FIXED));
             comparison.agree(asked::word(&flat, &block, metrics, 0, FIXED));
             comparison.agree(asked::word(&flat, &block, metrics, decisions, FIXED));
+            comparison.agree(asked::why_not(&flat, &block, 0, metrics, 0, FIXED));
+            comparison.agree(asked::why_not(&flat, &block, 0, metrics, decisions, FIXED));
         }
         comparison.agree(asked::firmness(&flat, &block, place as u64, metrics, decisions, FIXED));
         comparison.agree(asked::firmness(&flat, &block, plate.n as u64, 0, 0, FIXED));
@@ -57,6 +60,7 @@ fn bad_samples(comparison: &mut Comparison, random: &mut Random, plate: &Plate) 
         comparison.agree(asked::decode(&flat, &block, 0, 0, FIXED));
         comparison.agree(asked::metric(&flat, &block, 0, FIXED));
         comparison.agree(asked::word(&flat, &block, 0, 0, FIXED));
+        comparison.agree(asked::why_not(&flat, &block, u64::MAX, 0, 0, FIXED));
         comparison.agree(asked::firmness(&flat, &block, u64::MAX, 0, 0, FIXED));
     }
 }
@@ -70,6 +74,8 @@ fn plain_samples(comparison: &mut Comparison, plate: &Plate) {
             comparison.agree(asked::decode(&flat, &vec![value; count], metrics, decisions, FIXED));
             comparison.agree(asked::metric(&flat, &vec![value; count], metrics, FIXED));
             comparison.agree(asked::word(&flat, &vec![value; count], metrics, decisions, FIXED));
+            let sum = plate.rows.iter().fold(0, |sum, row| sum ^ row);
+            comparison.agree(asked::why_not(&flat, &vec![value; count], sum, metrics, decisions, FIXED));
         }
     }
 }
@@ -168,6 +174,8 @@ fn shapes(comparison: &mut Comparison, plate: &Plate) {
         comparison.agree(asked::word(&flat, &[300], 0, 0, rooms));
         comparison.agree(asked::firmness(&flat, &block, 0, metrics, decisions, rooms));
         comparison.agree(asked::firmness(&flat, &[300], 64, 0, 0, rooms));
+        comparison.agree(asked::why_not(&flat, &block, 0, metrics, decisions, rooms));
+        comparison.agree(asked::why_not(&flat, &[300], 0, 0, 0, rooms));
         comparison.agree(asked::write_plate(&flat, 256, rooms));
         comparison.agree(asked::write_profile(&flat, 256, rooms));
         comparison.agree(asked::write_word(&flat, (0, 0, 0, 0), 256, rooms));

@@ -45,6 +45,9 @@ fn all_questions(comparison: &mut Comparison, plate: &Plate, flat: &[u64]) {
         for position in 0..=n {
             comparison.agree(asked::firmness(flat, &samples, position, metrics, decisions, FIXED));
         }
+        for word in 0..2 << n {
+            comparison.agree(asked::why_not(flat, &samples, word, metrics, decisions, FIXED));
+        }
     }
 }
 

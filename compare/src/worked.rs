@@ -56,6 +56,13 @@ impl Checked<'_> {
         assert_eq!(left.runs[5].words(), counts);
     }
 
+    /// Why a word is not the answer: the number of the reason, its position, its difference.
+    fn explains(&mut self, plate: &[u64], samples: &[i16], named: u64, told: [u64; 2], difference: i32) {
+        let call = asked::why_not(plate, samples, named, METRICS_MOST, DECISIONS_MOST, FIXED);
+        let mut left = self.expect(call, 0, None);
+        assert_eq!((left.runs[4].words().to_vec(), left.runs[5].metrics()[0]), (told.to_vec(), difference));
+    }
+
     /// The reading of a position: whether it is fixed, and its bit or margin.
     fn reads(&mut self, plate: &[u64], samples: &[i16], position: u64, fixed: u64, value: i32) {
         let call = asked::firmness(plate, samples, position, METRICS_MOST, DECISIONS_MOST, FIXED);
@@ -81,9 +88,21 @@ impl Checked<'_> {
         let even = self.plate(3, 1, &[7]);
         assert_eq!(even[66..70], [0, 1, 1, 0]);
         self.decodes(&even, &[-1, -1, -1], "011", 1, [8, 3]);
+        for (named, told, difference) in [
+            ("011", [0, 0], 0),
+            ("101", [3, 0], 0),
+            ("000", [2, 0], 4),
+            ("111", [1, 2], 0),
+            ("0111", [1, 3], 0),
+            ("11100001", [1, 2], 0),
+        ] {
+            self.explains(&even, &[-1, -1, -1], word(named), told, difference);
+        }
         let thrice = self.plate(3, 0, &[7]);
         self.decodes(&thrice, &[2, -1, -1], "000", 0, [6, 1]);
         self.reads(&thrice, &[2, -1, -1], 1, 0, 0);
+        self.explains(&thrice, &[2, -1, -1], word("111"), [3, 0], 0);
+        self.explains(&thrice, &[2, -1, -1], word("010"), [1, 1], 0);
     }
 
     fn the_sheet(&mut self) {

@@ -4,6 +4,9 @@ use mathlib.Core.Bool.{Bool}
 use mathlib.Core.List.{List}
 use mathlib.Core.Path.{sym, _∙_, _≡_}
 use Prim.Native.Nat.{ℕ}
+use Rattle.asking.proofs.WhyNotDetermined.{why-not-determined}
+use Rattle.asking.specs.Asking.{Asks}
+use Rattle.asking.specs.declared.Verdict.{Verdict}
 use Rattle.coding.proofs.CodingDetermined.{encode-determined, read-back-determined}
 use Rattle.coding.specs.Coding.{Encodes, ReadsBack}
 use Rattle.coding.specs.declared.Encoded.{Encoded}
@@ -125,6 +128,11 @@ best-word = word-determined
 pub firmness : (plate : Plate) (samples : List ℤ) (position : ℕ) (metrics : List ℤ) (decisions : List ℕ) (r s : Judged) (m n : List ℤ) (d e : List ℕ)
     → Judges plate samples position metrics decisions m d r → Judges plate samples position metrics decisions n e s → (r ≡ s) × (m ≡ n) × (d ≡ e)
 firmness = firmness-determined
+
+-- why a word was not chosen, with both rooms
+pub why-not : (plate : Plate) (samples : List ℤ) (w : ℕ) (metrics : List ℤ) (decisions : List ℕ) (r s : Verdict) (m n : List ℤ) (d e : List ℕ)
+    → Asks plate samples w metrics decisions m d r → Asks plate samples w metrics decisions n e s → (r ≡ s) × (m ≡ n) × (d ≡ e)
+why-not = why-not-determined
 
 -- ---- listings
 

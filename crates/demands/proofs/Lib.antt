@@ -5,6 +5,7 @@ pub mod Demand3
 pub mod Determined
 pub mod Firmness
 pub mod Apart
+pub mod WhyNot
 pub mod Checking
 pub mod CodeWords
 pub mod PlatesChecked

@@ -4,6 +4,8 @@ use mathlib.Core.List.{List}
 use mathlib.Core.Logic.{inl, inr, _⊎_}
 use mathlib.Core.Path.{ap, ap₂, sym, _∙_, _≡_}
 use Prim.Native.Nat.{ℕ}
+use Rattle.asking.proofs.WhyNotDetermined.{why-not-determined}
+use Rattle.asking.specs.declared.Verdict.{Verdict}
 use Rattle.coding.proofs.CodingDetermined.{encode-determined, read-back-determined}
 use Rattle.decoding.proofs.ApartDetermined.{metric-determined, word-determined}
 use Rattle.decoding.proofs.DecodeDetermined.{decode-determined}
@@ -14,6 +16,7 @@ use Rattle.decoding.specs.declared.Decoded.{Decoded}
 use Rattle.decoding.specs.declared.firmness.Judged.{Judged}
 use Rattle.exports.specs.Calls.{Calls, Crossing, Replies, misshapen}
 use Rattle.exports.specs.Crossing.{DecodeCells, Decoding, Listing, ListingCells, Writing, listingCells}
+use Rattle.exports.specs.Explaining.{AsksTo, CallsWhyNot, Explaining, ReasonCells}
 use Rattle.exports.specs.Flat.{plateOf}
 use Rattle.exports.specs.Judging.{CallsFirmness, FirmnessCells, Judging, JudgesTo}
 use Rattle.exports.specs.Parting.{CallsMetric, CallsWord, Choosing, ChoosesTo, Measuring, MeasuresTo, MetricCells, WordCells}
@@ -135,6 +138,16 @@ module _ (room cell : List ℕ) (r s : ℕ) (a b c d : List ℕ) where
   pub write-end-call-determined : (blocks : ℕ) → CallsWriteEnd blocks room cell r a b → CallsWriteEnd blocks room cell s c d
       → SameRuns r s a b c d
   write-end-call-determined blocks = write-call-determined _ (WritesEnd blocks) (λ x y e f. write-end-determined blocks)
+
+pub why-not-call-determined : (words : List ℕ) (samples : List ℤ) (word : ℕ) (lent a b : ReasonCells) (r s : ℕ) → CallsWhyNot words samples word lent r a
+    → CallsWhyNot words samples word lent s b → _≡_ {A = Crossing ReasonCells} (record { code = r; cells = a }) (record { code = s; cells = b })
+why-not-call-determined words samples word lent a b r s = calls-determined one
+  where
+    one : (x y : Explaining) → AsksTo (plateOf words) samples word lent x → AsksTo (plateOf words) samples word lent y → x ≡ y
+    one x y p q =
+        let same = why-not-determined (plateOf words) samples word (lent .metrics) (lent .decisions) (x .reply) (y .reply) (x .metrics) (y .metrics) (x .decisions) (y .decisions) p q in
+        ap₂ (λ (u : Verdict) (m : List ℤ). record { reply = u; metrics = m; decisions = x .decisions }) (same .0) (same .1)
+        ∙ ap (λ (d : List ℕ). record { reply = y .reply; metrics = y .metrics; decisions = d }) (same .2)
 
 pub listing-call-determined : (sheet : List ℕ) (working : Rooms) (listing cell : List ℕ) (r s : ℕ) (a b : Rooms) (c d e f : List ℕ)
     → CallsListing sheet working listing cell r a c e → CallsListing sheet working listing cell s b d f

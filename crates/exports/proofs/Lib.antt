@@ -6,4 +6,5 @@ pub mod DecodeCrossed
 pub mod FirmnessCrossed
 pub mod PartsCrossed
 pub mod ReadingCells
+pub mod ReasonCrossed
 pub mod CallsDetermined

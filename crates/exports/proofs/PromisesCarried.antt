@@ -4,6 +4,8 @@ use mathlib.Core.List.{List, [], _∷_}
 use mathlib.Core.Logic.{inl, inr, _⊎_}
 use mathlib.Core.Path.{_≡_, refl, subst}
 use Prim.Native.Nat.{ℕ}
+use Rattle.asking.specs.Asking.{Asks}
+use Rattle.asking.specs.declared.Verdict.{Verdict}
 use Rattle.coding.specs.Coding.{Encodes, ReadsBack}
 use Rattle.coding.specs.declared.Encoded.{Encoded}
 use Rattle.coding.specs.declared.ReadBack.{ReadBack}
@@ -23,6 +25,7 @@ use Rattle.plates.specs.declared.Refusal.the-variants.{NotPrepared}
 use Rattle.plates.specs.Prepare.{IsPrepared, notPrepared}
 use Rattle.trellises.specs.Branching.{Branches}
 use Rattle.trellises.specs.declared.Next.{Next}
+use Rattle.asking.specs.declared.Verdict.the-variants as X
 use Rattle.coding.specs.declared.Encoded.the-variants as E
 use Rattle.coding.specs.declared.ReadBack.the-variants as R
 use Rattle.decoding.specs.declared.apart.Chosen.the-variants as C
@@ -106,6 +109,15 @@ module _ {words : List ℕ} {plate : Plate} (stands : StandsFor words plate) whe
           → Chooses plate samples metrics decisions metrics′ decisions′ x → Chooses (plateOf words) samples metrics decisions metrics′ decisions′ x
       go (C.Found c) na nb h = absurd (never-passes na (h .0))
       go (C.Refused q) na nb h = (refuses-still na nb (h .0), h .1, h .2)
+
+  pub why-not-carried : (samples : List ℤ) (word : ℕ) (metrics metrics′ : List ℤ) (decisions decisions′ : List ℕ) (r : Verdict)
+      → Asks plate samples word metrics decisions metrics′ decisions′ r → Asks (plateOf words) samples word metrics decisions metrics′ decisions′ r
+  why-not-carried samples word metrics metrics′ decisions decisions′ r = carried (λ (p : Plate). Asks p samples word metrics decisions metrics′ decisions′ r) (go r)
+    where
+      go : (x : Verdict) → (IsPrepared plate → ⊥) → (IsPrepared (plateOf words) → ⊥)
+          → Asks plate samples word metrics decisions metrics′ decisions′ x → Asks (plateOf words) samples word metrics decisions metrics′ decisions′ x
+      go (X.Explained reason) na nb h = absurd (never-passes na (h .0))
+      go (X.Refused q) na nb h = (refuses-still na nb (h .0), h .1, h .2)
 
   -- a line that is made from the plate
   pub write-carried : (line : Plate → List ℕ) (room room′ : List ℕ) (r : Written)

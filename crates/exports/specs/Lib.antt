@@ -4,3 +4,4 @@ pub mod Crossing
 pub mod Promises
 pub mod Judging
 pub mod Parting
+pub mod Explaining

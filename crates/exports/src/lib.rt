@@ -9,6 +9,7 @@ use trellises::Next;
 
 mod cells;
 mod flat;
+mod reasons;
 mod receiving;
 
 // The reply where a run is too short for its fixed use, or the kind is neither G nor H.

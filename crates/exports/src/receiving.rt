@@ -1,10 +1,14 @@
-// The calls of a receiver over the C interface: a block decoded whole, its best metric or its best word alone, and how firm one position is.
+// The calls of a receiver over the C interface: a block decoded whole, its best metric or its best word alone, how firm
+// one position is, and why a word was not chosen.
+ghost use Rattle.exports.specs.Explaining.{CallsWhyNot, reasonCells};
 ghost use Rattle.exports.specs.Judging.{CallsFirmness, firmnessCells};
 ghost use Rattle.exports.specs.Parting.{CallsMetric, CallsWord, metricCells, wordCells};
 ghost use Rattle.exports.specs.Promises.{CallsDecode, decodeCells};
 use crate::MISSHAPEN;
 use crate::cells;
 use crate::flat;
+use crate::reasons;
+use asking::Verdict;
 use decoding::Decoded;
 use decoding::apart::Chosen;
 use decoding::apart::Measured;
@@ -124,5 +128,32 @@ pub extern "C" fn yendrufal_firmness(
             0
         }
         Judged::Refused(refusal) => cells::refused_at(refusal, at),
+    }
+}
+
+// Why a word was not the one that decoding picks.
+#[no_mangle]
+pub extern "C" fn yendrufal_why_not(
+    plate: &[u64],
+    samples: &[i16],
+    word: u64,
+    metrics: &mut [i32],
+    decisions: &mut [u64],
+    reason: &mut [u64],
+    difference: &mut [i32],
+    at: &mut [u64],
+) -> u64
+    ensures { λ r. ⌜ CallsWhyNot (now (plate .entry)) (now (samples .entry)) word (reasonCells (now (metrics .entry)) (now (decisions .entry)) (now (reason .entry)) (now (difference .entry)) (now (at .entry))) r (reasonCells (now (metrics .exit)) (now (decisions .exit)) (now (reason .exit)) (now (difference .exit)) (now (at .exit))) ⌝ }
+{
+    if !cells::part_shaped(plate.len(), difference.len(), reason.len(), at.len()) {
+        return MISSHAPEN;
+    }
+    match asking::why_not(flat::plate_of(plate), samples, word, metrics, decisions) {
+        Verdict::Explained(explained) => {
+            reasons::put_reason(explained, reason, difference);
+            at[0] = 0;
+            0
+        }
+        Verdict::Refused(refusal) => cells::refused_at(refusal, at),
     }
 }

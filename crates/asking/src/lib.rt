@@ -1,0 +1,128 @@
+// Why not this word: what decoding says of a word that is named.
+use decoding::Answer;
+use decoding::Decoded;
+use plates::Plate;
+use plates::Refusal;
+ghost use lib.IntN.{_+ℤ_};
+ghost use mathlib.Core.Path.{_≡_};
+ghost use Prim.Native.Nat.{_<_};
+ghost use Rattle.asking.specs.Asking.{Asks, Explains};
+ghost use Rattle.asking.specs.Working.{AddingFits, Asked, FirstStop, Left, Sampled, Without};
+ghost use Rattle.coding.specs.TakingOff.{Headed};
+ghost use Rattle.decoding.specs.Metric.{metricOf};
+ghost use Rattle.decoding.specs.Taking.{signed};
+
+// Why a word was chosen or not.
+pub enum Reason {
+    Chosen,
+    NoCodeword(usize),
+    ScoresLess(i32),
+    TiesAndLoses(usize),
+}
+
+// The reason, or why there is none.
+pub enum Verdict {
+    Explained(Reason),
+    Refused(Refusal),
+}
+
+// The rest without a row, where the rest has a one at the row's head.
+fn without(rest: u64, row: u64) -> u64
+    ensures { λ r. ⌜ Without rest row r ⌝ }
+{
+    if words::bit_at(rest, words::first_one(row)) == 0 {
+        return rest;
+    }
+    row ^ rest
+}
+
+// What is left of a word once the first k rows are taken off it by their heads, from the first row to the last.
+fn rest_of(rows: &[u64; 64], k: usize, word: u64) -> u64
+    requires { ⌜ Headed (now rows) k ⌝ }
+    ensures { λ r. ⌜ Left (now (rows .entry)) k word k r ⌝ }
+{
+    let mut rest = word;
+    let mut j = 0;
+    while j < k {
+        rest = without(rest, rows[j]);
+        j += 1;
+    }
+    rest
+}
+
+// The first one of a rest, and n where that is n or beyond.
+fn stop_of(rest: u64, n: usize) -> usize
+    ensures { λ r. ⌜ FirstStop rest n r ⌝ }
+{
+    let first = words::first_one(rest);
+    if first < n {
+        return first;
+    }
+    n
+}
+
+// A metric with one more position: the sample added where the bit is 0, and subtracted where it is 1.
+fn with_sample(bit: u64, sample: i16, metric: i32) -> i32
+    requires { ⌜ AddingFits sample metric ⌝ }
+    ensures { λ r. ⌜ r ≡ signed bit sample +ℤ metric ⌝ }
+{
+    let gain = sample as i32;
+    if bit == 0 {
+        return gain + metric;
+    }
+    (0 - gain) + metric
+}
+
+// The metric of a word, from the last position to the first.
+fn metric_of(samples: &[i16], word: u64) -> i32
+    requires { ⌜ Sampled (now samples) ⌝ }
+    ensures { λ r. ⌜ r ≡ metricOf (now (samples .entry)) word ⌝ }
+{
+    let mut metric = 0;
+    let mut i = samples.len();
+    while 0 < i {
+        i -= 1;
+        metric = with_sample(words::bit_at(word, i), samples[i], metric);
+    }
+    metric
+}
+
+// Why a word is not the answer, or that it is.
+fn reason_for(plate: Plate, samples: &[i16], word: u64, answer: Answer) -> Reason
+    requires { ⌜ Asked plate (now samples) answer ⌝ }
+    ensures { λ r. ⌜ Explains plate (now (samples .entry)) answer word r ⌝ }
+{
+    if word == answer.word {
+        return Reason::Chosen;
+    }
+    let rest = rest_of(&plate.rows, plate.k, word);
+    if rest != 0 {
+        return Reason::NoCodeword(stop_of(rest, plate.n));
+    }
+    let metric = metric_of(samples, word);
+    let best = answer.metric;
+    if metric < best {
+        let difference = best - metric;
+        return Reason::ScoresLess(difference);
+    }
+    Reason::TiesAndLoses(words::first_one(word ^ answer.word))
+}
+
+// Why a word was not the one that decoding picks: it was chosen, it is no codeword, it scores less, or it ties and loses.
+pub fn why_not(
+    plate: Plate,
+    samples: &[i16],
+    word: u64,
+    metrics: &mut [i32],
+    decisions: &mut [u64],
+) -> Verdict
+    ensures { λ r. ⌜ Asks plate (now (samples .entry)) word (now (metrics .entry)) (now (decisions .entry)) (now (metrics .exit)) (now (decisions .exit)) r ⌝ }
+{
+    if !plates::is_prepared(plate) {
+        return Verdict::Refused(Refusal::NotPrepared);
+    }
+    match decoding::decode(plate, samples, metrics, decisions) {
+        Decoded::Found(answer) => Verdict::Explained(reason_for(plate, samples, word, answer)),
+        Decoded::Refused(refusal) => Verdict::Refused(refusal),
+    }
+}

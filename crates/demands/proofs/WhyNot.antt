@@ -1,0 +1,108 @@
+-- Why not this word (document 02, A10): `why_not` refuses exactly under 5 to 9 in this order and changes nothing then; else it gives exactly one of
+-- the four reasons, each exactly when it holds against decoding's answer; both rooms are left as by decoding.
+use lib.IntN.{natAbs, pos, ℤ}
+use lib.ListN.{drop, replicate}
+use lib.Signed.{_<ℤ_}
+use mathlib.Core.List.{_++_, List, [], _∷_}
+use mathlib.Core.Logic.{_↔_}
+use mathlib.Core.Path.{refl, subst, sym, _≡_}
+use Prim.Native.Nat.{_<_, _^_, ℕ, _≤_}
+use Rattle.asking.proofs.EveryWord.{at-n-beyond, beyond-at-n, difference-bounds, some-reason}
+use Rattle.asking.proofs.OneReason.{reason-once}
+use Rattle.asking.proofs.WhyNotDetermined.{given-exactly, why-not-determined}
+use Rattle.asking.specs.Asking.{Asks, Explains, Less, NoCodewordAt}
+use Rattle.asking.specs.Working.{Asked}
+use Rattle.asking.specs.declared.Reason.{Reason}
+use Rattle.asking.specs.declared.Verdict.{Verdict}
+use Rattle.asking.specs.declared.Verdict.the-variants.{Explained, Refused}
+use Rattle.decoding.specs.declared.Answer.{Answer}
+use Rattle.decoding.specs.Decode.{Decodes, decisionNeed, decodeConditions, metricNeed}
+use Rattle.demands.proofs.Demand1.{decode-numbers}
+use Rattle.demands.specs.Refusing.{Numbered, RefusesExactly}
+use Rattle.plates.proofs.Refusing.{never-both}
+use Rattle.plates.specs.Code.{InCode}
+use Rattle.plates.specs.declared.Kind.{Kind}
+use Rattle.plates.specs.declared.Plate.{Plate}
+use Rattle.plates.specs.declared.Prepared.{Prepared}
+use Rattle.plates.specs.declared.Refusal.{Refusal}
+use Rattle.plates.specs.declared.Verdict.the-variants.{Accepted}
+use Rattle.plates.specs.Prepare.{IsPrepared, Prepares, rowsOf}
+use Rattle.plates.specs.Refusals.{Passes}
+use Rattle.trellises.proofs.AcceptedIsPrepared.{accepted-code, accepted-length}
+use Rattle.words.specs.Sum.{IsSum}
+use Rattle.words.specs.Word.{bit}
+use Rattle.decoding.specs.declared.Decoded.the-variants as D
+
+module _ (plate : Plate) (samples : List ℤ) (w : ℕ) (metrics : List ℤ) (decisions : List ℕ) where
+  -- the conditions, in order; they are those of the word call and of decode, so that decode-passes says where none of them holds
+  pub why-not-numbers : Numbered (decodeConditions plate samples metrics decisions) (5 ∷ 6 ∷ 7 ∷ 8 ∷ 9 ∷ [])
+  why-not-numbers = decode-numbers plate samples metrics decisions
+
+  -- the two rooms after the call, and its reply
+  module _ (metrics′ : List ℤ) (decisions′ : List ℕ) (r : Verdict) (p : Asks plate samples w metrics decisions metrics′ decisions′ r) where
+    -- refused exactly under them
+    pub why-not-refuses-exactly : RefusesExactly Refused (decodeConditions plate samples metrics decisions) r
+    why-not-refuses-exactly q = (
+      (λ e. subst (Asks plate samples w metrics decisions metrics′ decisions′) e p .0),
+      λ h. why-not-determined plate samples w metrics decisions r (Refused q) metrics′ metrics decisions′ decisions p (h, refl, refl) .0,
+    )
+
+    -- where none of them holds a reason is given
+    pub why-not-passed-explained : Passes (decodeConditions plate samples metrics decisions) → (reason : Reason) × (r ≡ Explained reason)
+    why-not-passed-explained h = go r refl
+      where
+        go : (s : Verdict) → r ≡ s → (reason : Reason) × (r ≡ Explained reason)
+        go (Explained reason) e = (reason, e)
+        go (Refused q) e = absurd (never-both (decodeConditions plate samples metrics decisions) h q (why-not-refuses-exactly q .0 e))
+
+    -- each exactly when it holds against the answer of decoding, whatever the rooms of the two calls
+    pub why-not-exactly : Passes (decodeConditions plate samples metrics decisions) → (room room′ : List ℤ) (words words′ : List ℕ) (a : Answer)
+        → Decodes plate samples room words room′ words′ (D.Found a) → (reason : Reason) → (r ≡ Explained reason) ↔ Explains plate samples a w reason
+    why-not-exactly h room room′ words words′ a d reason = given-exactly plate samples w metrics decisions r metrics′ decisions′ p h a (d .1) reason
+
+    -- a refused call changes nothing lent
+    pub why-not-refused-unchanged : (q : Refusal) → r ≡ Refused q → (metrics′ ≡ metrics) × (decisions′ ≡ decisions)
+    why-not-refused-unchanged q e = let x = subst (Asks plate samples w metrics decisions metrics′ decisions′) e p in (x .1, x .2)
+
+    -- one that succeeds zeroes the room it needs, as decoding does, and touches no more
+    pub why-not-explained-zeroes : (reason : Reason) → r ≡ Explained reason
+        → (metrics′ ≡ replicate (metricNeed plate) (pos 0) ++ drop (metricNeed plate) metrics)
+        × (decisions′ ≡ replicate (decisionNeed plate) 0 ++ drop (decisionNeed plate) decisions)
+    why-not-explained-zeroes reason e =
+        let x = subst (Asks plate samples w metrics decisions metrics′ decisions′) e p in (x .2 .metrics-zero, x .2 .decisions-zero)
+
+-- ---- exactly one of the four, for every word
+
+-- over a prepared plate, n samples within the limit, and the answer of decoding
+module _ (plate : Plate) (samples : List ℤ) (a : Answer) (asked : Asked plate samples a) (w : ℕ) where
+  pub exactly-one-reason : (reason : Reason) × Explains plate samples a w reason × ((other : Reason) → Explains plate samples a w other → other ≡ reason)
+  exactly-one-reason =
+      let r = some-reason plate samples a asked w in
+      (r .0, r .1, λ other x. reason-once plate samples a (asked .best) w other (r .0) x (r .1))
+
+  -- a difference is above zero, and at most 262,016
+  pub difference-lies : (d : ℤ) → Less plate samples a w d → (pos 0 <ℤ d) × (natAbs d ≤ 262016)
+  difference-lies = difference-bounds plate samples a asked w
+
+-- ---- over the code of a matrix that preparing accepts
+
+module _ (n : ℕ) (kind : Kind) (rows : List ℕ) (r : Prepared) (p : Prepares n kind rows r) (e : r .verdict ≡ Accepted) (w position : ℕ)
+    (x : NoCodewordAt (r .plate) w position) where
+  -- the word is not in the code
+  pub told-no-codeword : InCode kind n rows w → ⊥
+  told-no-codeword c = x .none (accepted-code n kind rows r p e w .0 c)
+
+  -- at every earlier position some codeword continues its beginning
+  pub continued-sooner : (i : ℕ) → i < position → (c : ℕ) × InCode kind n rows c × ((j : ℕ) → j ≤ i → bit c j ≡ bit w j)
+  continued-sooner i h = let s = x .sooner i h in (s .by, accepted-code n kind rows r p e (s .by) .1 (s .codeword), s .same)
+
+  -- at this one, if it is below n, none does
+  pub continued-no-more : position < n → (c : ℕ) → InCode kind n rows c → ((j : ℕ) → j ≤ position → bit c j ≡ bit w j) → ⊥
+  continued-no-more h c g same =
+      x .stops (subst (λ (m : ℕ). position < m) (sym (accepted-length n kind rows r p e)) h)
+      (record { by = c; codeword = accepted-code n kind rows r p e c .0 g; same = same })
+
+-- a word is no codeword at n exactly if some codeword has its bits below n, and it has a one at n or beyond
+pub no-codeword-at-n : (plate : Plate) → IsPrepared plate → (w c : ℕ) → IsSum (rowsOf plate) c → ((i : ℕ) → i < plate .n → bit c i ≡ bit w i)
+    → NoCodewordAt plate w (plate .n) ↔ (2 ^ plate .n ≤ w)
+no-codeword-at-n plate given w c g same = (at-n-beyond given w, beyond-at-n given w c g same)
