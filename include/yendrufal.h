@@ -48,6 +48,9 @@ extern "C" {
 #define YENDRUFAL_WHOLE_SPACE 22    /* k is 64 (by no call of this header) */
 #define YENDRUFAL_SETTING 24        /* step or top of the levels out of range (by no call of this header) */
 #define YENDRUFAL_NOT_A_NUMBER 25   /* a heard value that is not a number (by no call of this header) */
+#define YENDRUFAL_BRANCH_FAULT 26   /* a bad branch line, or one out of depth order (by no call of this header) */
+#define YENDRUFAL_BRANCH_TWICE 27   /* a branch line that repeats (by no call of this header) */
+#define YENDRUFAL_TOO_MANY_LINES 28 /* more than 1,024 branch lines (by no call of this header) */
 #define YENDRUFAL_NO_BRANCH 100     /* an ordinary reply: no branch with this bit leaves the state */
 #define YENDRUFAL_SHAPE 101         /* a run is too short for its fixed use, or `kind` is over 1 */
 

@@ -10,7 +10,7 @@ use Prim.Native.Nat.{_<_, _^_, ℕ, _≤_}
 use Rattle.demands.proofs.Checking.{Check, atMost, both, by, each, either, equal, less}
 use Rattle.plates.specs.declared.Kind.{Kind}
 use Rattle.plates.specs.declared.Refusal.{Refusal}
-use Rattle.plates.specs.declared.Refusal.the-variants.{AlistFault, BadSetting, DecisionRoom, FieldCount, FieldValue, FirstField, Information, InputTooLong, Length, LineRoom, MetricRoom, NoCodeword, NoSuchBranch, NotANumber, NotPrepared, PositionBeyond, RowBeyond, RowField, SampleCount, SampleRange, SheetLine, TooManyRows, TooWide, WholeSpace}
+use Rattle.plates.specs.declared.Refusal.the-variants.{AlistFault, BadSetting, DecisionRoom, FieldCount, FieldValue, FirstField, Information, InputTooLong, Length, LineRoom, MetricRoom, NoCodeword, NoSuchBranch, NotANumber, NotPrepared, PositionBeyond, RowBeyond, RowField, SampleCount, SampleRange, SheetLine, TooManyRows, TooWide, WholeSpace, BranchFault, BranchTwice, TooManyLines}
 use Rattle.plates.specs.Prepare.{Prepares, RowOver, badLength}
 use Rattle.plates.specs.Refusals.{field, number, place}
 use Rattle.plates.specs.Replying.{refusedWith}
@@ -37,7 +37,7 @@ refusalOf i p f =
     (cond (eqb i 17) (FirstField p)
     (cond (eqb i 18) (FieldCount p f)
     (cond (eqb i 19) (FieldValue p f)
-    (cond (eqb i 20) (RowField p f) (cond (eqb i 21) PositionBeyond (cond (eqb i 22) WholeSpace (cond (eqb i 24) BadSetting (NotANumber p)))))))))))))))))))))))
+    (cond (eqb i 20) (RowField p f) (cond (eqb i 21) PositionBeyond (cond (eqb i 22) WholeSpace (cond (eqb i 24) BadSetting (cond (eqb i 25) (NotANumber p) (cond (eqb i 26) (BranchFault p) (cond (eqb i 27) (BranchTwice p) TooManyLines)))))))))))))))))))))))))
 
 -- a refusal is told by its number, place and field
 pub told : (q : Refusal) → refusalOf (number q) (place q) (field q) ≡ q
@@ -65,6 +65,9 @@ told (FirstField line) = refl
 told (FieldCount line at) = refl
 told (FieldValue line at) = refl
 told (RowField line at) = refl
+told (BranchFault line) = refl
+told (BranchTwice line) = refl
+told TooManyLines = refl
 
 -- so two of one number, place and field are the same
 pub same-refusal : (p q : Refusal) → (number p ≡ number q) × ((place p ≡ place q) × (field p ≡ field q)) → p ≡ q

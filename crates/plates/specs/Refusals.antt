@@ -3,7 +3,7 @@ use Prim.Native.Nat.{ℕ}
 use mathlib.Core.List.{List, [], _∷_}
 use mathlib.Core.Logic.{_⊎_}
 use Rattle.plates.specs.declared.Refusal.{Refusal}
-use Rattle.plates.specs.declared.Refusal.the-variants.{Length, TooManyRows, RowBeyond, TooWide, NotPrepared, SampleCount, SampleRange, MetricRoom, DecisionRoom, SheetLine, LineRoom, NoSuchBranch, Information, NoCodeword, InputTooLong, PositionBeyond, BadSetting, NotANumber, WholeSpace, AlistFault, FirstField, FieldCount, FieldValue, RowField}
+use Rattle.plates.specs.declared.Refusal.the-variants.{Length, TooManyRows, RowBeyond, TooWide, NotPrepared, SampleCount, SampleRange, MetricRoom, DecisionRoom, SheetLine, LineRoom, NoSuchBranch, Information, NoCodeword, InputTooLong, PositionBeyond, BadSetting, NotANumber, WholeSpace, AlistFault, FirstField, FieldCount, FieldValue, RowField, BranchFault, BranchTwice, TooManyLines}
 
 -- the number of each refusal
 abbrev pub number : Refusal → ℕ
@@ -31,6 +31,9 @@ number (FirstField line) = 17
 number (FieldCount line field) = 18
 number (FieldValue line field) = 19
 number (RowField line field) = 20
+number (BranchFault line) = 26
+number (BranchTwice line) = 27
+number TooManyLines = 28
 
 -- its place: the first such row, depth, position or line where one is named, and 0 elsewhere
 abbrev pub place : Refusal → ℕ
@@ -58,6 +61,9 @@ place (FirstField line) = line
 place (FieldCount line field) = line
 place (FieldValue line field) = line
 place (RowField line field) = line
+place (BranchFault line) = line
+place (BranchTwice line) = line
+place TooManyLines = 0
 
 -- the field of a sheet's bad line, from 1: 17 is about the first; 0 for a line that is missing or not ended, and for all other refusals
 abbrev pub field : Refusal → ℕ
@@ -85,6 +91,9 @@ field (FirstField line) = 1
 field (FieldCount line at) = at
 field (FieldValue line at) = at
 field (RowField line at) = at
+field (BranchFault line) = 0
+field (BranchTwice line) = 0
+field TooManyLines = 0
 
 -- A condition of a call says with which refusal it refuses, where it holds.
 -- `Refuses conditions q`: the first of the conditions that holds refuses with q

@@ -53,6 +53,9 @@ pub enum Refusal {
     FieldCount(usize, usize),
     FieldValue(usize, usize),
     RowField(usize, usize),
+    BranchFault(usize),
+    BranchTwice(usize),
+    TooManyLines,
 }
 
 // What preparing says of a matrix.
@@ -96,6 +99,9 @@ pub fn refusal_number(refusal: Refusal) -> u64
         Refusal::FieldCount(_, _) => 18,
         Refusal::FieldValue(_, _) => 19,
         Refusal::RowField(_, _) => 20,
+        Refusal::BranchFault(_) => 26,
+        Refusal::BranchTwice(_) => 27,
+        Refusal::TooManyLines => 28,
     }
 }
 
@@ -114,6 +120,8 @@ pub fn refusal_place(refusal: Refusal) -> usize
         Refusal::FieldCount(line, _) => line,
         Refusal::FieldValue(line, _) => line,
         Refusal::RowField(line, _) => line,
+        Refusal::BranchFault(line) => line,
+        Refusal::BranchTwice(line) => line,
         Refusal::Length => 0,
         Refusal::TooManyRows => 0,
         Refusal::NotPrepared => 0,
@@ -128,6 +136,7 @@ pub fn refusal_place(refusal: Refusal) -> usize
         Refusal::PositionBeyond => 0,
         Refusal::BadSetting => 0,
         Refusal::WholeSpace => 0,
+        Refusal::TooManyLines => 0,
     }
 }
 
@@ -160,6 +169,9 @@ pub fn refusal_field(refusal: Refusal) -> usize
         Refusal::NotANumber(_) => 0,
         Refusal::WholeSpace => 0,
         Refusal::AlistFault(_) => 0,
+        Refusal::BranchFault(_) => 0,
+        Refusal::BranchTwice(_) => 0,
+        Refusal::TooManyLines => 0,
     }
 }
 

@@ -10,7 +10,7 @@ use Rattle.plates.specs.declared.Kind.{Kind}
 use Rattle.plates.specs.declared.Plate.{Plate}
 use Rattle.plates.specs.declared.Prepared.{Prepared}
 use Rattle.plates.specs.declared.Refusal.{Refusal}
-use Rattle.plates.specs.declared.Refusal.the-variants.{Length, TooManyRows, RowBeyond, TooWide, NotPrepared, SampleCount, SampleRange, MetricRoom, DecisionRoom, SheetLine, LineRoom, NoSuchBranch, Information, NoCodeword, InputTooLong, PositionBeyond, BadSetting, NotANumber, WholeSpace, AlistFault, FirstField, FieldCount, FieldValue, RowField}
+use Rattle.plates.specs.declared.Refusal.the-variants.{Length, TooManyRows, RowBeyond, TooWide, NotPrepared, SampleCount, SampleRange, MetricRoom, DecisionRoom, SheetLine, LineRoom, NoSuchBranch, Information, NoCodeword, InputTooLong, PositionBeyond, BadSetting, NotANumber, WholeSpace, AlistFault, FirstField, FieldCount, FieldValue, RowField, BranchFault, BranchTwice, TooManyLines}
 use Rattle.plates.specs.declared.Verdict.{Verdict}
 use Rattle.plates.specs.declared.Verdict.the-variants as J
 use Rattle.plates.specs.Prepare.{Prepares, zeroPlate}
@@ -126,6 +126,9 @@ ofBlock (FirstField line) = false
 ofBlock (FieldCount line at) = false
 ofBlock (FieldValue line at) = false
 ofBlock (RowField line at) = false
+ofBlock (BranchFault line) = false
+ofBlock (BranchTwice line) = false
+ofBlock TooManyLines = false
 
 -- a block whose decoding is refused: 6 and 7 are printed, others refuse the call
 abbrev pub RefusedStep : Bool → Refusal → Report → Report → List ℕ → Step → List ℕ → Type 0

@@ -169,6 +169,9 @@ fn is_of_block(refusal: Refusal) -> bool
         Refusal::FieldCount(_, _) => false,
         Refusal::FieldValue(_, _) => false,
         Refusal::RowField(_, _) => false,
+        Refusal::BranchFault(_) => false,
+        Refusal::BranchTwice(_) => false,
+        Refusal::TooManyLines => false,
     }
 }
 

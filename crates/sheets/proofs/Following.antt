@@ -39,7 +39,7 @@ till-small : (b : ℕ) (s : List ℕ) → till b s ≤ length s
 till-small b [] = omega arith
 till-small b (x ∷ xs) = till-case (eqb x b) (till b xs) (length xs) (till-small b xs)
 
-until-there : (b : ℕ) (s : List ℕ) (at : ℕ) → at ≤ length s → Until b s at (at + till b (drop at s))
+pub until-there : (b : ℕ) (s : List ℕ) (at : ℕ) → at ≤ length s → Until b s at (at + till b (drop at s))
 until-there b s at h =
     let t = rw length-drop at (till-small b (drop at s)) in
     record { is = refl; low = omega arith; high = omega arith }

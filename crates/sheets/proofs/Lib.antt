@@ -19,6 +19,7 @@ pub mod Wholes
 pub mod Determined
 pub mod Ranges
 pub mod Following
+pub mod Entries
 pub mod Positions
 pub mod Worked
 pub mod Replies

@@ -5,6 +5,7 @@ pub mod Turning
 pub mod Rows
 pub mod Room
 pub mod Blocks
+pub mod Listed
 pub mod Covers
 pub mod Lines
 pub mod Sheet

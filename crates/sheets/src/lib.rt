@@ -14,6 +14,7 @@ mod body;
 mod cover;
 mod head;
 mod line;
+pub mod listed;
 mod number;
 mod placing;
 mod row;

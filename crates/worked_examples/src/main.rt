@@ -1,6 +1,7 @@
-// The examples of document 01 that are run and not proved, and more cases of preparing, one line for each: what was asked, and what
-// was found.
+// The examples of document 01 that are run and not proved, more cases of preparing, and listings judged, one line for each: what was
+// asked, and what was found.
 mod blocks;
+mod judgings;
 
 use plates::Kind;
 use plates::Plate;
@@ -203,4 +204,6 @@ fn main() {
     limits();
     blocks::rooms();
     blocks::ranges();
+    judgings::verdicts();
+    judgings::refusals();
 }

@@ -77,6 +77,15 @@ enum-told-20 c = search needs
 enum-told-21 : tie.Need-enum-told-21
 enum-told-21 c = search needs
 
+enum-told-22 : tie.Need-enum-told-22
+enum-told-22 c = search needs
+
+enum-told-23 : tie.Need-enum-told-23
+enum-told-23 c = search needs
+
+enum-told-24 : tie.Need-enum-told-24
+enum-told-24 c = search needs
+
 returns : tie.Need-returns
 returns c = sym (ap field (c .before .refusal .given .1))
 
@@ -149,6 +158,15 @@ returns-23 c = sym (ap field (c .enum-told20 .given .1))
 returns-24 : tie.Need-returns-24
 returns-24 c = sym (ap field (c .enum-told21 .given .1))
 
+returns-25 : tie.Need-returns-25
+returns-25 c = sym (ap field (c .enum-told22 .given .1))
+
+returns-26 : tie.Need-returns-26
+returns-26 c = sym (ap field (c .enum-told23 .given .1))
+
+returns-27 : tie.Need-returns-27
+returns-27 c = sym (ap field (c .enum-told24 .given .1))
+
 pub refusal-field-spec : {M : Type 1} → statement M
 refusal-field-spec =
     tie.close
@@ -177,6 +195,9 @@ refusal-field-spec =
     enum-told-19
     enum-told-20
     enum-told-21
+    enum-told-22
+    enum-told-23
+    enum-told-24
     returns
     returns-2
     returns-3
@@ -200,4 +221,7 @@ refusal-field-spec =
     returns-21
     returns-22
     returns-23
-    returns-24)
+    returns-24
+    returns-25
+    returns-26
+    returns-27)

@@ -35,6 +35,12 @@ enum-known-refusal-9 c = search needs
 enum-known-refusal-10 : tie.Need-enum-known-refusal-10
 enum-known-refusal-10 c = search needs
 
+enum-known-refusal-11 : tie.Need-enum-known-refusal-11
+enum-known-refusal-11 c = search needs
+
+enum-known-refusal-12 : tie.Need-enum-known-refusal-12
+enum-known-refusal-12 c = search needs
+
 enum-told : tie.Need-enum-told
 enum-told c = search needs
 
@@ -77,6 +83,9 @@ enum-told-13 c = search needs
 enum-told-14 : tie.Need-enum-told-14
 enum-told-14 c = search needs
 
+enum-told-15 : tie.Need-enum-told-15
+enum-told-15 c = search needs
+
 returns : tie.Need-returns
 returns c = sym (ap place (c .before .refusal .given .1))
 
@@ -108,46 +117,55 @@ returns-10 : tie.Need-returns-10
 returns-10 c = sym (ap place (c .before .refusal10 .given .1))
 
 returns-11 : tie.Need-returns-11
-returns-11 c = sym (ap place (c .enum-told .given .1))
+returns-11 c = sym (ap place (c .before .refusal11 .given .1))
 
 returns-12 : tie.Need-returns-12
-returns-12 c = sym (ap place (c .enum-told2 .given .1))
+returns-12 c = sym (ap place (c .before .refusal12 .given .1))
 
 returns-13 : tie.Need-returns-13
-returns-13 c = sym (ap place (c .enum-told3 .given .1))
+returns-13 c = sym (ap place (c .enum-told .given .1))
 
 returns-14 : tie.Need-returns-14
-returns-14 c = sym (ap place (c .enum-told4 .given .1))
+returns-14 c = sym (ap place (c .enum-told2 .given .1))
 
 returns-15 : tie.Need-returns-15
-returns-15 c = sym (ap place (c .enum-told5 .given .1))
+returns-15 c = sym (ap place (c .enum-told3 .given .1))
 
 returns-16 : tie.Need-returns-16
-returns-16 c = sym (ap place (c .enum-told6 .given .1))
+returns-16 c = sym (ap place (c .enum-told4 .given .1))
 
 returns-17 : tie.Need-returns-17
-returns-17 c = sym (ap place (c .enum-told7 .given .1))
+returns-17 c = sym (ap place (c .enum-told5 .given .1))
 
 returns-18 : tie.Need-returns-18
-returns-18 c = sym (ap place (c .enum-told8 .given .1))
+returns-18 c = sym (ap place (c .enum-told6 .given .1))
 
 returns-19 : tie.Need-returns-19
-returns-19 c = sym (ap place (c .enum-told9 .given .1))
+returns-19 c = sym (ap place (c .enum-told7 .given .1))
 
 returns-20 : tie.Need-returns-20
-returns-20 c = sym (ap place (c .enum-told10 .given .1))
+returns-20 c = sym (ap place (c .enum-told8 .given .1))
 
 returns-21 : tie.Need-returns-21
-returns-21 c = sym (ap place (c .enum-told11 .given .1))
+returns-21 c = sym (ap place (c .enum-told9 .given .1))
 
 returns-22 : tie.Need-returns-22
-returns-22 c = sym (ap place (c .enum-told12 .given .1))
+returns-22 c = sym (ap place (c .enum-told10 .given .1))
 
 returns-23 : tie.Need-returns-23
-returns-23 c = sym (ap place (c .enum-told13 .given .1))
+returns-23 c = sym (ap place (c .enum-told11 .given .1))
 
 returns-24 : tie.Need-returns-24
-returns-24 c = sym (ap place (c .enum-told14 .given .1))
+returns-24 c = sym (ap place (c .enum-told12 .given .1))
+
+returns-25 : tie.Need-returns-25
+returns-25 c = sym (ap place (c .enum-told13 .given .1))
+
+returns-26 : tie.Need-returns-26
+returns-26 c = sym (ap place (c .enum-told14 .given .1))
+
+returns-27 : tie.Need-returns-27
+returns-27 c = sym (ap place (c .enum-told15 .given .1))
 
 pub refusal-place-spec : {M : Type 1} → statement M
 refusal-place-spec =
@@ -163,6 +181,8 @@ refusal-place-spec =
     enum-known-refusal-8
     enum-known-refusal-9
     enum-known-refusal-10
+    enum-known-refusal-11
+    enum-known-refusal-12
     enum-told
     enum-told-2
     enum-told-3
@@ -177,6 +197,7 @@ refusal-place-spec =
     enum-told-12
     enum-told-13
     enum-told-14
+    enum-told-15
     returns
     returns-2
     returns-3
@@ -200,4 +221,7 @@ refusal-place-spec =
     returns-21
     returns-22
     returns-23
-    returns-24)
+    returns-24
+    returns-25
+    returns-26
+    returns-27)

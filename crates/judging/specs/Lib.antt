@@ -1,0 +1,10 @@
+pub mod Listing
+pub mod Working
+pub mod Ways
+pub mod Ours
+pub mod Room
+pub mod Marks
+pub mod Surplus
+pub mod Judging
+pub mod Clean
+pub mod Steps
