@@ -173,8 +173,8 @@ uint64_t yendrufal_write_end(uint64_t count, uint8_t *line, size_t line_length, 
 
 /* The whole listing of a sheet, as the program `trellis` prints it: what the sheet or a block of it
    is refused for stands in the listing, and the reply is YENDRUFAL_DONE. The working rooms must be
-   enough for every plate, and `listing` must have YENDRUFAL_LINE_MOST bytes for each line: refusals
-   8, 9, 11. The working rooms are left as by decoding each block in turn. Fixed: written 1. */
+   enough for every plate, and `listing` must have YENDRUFAL_LINE_MOST bytes for each line, where each
+   heard line counts as one though a repeat prints none: refusals 8, 9, 11. The working rooms are left as by decoding each block in turn. Fixed: written 1. */
 uint64_t yendrufal_listing(const uint8_t *sheet, size_t sheet_length, int32_t *metrics,
                            size_t metric_count, uint64_t *decisions, size_t decision_count,
                            uint8_t *listing, size_t listing_length, uint64_t *written,

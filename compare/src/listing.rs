@@ -1,4 +1,4 @@
-//! The five kinds of listing line.
+//! The kinds of listing line.
 
 use crate::plate::{Plate, Refusal};
 use crate::words::printed;
@@ -28,4 +28,9 @@ pub fn refused_line(refusal: Refusal) -> String {
 
 pub fn end_line(count: u64) -> String {
     format!("end\t{count}\n")
+}
+
+pub fn tally_line(numbers: &[i64; 9]) -> String {
+    let fields: String = numbers.iter().map(|number| format!("\t{number}")).collect();
+    format!("tally{fields}\n")
 }

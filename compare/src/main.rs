@@ -27,6 +27,7 @@ mod rooms;
 mod sheet;
 mod sheets;
 mod small;
+mod tally;
 mod trellis;
 mod words;
 mod worked;

@@ -269,14 +269,14 @@ fn line_of_plate(name: Name, plate: &Plate, numbers: &[u64]) -> String {
 /// A whole listing: its room has the most that a line may have for each line.
 fn answer_listing(runs: &mut [Run]) -> u64 {
     let [sheet, metrics, decisions, listing, written] = runs else { unreachable!("listing has five runs") };
-    let (text, decoded_with) = sheet::listing(sheet.bytes());
+    let (text, decoded_with, lines) = sheet::listing(sheet.bytes());
     if metrics.metrics().len() < METRICS_MOST {
         return 8;
     }
     if decisions.words().len() < DECISIONS_MOST {
         return 9;
     }
-    if listing.bytes().len() < LINE_MOST * text.lines().count() {
+    if listing.bytes().len() < LINE_MOST * lines {
         return 11;
     }
     if let Some(plate) = decoded_with {

@@ -1,17 +1,21 @@
 //! Sheets: the grammar with its refusals in the paper's order, and the whole listing. `last` turns rows, samples and printed words.
 
 use crate::decoding;
-use crate::listing::{end_line, plate_line, profile_line, refused_line, word_line};
+use crate::listing::{end_line, plate_line, profile_line, refused_line, tally_line, word_line};
 use crate::plate::{prepare, refuse, Kind, Plate, Refusal};
+use crate::tally::{self, Heard};
 
 pub const SHEET_MOST: usize = 32_768;
 const SAMPLE_DIGITS: usize = 4;
 const LENGTH_DIGITS: usize = 3;
+const COUNTER_DIGITS: usize = 5;
 
-/// The words that a line may begin with: the first line, the lines up to the first block, those after it, and those after end.
+/// The words that a line may begin with: the first line, the lines up to the first block or heard line, those after a block, those after a
+/// heard line, and those after end.
 const COVER: &[&str] = &["cover"];
-const BODY: &[&str] = &["row", "block", "end"];
+const BODY: &[&str] = &["row", "block", "heard", "end"];
 const BLOCKS: &[&str] = &["block", "end"];
+const HEARD: &[&str] = &["heard", "end"];
 const NOTHING: &[&str] = &[];
 
 struct Cover {
@@ -20,14 +24,20 @@ struct Cover {
     first: bool,
 }
 
+/// A block line, or a heard line with its counter; samples by position.
+struct Block {
+    counter: Option<i64>,
+    samples: Vec<i16>,
+}
+
 struct Sheet {
     first: bool,
     plate: Plate,
-    blocks: Vec<Vec<i16>>,
+    blocks: Vec<Block>,
 }
 
 /// A number of one to `digits` digits without a leading zero.
-fn number(field: &str, digits: usize) -> Option<i16> {
+fn number(field: &str, digits: usize) -> Option<i32> {
     let form = (1..=digits).contains(&field.len()) && field.bytes().all(|b| b.is_ascii_digit());
     let plain = field == "0" || !field.starts_with('0');
     if form && plain {
@@ -38,10 +48,15 @@ fn number(field: &str, digits: usize) -> Option<i16> {
 }
 
 fn sample(field: &str) -> Option<i16> {
-    match field.strip_prefix('-') {
+    let size = match field.strip_prefix('-') {
         Some(size) => number(size, SAMPLE_DIGITS).filter(|&y| y != 0).map(|y| -y),
         None => number(field, SAMPLE_DIGITS),
-    }
+    };
+    size.map(|y| y as i16)
+}
+
+fn counter(field: &str) -> Option<i64> {
+    number(field, COUNTER_DIGITS).filter(|&c| c < 65_536).map(i64::from)
 }
 
 /// What is wrong with a line: the number of its refusal, and the field, from 1. In their order the least comes first.
@@ -54,7 +69,8 @@ fn form(word: &str, at: usize, field: &str, n: usize) -> Option<u64> {
         ("cover", 3) => (19, ["G", "H"].contains(&field)),
         ("cover", 4) => (19, ["first", "last"].contains(&field)),
         ("row", 2) => (20, field.len() == n && field.bytes().all(|b| b == b'0' || b == b'1')),
-        ("block", 2..) => (19, sample(field).is_some()),
+        ("heard", 2) => (19, counter(field).is_some()),
+        ("block", 2..) | ("heard", 3..) => (19, sample(field).is_some()),
         _ => (0, true),
     };
     (!good).then_some(number)
@@ -71,6 +87,7 @@ fn faults(fields: &[&str], turn: &[&str], n: usize) -> Vec<Fault> {
         "cover" => 4,
         "row" => 2,
         "end" => 1,
+        "heard" => fields.len().max(2),
         _ => fields.len(),
     };
     if fields.len() != due {
@@ -116,16 +133,21 @@ fn by_position(listed: &[&str], cover: &Cover) -> Vec<i16> {
 }
 
 /// The lines between cover and end taken in, or the refusal of the first that is bad.
-fn body(lines: &[&str], unended: bool, cover: &Cover) -> Result<(Vec<u64>, Vec<Vec<i16>>), Refusal> {
-    let (mut rows, mut blocks) = (Vec::new(), Vec::new());
+fn body(lines: &[&str], unended: bool, cover: &Cover) -> Result<(Vec<u64>, Vec<Block>), Refusal> {
+    let (mut rows, mut blocks): (_, Vec<Block>) = (Vec::new(), Vec::new());
     let mut line = 2;
     loop {
-        let turn = if blocks.is_empty() { BODY } else { BLOCKS };
+        let turn = match blocks.last() {
+            None => BODY,
+            Some(Block { counter: None, .. }) => BLOCKS,
+            Some(_) => HEARD,
+        };
         let found = fields(lines, line, turn, cover.n)?;
         line += 1;
         match found[0] {
             "row" => rows.push(row(found[1], cover)),
-            "block" => blocks.push(by_position(&found[1..], cover)),
+            "block" => blocks.push(Block { counter: None, samples: by_position(&found[1..], cover) }),
+            "heard" => blocks.push(Block { counter: counter(found[1]), samples: by_position(&found[2..], cover) }),
             _ => break,
         }
     }
@@ -162,27 +184,42 @@ fn to_print(word: u64, sheet: &Sheet) -> u64 {
     }
 }
 
-/// The line that answers a block, given by position.
-fn block_line(sheet: &Sheet, samples: &[i16]) -> Result<String, Refusal> {
-    let plate = &sheet.plate;
-    decoding::refused(plate, samples, usize::MAX, usize::MAX)?;
-    let found = decoding::decode(plate, samples);
-    Ok(word_line(plate, to_print(found.word, sheet), found.metric, found.additions, found.comparisons))
+/// What decoding replies to a block, given by position.
+fn reply(sheet: &Sheet, samples: &[i16]) -> Result<decoding::Decoded, Refusal> {
+    decoding::refused(&sheet.plate, samples, usize::MAX, usize::MAX)?;
+    Ok(decoding::decode(&sheet.plate, samples))
 }
 
-/// The whole listing of a sheet, and the plate if some block was decoded with it.
-pub fn listing(bytes: &[u8]) -> (String, Option<Plate>) {
+/// The whole listing of a sheet, the plate if some block was decoded with it, and for how many lines its room is sized: a repeat, which
+/// prints none, counts as one.
+pub fn listing(bytes: &[u8]) -> (String, Option<Plate>, usize) {
     let sheet = match read(bytes) {
         Ok(sheet) => sheet,
-        Err(refusal) => return (refused_line(refusal), None),
+        Err(refusal) => return (refused_line(refusal), None, 1),
     };
+    let replies: Vec<_> = sheet.blocks.iter().map(|block| reply(&sheet, &block.samples)).collect();
+    let of_heard = |(block, reply)| {
+        let Block { counter, samples }: &Block = block;
+        let reply: &Result<decoding::Decoded, Refusal> = reply;
+        counter.map(|counter| Heard { counter, samples, answer: reply.as_ref().ok().map(|found| (found.word, found.metric)) })
+    };
+    let heard: Vec<Heard> = sheet.blocks.iter().zip(&replies).filter_map(of_heard).collect();
+    let classes = tally::classes(&heard);
     let mut text = plate_line(&sheet.plate) + &profile_line(&sheet.plate);
     let mut decoded = false;
-    for samples in &sheet.blocks {
-        let line = block_line(&sheet, samples);
-        decoded |= line.is_ok();
-        text += &line.unwrap_or_else(refused_line);
+    for (i, reply) in replies.into_iter().enumerate() {
+        decoded |= reply.is_ok();
+        match reply {
+            Err(refusal) => text += &refused_line(refusal),
+            Ok(_) if classes.get(i) == Some(&tally::Class::Repeated) => {}
+            Ok(found) => text += &word_line(&sheet.plate, to_print(found.word, &sheet), found.metric, found.additions, found.comparisons),
+        }
+    }
+    let mut lines = sheet.blocks.len() + 3;
+    if !heard.is_empty() {
+        text += &tally_line(&tally::numbers(&heard, &classes));
+        lines += 1;
     }
     text += &end_line(sheet.blocks.len() as u64);
-    (text, decoded.then_some(sheet.plate))
+    (text, decoded.then_some(sheet.plate), lines)
 }

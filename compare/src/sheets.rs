@@ -8,7 +8,7 @@ use crate::sheet::SHEET_MOST;
 use crate::words::printed;
 
 /// Sheets that stand just inside or outside of the grammar.
-const AWKWARD: [&str; 56] = [
+const AWKWARD: [&str; 70] = [
     "",
     "\n",
     "cover",
@@ -65,6 +65,20 @@ const AWKWARD: [&str; 56] = [
     "cover\t2\tG\tlast\nrow\t12\nword\n",
     "cover\t2\tG\tlast\nend\nrow\t12\t\n",
     "cover\t2\tG\tlast\nend\t0\t1\nend\n",
+    "cover\t1\tH\tlast\nheard\nend\n",
+    "cover\t1\tH\tlast\nheard\t\nend\n",
+    "cover\t1\tH\tlast\nheard\t0\nend\n",
+    "cover\t1\tH\tlast\nheard\t65535\t5\nheard\t0\t-5\nheard\t0\t7\nheard\t40000\t0\nheard\t3\t1\nend\n",
+    "cover\t1\tH\tlast\nheard\t65536\t5\nend\n",
+    "cover\t1\tH\tlast\nheard\t00001\t5\nend\n",
+    "cover\t1\tH\tlast\nheard\t100000\t5\nend\n",
+    "cover\t1\tH\tlast\nheard\t-1\t5\nend\n",
+    "cover\t1\tH\tlast\nheard\tx\t-0\nend\n",
+    "cover\t1\tH\tlast\nheard\t1\t-0\nend\n",
+    "cover\t1\tH\tlast\nheard\t1\t5\nblock\t5\nend\n",
+    "cover\t1\tH\tlast\nblock\t5\nheard\t1\t5\nend\n",
+    "cover\t1\tH\tlast\nheard\t1\t5\nrow\t1\nend\n",
+    "heard\t1\t5\nend\n",
 ];
 
 /// A room for three lines and one for each line of the sheet is enough.
@@ -98,14 +112,17 @@ pub fn sheet(random: &mut Random) -> Vec<u8> {
     for row in &matrix.rows {
         text += &format!("row\t{}\n", printed(*row, n));
     }
-    for _ in 0..random.below(4) {
+    let heard = random.one_in(2);
+    let mut counter = random.pick(&[0, 5, 65_530, 65_535, 40_000]);
+    for _ in 0..random.below(if heard { 9 } else { 4 }) {
         let count = if random.one_in(6) { random.below(70) } else { n };
         let mut block = samples(random, count);
         if random.one_in(5) && count > 0 {
             block[random.below(count)] = random.pick(&[2048, -2048, 2999, -9999]);
         }
         let fields: String = block.iter().map(|y| format!("\t{y}")).collect();
-        text += &format!("block{fields}\n");
+        counter = (counter + random.pick(&[0, 1, 1, 1, 2, 7, 32_767, 32_768, 65_535, 65_530])) % 65_536;
+        text += &if heard { format!("heard\t{counter}{fields}\n") } else { format!("block{fields}\n") };
     }
     (text + "end\n").into_bytes()
 }
@@ -118,6 +135,7 @@ pub fn turned(sheet: &str) -> String {
             "cover" => fields[3] = if fields[3] == "first" { "last" } else { "first" }.into(),
             "row" => fields[1] = fields[1].chars().rev().collect(),
             "block" => fields[1..].reverse(),
+            "heard" => fields[2..].reverse(),
             _ => {}
         }
         fields.join("\t") + "\n"
@@ -179,6 +197,7 @@ pub fn run(comparison: &mut Comparison, random: &mut Random, count: usize) {
     long_sheets().iter().for_each(|sheet| list(comparison, sheet));
     list_in_rooms(comparison, b"", 1);
     list_in_rooms(comparison, b"cover\t2\tG\tlast\nrow\t10\nblock\t-3\t4\nblock\t1\nend\n", 5);
+    list_in_rooms(comparison, b"cover\t2\tG\tlast\nrow\t10\nheard\t7\t-3\t4\nheard\t7\t1\t1\nend\n", 6);
     for _ in 0..count {
         let mut text = sheet(random);
         list(comparison, &text);

@@ -71,7 +71,8 @@ impl Checked<'_> {
     }
 
     fn lists(&mut self, sheet: &[u8], listing: &[u8]) {
-        let room = LINE_MOST * listing.iter().filter(|byte| **byte == b'\n').count();
+        // a repeated heard line takes room and prints nothing, so the sheet's lines are counted
+        let room = LINE_MOST * (3 + sheet.iter().filter(|byte| **byte == b'\n').count());
         let call = asked::listing(sheet, METRICS_MOST, DECISIONS_MOST, room, FIXED);
         let mut left = self.expect(call, 0, Some((4, 0, listing.len() as u64)));
         let found = &left.runs[3].bytes()[..listing.len()];

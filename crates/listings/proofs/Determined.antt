@@ -4,9 +4,10 @@ use lib.ListN.{drop, length}
 use mathlib.Core.List.{_++_, List}
 use mathlib.Core.Path.{ap, refl, sym, _∙_, _≡_}
 use Prim.Native.Nat.{ℕ}
+use Rattle.listings.specs.declared.Tally.{Tally}
 use Rattle.listings.specs.declared.Written.{Written}
 use Rattle.listings.specs.declared.Written.the-variants.{Length, Refused}
-use Rattle.listings.specs.Writing.{Writes, WritesAs, WritesEnd, WritesLeast, WritesLine, WritesNoLeast, WritesOf, WritesPlate, WritesProfile, WritesRefused, WritesWeight, WritesWord}
+use Rattle.listings.specs.Writing.{Writes, WritesAs, WritesEnd, WritesLeast, WritesLine, WritesNoLeast, WritesOf, WritesPlate, WritesProfile, WritesRefused, WritesTally, WritesWeight, WritesWord}
 use Rattle.plates.proofs.Refusing.{Single, never-both, refuses-once}
 use Rattle.plates.specs.declared.Plate.{Plate}
 use Rattle.plates.specs.declared.Refusal.{Refusal}
@@ -76,3 +77,6 @@ module _ {room : List ℕ} {r s : Written} {a b : List ℕ} where
 
   pub write-no-least-determined : WritesNoLeast room r a → WritesNoLeast room s b → Same r s a b
   write-no-least-determined = line-determined
+
+  pub write-tally-determined : (tally : Tally) → WritesTally tally room r a → WritesTally tally room s b → Same r s a b
+  write-tally-determined tally = line-determined

@@ -8,11 +8,12 @@ use mathlib.Core.List.{List, [], map, _∷_}
 use mathlib.Core.Logic.{inl, inr, _⊎_}
 use mathlib.Core.Path.{_≡_}
 use native.Mathlib.Omega.{arith}
-use Prim.Native.Nat.{_%_, _*_, _+_, _/_, _<_, suc, zero, ℕ, _≤_}
+use Prim.Native.Nat.{_%_, _*_, _+_, _-_, _/_, _<_, suc, zero, ℕ, _≤_}
 use Rattle.listings.proofs.Backwards.{positions-length}
 use Rattle.listings.proofs.Digits.{decimal-high, decimal-low}
 use Rattle.listings.specs.Decimal.{decimal, digits, signed}
-use Rattle.listings.specs.Lines.{endLine, following, largest, leastLine, namesField, noLeastLine, plateLine, profileLine, refusedLine, weightLine, wordLine}
+use Rattle.listings.specs.Lines.{endLine, following, largest, leastLine, less, namesField, noLeastLine, plateLine, profileLine, refusedLine, tallyLine, weightLine, wordLine}
+use Rattle.listings.specs.declared.Tally.{Tally}
 use Rattle.words.proofs.Span.{lt-tri}
 
 -- ---- numbers
@@ -114,3 +115,29 @@ least-fits-256 weight = simp length-append (omega (arith, decimal-length weight)
 pub no-least-fits-256 : length noLeastLine ≤ 256
 unfolding noLeastLine
 no-least-fits-256 = omega arith
+
+-- 21 bytes at most
+less-length : (above below : ℕ) → length (less above below) ≤ 21
+unfolding less
+less-length above below = by (ltb above below)
+  where
+    by : (t : Bool) → length (cond t (45 ∷ decimal (below - above)) (decimal (above - below))) ≤ 21
+    by true = omega (arith, decimal-length (below - above))
+    by false = omega (arith, decimal-length (above - below))
+
+-- 5 + 8 * 21 + 22 + 1
+pub tally-fits-256 : (t : Tally) → length (tallyLine t) ≤ 256
+unfolding tallyLine
+tally-fits-256 t =
+    simp length-append
+    (omega (
+      arith,
+      decimal-length (t .decoded),
+      decimal-length (t .refused),
+      decimal-length (t .repeated),
+      decimal-length (t .late),
+      decimal-length (t .missing),
+      decimal-length (t .opposing),
+      decimal-length (t .zeros),
+      less-length (t .above) (t .below),
+    ))

@@ -1,5 +1,5 @@
 -- A signed 32-bit number's sign and magnitude, by way of 64 bits.
-use borrow.Author.Tests.{ltb-true}
+use borrow.Author.Tests.{le-ltb, lt-ltb, ltb-true}
 use lib.Dec.{T}
 use lib.IntN.{_-ℤ_, natAbs, negsuc, pos, ℤ}
 use lib.Signed.{ltZ, natAbs-le, nonNeg}
@@ -11,8 +11,9 @@ use mir.Syntax.{w32, w64}
 use mir.Val.{SFits, ofZ, toZ}
 use native.Mathlib.Nat.{zero-add}
 use native.Mathlib.Omega.{arith}
-use Prim.Native.Nat.{suc, ℕ}
+use Prim.Native.Nat.{suc, ℕ, _-_, _<_, _≤_}
 use Rattle.listings.specs.Decimal.{decimal, signed}
+use Rattle.listings.specs.Lines.{less}
 
 -- not below 0
 pub not-below : (z : ℤ) → ltZ z (pos 0) ≡ false → T (nonNeg z)
@@ -52,3 +53,13 @@ signed-below z f = rw f
 pub signed-other : (z : ℤ) → ltZ z (pos 0) ≡ false → signed z ≡ decimal (natAbs z)
 unfolding signed
 signed-other z f = rw f
+
+-- one number less a greater
+pub less-below : (above below : ℕ) → above < below → less above below ≡ 45 ∷ decimal (below - above)
+unfolding less
+less-below above below h = rw (lt-ltb above below h)
+
+-- and less another
+pub less-other : (above below : ℕ) → below ≤ above → less above below ≡ decimal (above - below)
+unfolding less
+less-other above below h = rw (le-ltb above below h)

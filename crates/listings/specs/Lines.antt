@@ -1,10 +1,11 @@
 -- The kinds of listing line, byte by byte.
-use lib.Dec.{eqb, leb}
+use lib.Dec.{eqb, leb, ltb}
 use lib.IntN.{ℤ}
 use mathlib.Core.Bool.{Bool, cond, _&&_, _||_}
 use mathlib.Core.List.{_++_, List, [], map, _∷_}
-use Prim.Native.Nat.{_+_, max, suc, zero, ℕ}
+use Prim.Native.Nat.{_+_, _-_, max, suc, zero, ℕ}
 use Rattle.listings.specs.Decimal.{decimal, signed}
+use Rattle.listings.specs.declared.Tally.{Tally}
 use Rattle.words.specs.Word.{bit}
 
 -- ---- fields
@@ -100,3 +101,21 @@ leastLine weight = line leastName (decimal weight ∷ [])
 -- least, where there is none
 unfoldable pub noLeastLine : List ℕ
 noLeastLine = line leastName (noneField ∷ [])
+
+-- ---- the line of a shift's tally
+
+-- the letters tally
+abbrev pub tallyName : List ℕ
+tallyName = 116 ∷ 97 ∷ 108 ∷ 108 ∷ 121 ∷ []
+
+-- one number less another, with a minus exactly when that is below 0
+unfoldable pub less : ℕ → ℕ → List ℕ
+less above below = cond (ltb above below) (45 ∷ decimal (below - above)) (decimal (above - below))
+
+-- tally: lines decoded, refused, repeated, out of turn; counters missing; positions opposed, zero samples; the sum of metrics, and the number
+-- decoded that it is over
+unfoldable pub tallyLine : Tally → List ℕ
+tallyLine t =
+    line tallyName
+    (decimal (t .decoded) ∷ decimal (t .refused) ∷ decimal (t .repeated) ∷ decimal (t .late) ∷ decimal (t .missing) ∷ decimal (t .opposing)
+    ∷ decimal (t .zeros) ∷ less (t .above) (t .below) ∷ decimal (t .decoded) ∷ [])

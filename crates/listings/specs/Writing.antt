@@ -4,9 +4,10 @@ use lib.ListN.{drop, length, take}
 use mathlib.Core.List.{_++_, List, [], _∷_}
 use mathlib.Core.Path.{_≡_}
 use Prim.Native.Nat.{_+_, _<_, ℕ}
+use Rattle.listings.specs.declared.Tally.{Tally}
 use Rattle.listings.specs.declared.Written.{Written}
 use Rattle.listings.specs.declared.Written.the-variants.{Length, Refused}
-use Rattle.listings.specs.Lines.{endLine, leastLine, noLeastLine, plateLine, profileLine, refusedLine, weightLine, wordLine}
+use Rattle.listings.specs.Lines.{endLine, leastLine, noLeastLine, plateLine, profileLine, refusedLine, tallyLine, weightLine, wordLine}
 use Rattle.plates.specs.declared.Plate.{Plate}
 use Rattle.plates.specs.declared.Refusal.{Refusal}
 use Rattle.plates.specs.declared.Refusal.the-variants.{LineRoom}
@@ -72,3 +73,7 @@ WritesLeast weight = WritesLine (leastLine weight)
 -- least: none
 abbrev pub WritesNoLeast : List ℕ → Written → List ℕ → Type 0
 WritesNoLeast = WritesLine noLeastLine
+
+-- tally: the numbers of a shift
+abbrev pub WritesTally : Tally → List ℕ → Written → List ℕ → Type 0
+WritesTally tally = WritesLine (tallyLine tally)

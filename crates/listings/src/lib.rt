@@ -6,7 +6,7 @@ ghost use Prim.Native.Nat.{_≤_};
 ghost use lib.ListN.{length, drop};
 ghost use Rattle.listings.specs.Building.{Ends};
 ghost use Rattle.listings.specs.Lines.{plateLine, profileLine, wordLine};
-ghost use Rattle.listings.specs.Writing.{WritesLine, WritesPlate, WritesProfile, WritesWord, WritesRefused, WritesEnd, WritesWeight, WritesLeast, WritesNoLeast};
+ghost use Rattle.listings.specs.Writing.{WritesLine, WritesPlate, WritesProfile, WritesWord, WritesRefused, WritesEnd, WritesWeight, WritesLeast, WritesNoLeast, WritesTally};
 
 mod pieces;
 
@@ -17,6 +17,20 @@ use plates::Refusal;
 pub enum Written {
     Length(usize),
     Refused(Refusal),
+}
+
+// The numbers of a shift's tally. The sum of metrics is what those above 0 add to, less what those below 0 do.
+pub struct Tally {
+    pub decoded: u64,
+    pub refused: u64,
+    pub repeated: u64,
+    // Out of turn.
+    pub late: u64,
+    pub missing: u64,
+    pub opposing: u64,
+    pub zeros: u64,
+    pub above: u64,
+    pub below: u64,
 }
 
 // ---- a line into a room
@@ -194,5 +208,24 @@ pub fn write_no_least(room: &mut [u8]) -> Written
     let mut line = [0; 256];
     let feed = pieces::line_feed(&mut line);
     let at = pieces::prepend_name(&mut line, feed, b"least\tnone");
+    write_line(&line, at, room)
+}
+
+// The line `tally`: the numbers of a shift, the number decoded once more at the end.
+pub fn write_tally(tally: Tally, room: &mut [u8]) -> Written
+    ensures { λ r. ⌜ WritesTally tally (now (room .entry)) r (now (room .exit)) ⌝ }
+{
+    let mut line = [0; 256];
+    let feed = pieces::line_feed(&mut line);
+    let over = pieces::prepend_field(&mut line, feed, tally.decoded);
+    let sum = pieces::prepend_less(&mut line, over, tally.above, tally.below);
+    let zeros = pieces::prepend_field(&mut line, sum, tally.zeros);
+    let opposing = pieces::prepend_field(&mut line, zeros, tally.opposing);
+    let missing = pieces::prepend_field(&mut line, opposing, tally.missing);
+    let turn = pieces::prepend_field(&mut line, missing, tally.late);
+    let repeated = pieces::prepend_field(&mut line, turn, tally.repeated);
+    let refused = pieces::prepend_field(&mut line, repeated, tally.refused);
+    let decoded = pieces::prepend_field(&mut line, refused, tally.decoded);
+    let at = pieces::prepend_name(&mut line, decoded, b"tally");
     write_line(&line, at, room)
 }

@@ -8,7 +8,7 @@ ghost use lib.IntN.{natAbs};
 ghost use Rattle.words.specs.Word.{bit};
 ghost use Rattle.listings.specs.Building.{Prepends};
 ghost use Rattle.listings.specs.Decimal.{decimal, signed};
-ghost use Rattle.listings.specs.Lines.{largest, following, namesField, positions};
+ghost use Rattle.listings.specs.Lines.{largest, less, following, namesField, positions};
 
 // The array that a line is built in.
 pub type Line = [u8; 256];
@@ -127,6 +127,18 @@ pub fn prepend_signed(line: &mut Line, end: usize, metric: i32) -> usize
         return prepend_byte(line, minus, 9);
     }
     prepend_field(line, end, size)
+}
+
+// A tab and one number less another before a place, with a minus exactly when that is below 0.
+pub fn prepend_less(line: &mut Line, end: usize, above: u64, below: u64) -> usize
+    ensures { λ r. ⌜ Prepends (now (line .entry)) end (9 ∷ less above below) (now (line .exit)) r ⌝ }
+{
+    if above < below {
+        let digits = prepend_number(line, end, below - above);
+        let minus = prepend_byte(line, digits, 45);
+        return prepend_byte(line, minus, 9);
+    }
+    prepend_field(line, end, above - below)
 }
 
 // The larger of two entries.

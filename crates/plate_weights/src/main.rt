@@ -93,6 +93,7 @@ fn print_input(input: &[u8], working: &mut [u64], room: &mut [u8]) -> bool {
         Stage::PlateLine => print_plate(report.plate, working, room),
         Stage::ProfileLine => false,
         Stage::BlockLines => false,
+        Stage::EndLine => false,
         Stage::Done => false,
     }
 }

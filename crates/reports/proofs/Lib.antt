@@ -2,6 +2,10 @@ pub mod PrintedWords
 pub mod PrintedMeaning
 pub mod WrittenSteps
 pub mod LongBlocks
+pub mod TallyLaws
+pub mod MetricsSummed
+pub mod TallyCounts
+pub mod TallyWorked
 pub mod BlockSteps
 pub mod Openings
 pub mod ReportDetermined

@@ -1,6 +1,6 @@
 -- Theorem: from what `open` replies, `next_line` again and again, in a line room of 256 bytes with 8,192 metrics and 4,096 decision words,
 -- meets no room that is too short, and its lines in turn are the input's report. There is one where the input is refused, and else there are
--- three more than the sheet has block lines.
+-- three more than the sheet has block lines, or four more than it has heard lines.
 use Prim.Native.Nat.{ℕ, _+_, suc}
 use lib.ListN.{length, take}
 use mathlib.Core.List.{List, [], _∷_}
@@ -29,7 +29,7 @@ same-size e = cc
 
 -- what a turn that gave a line shows
 record Shown (input : List ℕ) (report : Report) (line : List ℕ) (after : Report) : Type 0 where
-  ready : Ready after
+  ready : Ready input after
   before : (lines : List (List ℕ)) → Left input after lines → Left input report (line ∷ lines)
   fewer : linesLeft input report ≡ suc (linesLeft input after)
 
@@ -46,11 +46,11 @@ module _ (input : List ℕ) where
 
   -- lines taken in turn: the report come to is ready, and what is left of it was left after them
   record Came (report : Report) (lines : List (List ℕ)) (last : Report) : Type 0 where
-    ready : Ready last
+    ready : Ready input last
     whole : Left input last [] → Left input report lines
     count : length lines + linesLeft input last ≡ linesLeft input report
 
-  came : (report : Report) (lines : List (List ℕ)) (last : Report) → Ready report → Turns input report lines last → Came report lines last
+  came : (report : Report) (lines : List (List ℕ)) (last : Report) → Ready input report → Turns input report lines last → Came report lines last
   came report [] last ready e =
       subst (λ (r : Report). Came report [] r) (sym e) (record { ready = ready; whole = λ l. l; count = omega arith })
   came report (line ∷ lines) last ready t =

@@ -91,7 +91,7 @@ module _ (input : List ℕ) (p : Progress) (lent left : Rooms) (listing room′ 
         bytes =
             ap (λ (m : List ℕ). take (p .size) listing ++ m)
             (ap₂ _++_ (g .room-is ∙ ap (λ (m : List ℕ). line ++ drop (length line) m) behind-whole) nothing-more ∙ append-nil (line ++ drop (length line) behind));
-        ready = subst Ready (sym (g .next)) ready;
+        ready = subst (Ready input) (sym (g .next)) ready;
         next = λ lines l. f lines (subst (λ (r : Report). Left input r lines) (g .next) l);
         fewer = z ∙ ap (λ (r : Report). suc (linesLeft input r)) (sym (g .next));
         working = λ v l. w v (subst (λ (r : Report). Leaves input r left v) (g .next) l);
@@ -104,12 +104,13 @@ joined-more [] line = append-nil line
 joined-more (x ∷ written) line = ap (λ (m : List ℕ). x ++ m) (joined-more written line) ∙ sym (append-assoc x (joined written) line)
 
 -- where no line is left, no line comes, and the working rooms stay
-none-left : (input : List ℕ) (report : Report) (stage : Stage) (v : Rooms) → countAt stage (length (blocksAt input report)) ≡ 0
+none-left : (input : List ℕ) (report : Report) (stage : Stage) (v : Rooms) → countAt stage (report .heard) (length (blocksAt input report)) ≡ 0
     → LeftAt stage input report [] × LeavesAt stage input report v v
 none-left input report (S.Refused q) v e = absurd (omega (arith, e))
 none-left input report S.PlateLine v e = absurd (omega (arith, e))
 none-left input report S.ProfileLine v e = absurd (omega (arith, e))
 none-left input report S.BlockLines v e = absurd (omega (arith, e))
+none-left input report S.EndLine v e = absurd (omega (arith, e))
 none-left input report S.Done v e = (refl, refl)
 
 -- after i lines: they stand in the room, and what was left at first are they and what is left now
@@ -118,14 +119,14 @@ pub record Stands (input : List ℕ) (report : Report) (lent : Rooms) (listing :
   pub size : p .size ≡ length (joined written)
   pub listing-is : listing′ ≡ joined written ++ drop (length (joined written)) listing
   pub small : p .size ≤ 256 * i
-  pub ready : Ready (p .report)
+  pub ready : Ready input (p .report)
   pub count : i + linesLeft input (p .report) ≡ linesLeft input report
   pub whole : (lines : List (List ℕ)) → Left input (p .report) lines → Left input report (written ++ lines)
   pub working : (v : Rooms) → Leaves input (p .report) lent′ v → Leaves input report lent v
 
 module _ (input : List ℕ) (report : Report) (lent : Rooms) (listing : List ℕ) where
   -- before the first
-  pub none-yet : Ready report → Stands input report lent listing 0 lent listing (record { report = report; size = 0 })
+  pub none-yet : Ready input report → Stands input report lent listing 0 lent listing (record { report = report; size = 0 })
   none-yet ready = record {
     written = [];
     size = refl;

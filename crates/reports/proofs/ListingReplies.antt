@@ -29,7 +29,7 @@ module _ (input : List ℕ) (lent : Rooms) (listing : List ℕ) where
       pub few-blocks : report .blocks ≤ 32769
       few-blocks = open-small input (reading input) refl report (opens .is)
 
-      module _ (lines : ℕ) (count : lines ≡ countAt (report .stage) (report .blocks)) where
+      module _ (lines : ℕ) (count : lines ≡ countAt (report .stage) (report .heard) (report .blocks)) where
         -- so many lines are left
         lines-are : linesLeft input report ≡ lines
         lines-are = open-count input (reading input) refl report (opens .is) ∙ sym count

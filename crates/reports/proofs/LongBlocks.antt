@@ -15,6 +15,7 @@ use Rattle.plates.specs.declared.Refusal.the-variants.{NotPrepared, SampleCount
 use Rattle.plates.proofs.SoundIsPrepared.{sound}
 use Rattle.plates.specs.Prepare.{notPrepared}
 use Rattle.plates.specs.Refusals.{Refuses}
+use Rattle.decoding.specs.declared.Answer.{Answer}
 use Rattle.decoding.specs.declared.Decoded.{Decoded}
 use Rattle.decoding.specs.declared.Decoded.the-variants.{Found, Refused}
 use Rattle.decoding.specs.Decode.{Decodes, decodeConditions, sampleCount}
@@ -73,3 +74,18 @@ module _ (plate : Plate) (order : Order) (vs zeros metrics : List ℤ) (decision
           → Decodes plate (inOrder order vs) metrics decisions metrics′ decisions′ r
       by true e x = none-decoded plate (inOrder order vs) metrics decisions (omega (arith, l, ltb-true 64 (length vs) e)) metrics′ decisions′ r x
       by false e x = rw (← l, laid-start (inOrder order vs) zeros (omega (arith, l, ltb-false 64 (length vs) e, size))) at x
+
+module _ (plate : Plate) (order : Order) (vs zeros metrics : List ℤ) (decisions : List ℕ) (size : length zeros ≡ 64) (metrics′ : List ℤ) (decisions′ : List ℕ) (a : Answer) where
+  -- where an answer was found, the places hold the block's samples
+  pub places-found : Decodes plate (take (decodable (length vs)) (placed order vs zeros)) metrics decisions metrics′ decisions′ (Found a)
+      → take (decodable (length vs)) (placed order vs zeros) ≡ inOrder order vs
+  places-found = by (ltb 64 (length vs)) refl
+    where
+      l : length (inOrder order vs) ≡ length vs
+      l = in-order-length order vs
+
+      by : (t : Bool) → ltb 64 (length vs) ≡ t
+          → Decodes plate (take (cond t 0 (length vs)) (cond t zeros (laid (inOrder order vs) zeros))) metrics decisions metrics′ decisions′ (Found a)
+          → take (cond t 0 (length vs)) (cond t zeros (laid (inOrder order vs) zeros)) ≡ inOrder order vs
+      by true e x = absurd (no-count plate (inOrder order vs) metrics decisions (omega (arith, l, ltb-true 64 (length vs) e)) (x .0 .0) (x .0 .1 .0))
+      by false e x = rw (← l) (laid-start (inOrder order vs) zeros (omega (arith, l, ltb-false 64 (length vs) e, size)))

@@ -15,7 +15,7 @@ use Rattle.plates.specs.declared.Verdict.{Verdict}
 use Rattle.plates.specs.declared.Verdict.the-variants as J
 use Rattle.plates.specs.Prepare.{Prepares}
 use Rattle.trellises.proofs.AcceptedIsPrepared.{accepted-prepared}
-use Rattle.sheets.proofs.Following.{blocks-counted, blocks-from-start}
+use Rattle.sheets.proofs.Following.{blocks-counted, blocks-from-start, counters-from-start, countersFrom}
 use Rattle.sheets.proofs.Ranges.{accepted, all-pass}
 use Rattle.sheets.specs.Blocks.{BlockFound, block, blockFront, blockThen, blocksOf, noBlock}
 use Rattle.sheets.specs.declared.Order.{Order}
@@ -25,33 +25,11 @@ use Rattle.reports.specs.declared.Report.{Report}
 use Rattle.reports.specs.declared.Stage.{Stage}
 use Rattle.reports.specs.declared.Stage.the-variants as S
 use Rattle.reports.specs.Listing.{LeavesAs, PreparedLeaves}
-use Rattle.reports.specs.Remaining.{BlocksLeave, Leaves, Left, LeftAt, Ready, Rooms, blocksAt, countAt, linesLeft}
-use Rattle.reports.specs.Report.{BlocksReport, PlateReports, PreparedReports, ProfileReports, ReportsAs}
+use Rattle.reports.specs.Remaining.{BlocksLeave, HasRoom, Leaves, Left, LeftAt, Ready, Rooms, blocksAt, countAt, linesLeft}
+use Rattle.reports.specs.Report.{LinesReport, PlateReports, PreparedReports, ReportsAs, atFirst}
+use Rattle.reports.specs.Tally.{noTally}
+use Rattle.reports.proofs.TallyLaws.{room-at-first}
 use Rattle.reports.specs.Steps.{OpensAs, reportBy}
-
--- ---- a sheet that says something
-
-module _ (input : List ℕ) (c : Contents) (e : reading input ≡ says c) (r : Prepared) (p : Prepares (c .n) (c .kind) (c .rows) r) where
-  abbrev opened : Verdict → Report
-  opened v = reportBy v (r .plate) (c .order) (startOf input c) (length (c .blocks))
-
-  sheet-ready : (v : Verdict) → r .verdict ≡ v → Ready (opened v)
-  sheet-ready (J.Refused q) a = tt
-  sheet-ready J.Accepted a = accepted-prepared (c .n) (c .kind) (c .rows) r p a
-
-  sheet-reports : (v : Verdict) (lines : List (List ℕ)) → Left input (opened v) lines → PreparedReports v (c .order) (r .plate) (c .blocks) lines
-  sheet-reports (J.Refused q) lines l = l
-  sheet-reports J.Accepted lines l =
-      subst (λ (b : List (List ℤ)). PlateReports (c .order) (r .plate) (length (c .blocks)) b lines) (blocks-from-start input c e) l
-
-  sheet-leaves : (v : Verdict) (before after : Rooms) → Leaves input (opened v) before after → PreparedLeaves v (r .plate) (c .blocks) before after
-  sheet-leaves (J.Refused q) before after l = l
-  sheet-leaves J.Accepted before after l =
-      subst (λ (b : List (List ℤ)). BlocksLeave (r .plate) b before after) (blocks-from-start input c e) l
-
-  sheet-count : (v : Verdict) → linesLeft input (opened v) ≡ countAt ((opened v) .stage) ((opened v) .blocks)
-  sheet-count (J.Refused q) = refl
-  sheet-count J.Accepted = ap (λ (b : List (List ℤ)). countAt S.PlateLine (length b)) (blocks-from-start input c e)
 
 -- ---- how many blocks there may be
 
@@ -76,9 +54,9 @@ one-block : (found : BlockFound) (bs : List (List ℤ)) (m : ℕ) → length bs 
 one-block (block samples) bs m h = omega arith
 one-block noBlock bs m h = omega arith
 
-blocks-few : (ls : List (List ℕ)) → length (blocksOf ls) ≤ length ls
-blocks-few [] = omega arith
-blocks-few (l ∷ ls) = one-block (blockFront (l ∷ ls)) (blocksOf ls) (length ls) (blocks-few ls)
+blocks-few : (heard : Bool) (ls : List (List ℕ)) → length (blocksOf heard ls) ≤ length ls
+blocks-few heard [] = omega arith
+blocks-few heard (l ∷ ls) = one-block (blockFront heard (l ∷ ls)) (blocksOf heard ls) (length ls) (blocks-few heard ls)
 
 short-case : (k : ℕ) (t : Bool) → ltb 32768 k ≡ t → cond t (J.Refused InputTooLong) J.Accepted ≡ J.Accepted → k ≤ 32768
 short-case k true e f = let z : _≡_ {A = ℕ} 0 1 = cc in absurd (omega arith)
@@ -91,21 +69,50 @@ sheet-small input c e =
     omega (
       arith,
       blocks-counted input c e,
-      blocks-few (linesFrom input (startOf input c)),
+      blocks-few (c .heard) (linesFrom input (startOf input c)),
       from-count input (startOf input c) (leb (startOf input c) (length input)),
       short-case (length input) (ltb 32768 (length input)) refl (a .short),
     )
 
-verdict-small : (v : Verdict) (plate : Plate) (order : Order) (at blocks : ℕ) → blocks ≤ 32769 → (reportBy v plate order at blocks) .blocks ≤ 32769
-verdict-small (J.Refused q) plate order at blocks h = omega arith
-verdict-small J.Accepted plate order at blocks h = h
+verdict-small : (v : Verdict) (plate : Plate) (order : Order) (at : ℕ) (heard : Bool) (blocks : ℕ) → blocks ≤ 32769 → (reportBy v plate order at heard blocks) .blocks ≤ 32769
+verdict-small (J.Refused q) plate order at heard blocks h = omega arith
+verdict-small J.Accepted plate order at heard blocks h = h
+
+-- ---- a sheet that says something
+
+module _ (input : List ℕ) (c : Contents) (e : reading input ≡ says c) (r : Prepared) (p : Prepares (c .n) (c .kind) (c .rows) r) where
+  abbrev opened : Verdict → Report
+  opened v = reportBy v (r .plate) (c .order) (startOf input c) (c .heard) (length (c .blocks))
+
+  sheet-ready : (v : Verdict) → r .verdict ≡ v → Ready input (opened v)
+  sheet-ready (J.Refused q) a = tt
+  sheet-ready J.Accepted a = (
+    accepted-prepared (c .n) (c .kind) (c .rows) r p a,
+    subst (λ (b : List (List ℤ)). HasRoom noTally (length b)) (sym (blocks-from-start input c e)) (room-at-first (length (c .blocks)) (sheet-small input c e)),
+  )
+
+  sheet-reports : (v : Verdict) (lines : List (List ℕ)) → Left input (opened v) lines → PreparedReports v (r .plate) c lines
+  sheet-reports (J.Refused q) lines l = l
+  sheet-reports J.Accepted lines l =
+      subst (λ (cs : List ℕ). PlateReports (r .plate) (LinesReport (c .heard) (c .order) (r .plate) (length (c .blocks)) atFirst cs (c .blocks)) lines) (counters-from-start input c e)
+      (subst (λ (b : List (List ℤ)). PlateReports (r .plate)
+      (LinesReport (c .heard) (c .order) (r .plate) (length (c .blocks)) atFirst (countersFrom (c .heard) input (startOf input c)) b) lines) (blocks-from-start input c e) l)
+
+  sheet-leaves : (v : Verdict) (before after : Rooms) → Leaves input (opened v) before after → PreparedLeaves v (r .plate) (c .blocks) before after
+  sheet-leaves (J.Refused q) before after l = l
+  sheet-leaves J.Accepted before after l =
+      subst (λ (b : List (List ℤ)). BlocksLeave (r .plate) b before after) (blocks-from-start input c e) l
+
+  sheet-count : (v : Verdict) → linesLeft input (opened v) ≡ countAt ((opened v) .stage) ((opened v) .heard) ((opened v) .blocks)
+  sheet-count (J.Refused q) = refl
+  sheet-count J.Accepted = ap (λ (b : List (List ℤ)). countAt S.PlateLine (c .heard) (length b)) (blocks-from-start input c e)
 
 -- ---- by the reading of the input
 
 module _ (input : List ℕ) where
-  pub open-ready : (found : Reading) → reading input ≡ found → (report : Report) → OpensAs input found report → Ready report
-  open-ready (refused q) e report x = subst Ready (sym x) tt
-  open-ready (says c) e report x = subst Ready (sym (x .is)) (sheet-ready input c e (x .prepared) (x .prepares) (x .prepared .verdict) refl)
+  pub open-ready : (found : Reading) → reading input ≡ found → (report : Report) → OpensAs input found report → Ready input report
+  open-ready (refused q) e report x = subst (Ready input) (sym x) tt
+  open-ready (says c) e report x = subst (Ready input) (sym (x .is)) (sheet-ready input c e (x .prepared) (x .prepares) (x .prepared .verdict) refl)
 
   -- all that is left is the input's report
   pub open-reports : (found : Reading) → reading input ≡ found → (report : Report) (lines : List (List ℕ)) → OpensAs input found report → Left input report lines → ReportsAs found lines
@@ -127,14 +134,14 @@ module _ (input : List ℕ) where
   }
 
   -- the report's own number of block lines gives the number of lines
-  pub open-count : (found : Reading) → reading input ≡ found → (report : Report) → OpensAs input found report → linesLeft input report ≡ countAt (report .stage) (report .blocks)
-  open-count (refused q) e report x = subst (λ (r : Report). linesLeft input r ≡ countAt (r .stage) (r .blocks)) (sym x) refl
+  pub open-count : (found : Reading) → reading input ≡ found → (report : Report) → OpensAs input found report → linesLeft input report ≡ countAt (report .stage) (report .heard) (report .blocks)
+  open-count (refused q) e report x = subst (λ (r : Report). linesLeft input r ≡ countAt (r .stage) (r .heard) (r .blocks)) (sym x) refl
   open-count (says c) e report x =
-      subst (λ (r : Report). linesLeft input r ≡ countAt (r .stage) (r .blocks)) (sym (x .is)) (sheet-count input c e (x .prepared) (x .prepares) (x .prepared .verdict))
+      subst (λ (r : Report). linesLeft input r ≡ countAt (r .stage) (r .heard) (r .blocks)) (sym (x .is)) (sheet-count input c e (x .prepared) (x .prepares) (x .prepared .verdict))
 
   -- which is small
   pub open-small : (found : Reading) → reading input ≡ found → (report : Report) → OpensAs input found report → report .blocks ≤ 32769
   open-small (refused q) e report x = subst (λ (r : Report). r .blocks ≤ 32769) (sym x) (omega arith)
   open-small (says c) e report x =
       subst (λ (r : Report). r .blocks ≤ 32769) (sym (x .is))
-      (verdict-small (x .prepared .verdict) (x .prepared .plate) (c .order) (startOf input c) (length (c .blocks)) (sheet-small input c e))
+      (verdict-small (x .prepared .verdict) (x .prepared .plate) (c .order) (startOf input c) (c .heard) (length (c .blocks)) (sheet-small input c e))

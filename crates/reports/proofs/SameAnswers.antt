@@ -2,8 +2,9 @@
 use Prim.Native.Nat.{ℕ, suc, _≤_}
 use lib.IntN.{ℤ}
 use lib.ListN.{length}
+use mathlib.Core.Bool.{Bool, true, false}
 use mathlib.Core.List.{List, [], _∷_}
-use mathlib.Core.Path.{_≡_, refl, subst, sym, ap}
+use mathlib.Core.Path.{_≡_, refl, subst, sym, ap, ap₂}
 use Rattle.plates.specs.declared.Plate.{Plate}
 use Rattle.plates.specs.declared.Prepared.{Prepared}
 use Rattle.plates.specs.declared.Verdict.{Verdict}
@@ -15,13 +16,17 @@ use Rattle.sheets.proofs.TurnedText.{text-turned}
 use Rattle.sheets.specs.declared.Order.{Order}
 use Rattle.sheets.specs.Sheet.{Contents, Reading, says, reading}
 use Rattle.sheets.specs.Turned.{IsTurned, other, textTurned, underOther}
-use Rattle.reports.specs.Answers.{Answers, BlockAnswer, BlockAnswers, answerLines, lineOf, listingLines}
-use Rattle.reports.specs.Report.{BlockLine, BlocksReport, PlateReports, PreparedReports, Reports, ReportsAs, refusedBlock, wordOfBlock}
+use Rattle.reports.specs.Answers.{Answers, answerLines, linesOfAnswers, listingLines}
+use Rattle.reports.specs.Tally.{heardsOf, tallyOf}
+use Rattle.listings.specs.declared.Tally.{Tally}
+use Rattle.reports.specs.declared.tally.Reference.the-variants.{Unset}
+use Rattle.reports.proofs.TallyLaws.{none-plus}
+use Rattle.reports.specs.Report.{BlockAnswer, BlockAnswers, BlockLine, BlocksReport, LinesReport, PreparedReports, Reports, ReportsAs, atFirst, closing, heardLines, lineOf, refusedBlock, wordOfBlock}
 
 -- ---- the same answers
 
 module _ (input turned : List ℕ) (t : IsTurned input turned) (short : length turned ≤ 32768) (prepared : Prepared) (answers : List Decoded) where
-  -- a sheet not refused, and the sheet with every row and block reversed under the other word
+  -- a sheet not refused, and the sheet with every row and block reversed, and the samples of every heard line, under the other word
   pub same-answers : Answers input prepared answers → Answers turned prepared answers
   same-answers a = record {
     sheet = underOther (a .sheet);
@@ -56,32 +61,34 @@ module _ (order : Order) (plate : Plate) where
   answers-counted (samples ∷ blocks) [] x = absurd x
   answers-counted (samples ∷ blocks) (answer ∷ answers) x = ap suc (answers-counted blocks answers (x .1))
 
-  answers-listing : (blocks : List (List ℤ)) (answers : List Decoded) → BlockAnswers plate blocks answers
-      → PlateReports order plate (length blocks) blocks (listingLines order plate answers)
-  answers-listing blocks answers x = (
-    refl,
-    (
-      refl,
-      subst (λ (count : ℕ). BlocksReport order plate count blocks (answerLines order plate (length answers) answers)) (answers-counted blocks answers x)
-          (answers-report (length answers) blocks answers x),
-    ),
-  )
+  answers-lines : (heard : Bool) (sheet : Contents) (answers : List Decoded) → BlockAnswers plate (sheet .blocks) answers
+      → LinesReport heard order plate (length (sheet .blocks)) atFirst (sheet .counters) (sheet .blocks) (linesOfAnswers heard order plate (sheet .counters) (sheet .blocks) answers)
+  answers-lines false sheet answers x =
+      subst (λ (count : ℕ). BlocksReport order plate count (sheet .blocks) (answerLines order plate (length answers) answers)) (answers-counted (sheet .blocks) answers x)
+      (answers-report (length answers) (sheet .blocks) answers x)
+  answers-lines true sheet answers x =
+      let hs = heardsOf (sheet .counters) (sheet .blocks) answers in
+      record {
+        replies = answers;
+        answered = x;
+        are = ap₂ (λ (t : Tally) (count : ℕ). heardLines order plate Unset hs (closing t count)) (sym (none-plus (tallyOf hs))) (answers-counted (sheet .blocks) answers x);
+      }
 
 -- the listing of a sheet says its answers, in the cover's order
 pub answers-listed : (input : List ℕ) (prepared : Prepared) (answers : List Decoded) (a : Answers input prepared answers)
-    → Reports input (listingLines (a .sheet .order) (prepared .plate) answers)
+    → Reports input (listingLines (a .sheet .order) (prepared .plate) (a .sheet) answers)
 answers-listed input prepared answers a = record {
-  is = subst (λ (found : Reading). ReportsAs found (listingLines (a .sheet .order) (prepared .plate) answers)) (sym (a .reads)) (record {
+  is = subst (λ (found : Reading). ReportsAs found (listingLines (a .sheet .order) (prepared .plate) (a .sheet) answers)) (sym (a .reads)) (record {
     prepared = prepared;
     prepares = a .prepares;
-    is = subst (λ (v : Verdict). PreparedReports v (a .sheet .order) (prepared .plate) (a .sheet .blocks) (listingLines (a .sheet .order) (prepared .plate) answers))
-        (sym (a .accepted)) (answers-listing (a .sheet .order) (prepared .plate) (a .sheet .blocks) answers (a .blocks));
+    is = subst (λ (v : Verdict). PreparedReports v (prepared .plate) (a .sheet) (listingLines (a .sheet .order) (prepared .plate) (a .sheet) answers))
+        (sym (a .accepted)) (refl, (refl, answers-lines (a .sheet .order) (prepared .plate) (a .sheet .heard) (a .sheet) answers (a .blocks)));
   });
 }
 
--- so does that of the turned sheet, in the other order
+-- so does that of the turned sheet, in the other order, with the same tally
 pub turned-listed : (input turned : List ℕ) → IsTurned input turned → length turned ≤ 32768 → (prepared : Prepared) (answers : List Decoded) (a : Answers input prepared answers)
-    → Reports turned (listingLines (other (a .sheet .order)) (prepared .plate) answers)
+    → Reports turned (listingLines (other (a .sheet .order)) (prepared .plate) (a .sheet) answers)
 unfolding same-answers
 turned-listed input turned t short prepared answers a =
     answers-listed turned prepared answers (same-answers input turned t short prepared answers a)

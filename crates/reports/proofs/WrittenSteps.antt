@@ -13,7 +13,7 @@ use Rattle.listings.specs.Writing.{WritesOf, WritesRefused, WritesWord}
 use Rattle.reports.specs.declared.Report.{Report}
 use Rattle.reports.specs.declared.Stage.{Stage}
 use Rattle.reports.specs.declared.Step.{Step}
-use Rattle.reports.specs.Steps.{LineStep, Lent, RefusedStep, Steps, StepsAt, WritesStep, lends, ofBlock, refusedStep, stepBy}
+use Rattle.reports.specs.Steps.{Closes, Lent, LineStep, RefusedStep, Steps, StepsAt, WritesStep, closed, lends, ofBlock, refusedStep, stepBy}
 use lib.IntN.{ℤ}
 
 module _ {Promise : Written → List ℕ → Type 0} {before after after′ : Report} {step : Step} {room′ : List ℕ} where
@@ -57,3 +57,8 @@ at-its-stage {report} {input} {lent} {left} {step} stage e s = record { is = sub
 pub only-writes : {Promise : Written → List ℕ → Type 0} {before after : Report} {step : Step} {metrics : List ℤ} {decisions room room′ : List ℕ}
     → WritesStep Promise before after step room′ → LineStep Promise before after (lends metrics decisions room) step (lends metrics decisions room′)
 only-writes w = record { line = w; working = record { metrics-same = refl; decisions-same = refl } }
+
+-- after the last line, by whether they are heard lines
+pub close-step : {step : Step} {room′ : List ℕ} (room : List ℕ) (report : Report) (heard : Bool) → report .heard ≡ heard
+    → WritesStep (Closes heard report room) report (closed heard report) step room′ → WritesStep (Closes (report .heard) report room) report (closed (report .heard) report) step room′
+close-step {step} {room′} room report heard e w = subst (λ (h : Bool). WritesStep (Closes h report room) report (closed h report) step room′) (sym e) w

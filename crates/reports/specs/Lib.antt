@@ -1,4 +1,5 @@
 pub mod Printed
+pub mod Tally
 pub mod Report
 pub mod Answers
 pub mod Steps

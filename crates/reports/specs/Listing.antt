@@ -81,7 +81,7 @@ WritesListing input lent listing left listing′ (W.Length size) = Passes (listi
 
 -- what one line more asks: a line is left, its room has 256 bytes, and the working rooms are enough for every plate
 pub record BeforeLine (input : List ℕ) (p : Progress) (lent : Rooms) (listing : List ℕ) : Type 0 where
-  pub ready : Ready (p .report)
+  pub ready : Ready input (p .report)
   pub more : 1 ≤ linesLeft input (p .report)
   pub room : p .size + 256 ≤ length listing
   pub metrics : 8192 ≤ length (lent .metrics)
@@ -93,14 +93,14 @@ pub record LineAdded (input : List ℕ) (p : Progress) (lent : Rooms) (listing :
   pub short : length line ≤ 256
   pub size : p′ .size ≡ p .size + length line
   pub bytes : listing′ ≡ take (p .size) listing ++ (line ++ drop (length line) (drop (p .size) listing))
-  pub ready : Ready (p′ .report)
+  pub ready : Ready input (p′ .report)
   pub next : (lines : List (List ℕ)) → Left input (p′ .report) lines → Left input (p .report) (line ∷ lines)
   pub fewer : linesLeft input (p .report) ≡ suc (linesLeft input (p′ .report))
   pub working : (after : Rooms) → Leaves input (p′ .report) left after → Leaves input (p .report) lent after
 
 -- what all lines ask: so many are left, and the room has 256 bytes for each
 pub record BeforeLines (input : List ℕ) (report : Report) (lines : ℕ) (lent : Rooms) (listing : List ℕ) : Type 0 where
-  pub ready : Ready report
+  pub ready : Ready input report
   pub count : linesLeft input report ≡ lines
   pub room : 256 * lines ≤ length listing
   pub metrics : 8192 ≤ length (lent .metrics)

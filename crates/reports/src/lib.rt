@@ -4,7 +4,7 @@ ghost use Prim.Native.Nat.{_≤_};
 ghost use lib.ListN.{length, take};
 ghost use Rattle.reports.specs.Listing.{WritesListing};
 ghost use Rattle.reports.specs.Remaining.{rooms};
-ghost use Rattle.reports.specs.Steps.{Opens, OpensSheet, Steps, lends, refusedReport};
+ghost use Rattle.reports.specs.Steps.{Opens, OpensSheet, Steps, lends, nothingKept, refusedReport};
 use listings::Written;
 use plates::Plate;
 use plates::Refusal;
@@ -12,32 +12,38 @@ use plates::Verdict;
 use sheets::Order;
 use sheets::Sheet;
 use sheets::SheetReply;
+use tally::Kept;
+use tally::Reference;
 
 mod listing;
 mod printing;
 mod stages;
+mod tally;
 
-// What comes next in a report: the line of a refusal, the plate's, the profile's, those of the blocks from a place on and then the end
-// line, or nothing.
+// What comes next in a report: the line of a refusal, the plate's, the profile's, those of the blocks or heard lines from a place on and
+// then the tally of heard lines and the end line, the end line alone, or nothing.
 pub enum Stage {
     Refused(Refusal),
     PlateLine,
     ProfileLine,
     BlockLines,
+    EndLine,
     Done,
 }
 
-// A report: what comes next, the prepared plate, the cover's order, the place of the next block line (or of end), and the number of the sheet's
-// block lines.
+// A report: what comes next, the prepared plate, the cover's order, the place of the next block or heard line (or of end), whether these are
+// heard lines, their number, and what is kept of those that have come.
 pub struct Report {
     pub stage: Stage,
     pub plate: Plate,
     pub order: Order,
     pub at: usize,
+    pub heard: bool,
     pub blocks: usize,
+    pub kept: Kept,
 }
 
-// What a step gave: a line of so many bytes at the start of the room, or nothing since nothing is left, or why what was lent is refused.
+// What a step gave: a line of so many bytes at the start of the room, which for a repeated heard line are none, or nothing since nothing is left, or why what was lent is refused.
 pub enum Outcome {
     Line(usize),
     Nothing,
@@ -48,6 +54,16 @@ pub enum Outcome {
 pub struct Step {
     pub outcome: Outcome,
     pub next: Report,
+}
+
+// Nothing is kept yet.
+fn nothing_kept() -> Kept
+    ensures { λ r. ⌜ r ≡ nothingKept ⌝ }
+{
+    Kept {
+        reference: Reference::Unset,
+        tally: tally::none(),
+    }
 }
 
 // The report that says a refusal, and nothing more.
@@ -64,14 +80,16 @@ fn refused(refusal: Refusal) -> Report
         },
         order: Order::First,
         at: 0,
+        heard: false,
         blocks: 0,
+        kept: nothing_kept(),
     }
 }
 
 // The report of a sheet, whose rows stand at the start of the table.
 fn of_sheet(sheet: Sheet, table: &[u64; 64]) -> Report
     requires { ⌜ sheet .rows ≤ length (now table) ⌝ }
-    ensures { λ r. ⌜ OpensSheet (sheet .n) (sheet .kind) (take (sheet .rows) (now (table .entry))) (sheet .order) (sheet .start) (sheet .blocks) r ⌝ }
+    ensures { λ r. ⌜ OpensSheet (sheet .n) (sheet .kind) (take (sheet .rows) (now (table .entry))) (sheet .order) (sheet .start) (sheet .heard) (sheet .blocks) r ⌝ }
 {
     let rows = &table[..];
     let count = sheet.rows;
@@ -88,7 +106,9 @@ fn of_sheet(sheet: Sheet, table: &[u64; 64]) -> Report
                 plate,
                 order,
                 at: sheet.start,
+                heard: sheet.heard,
                 blocks: sheet.blocks,
+                kept: nothing_kept(),
             }
         }
     }
@@ -122,6 +142,7 @@ pub fn next_line(
         Stage::PlateLine => stages::plate_line(report, room),
         Stage::ProfileLine => stages::profile_line(report, room),
         Stage::BlockLines => stages::block_line(report, input, metrics, decisions, room),
+        Stage::EndLine => stages::end_line(report, room),
         Stage::Done => Step {
             outcome: Outcome::Nothing,
             next: report,

@@ -2,7 +2,7 @@
 ghost use mathlib.Core.Path.{_≡_};
 ghost use Prim.Native.Nat.{_≤_};
 ghost use Rattle.reports.specs.Listing.{BeforeLine, BeforeLines, LineAdded, LinesAdded};
-ghost use Rattle.reports.specs.Remaining.{countAt, rooms};
+ghost use Rattle.reports.specs.Remaining.{countAt, rooms, tallies};
 use crate::Outcome;
 use crate::Report;
 use crate::Stage;
@@ -14,18 +14,30 @@ pub struct Progress {
     pub size: usize,
 }
 
+// How many tallies.
+fn tallies(heard: bool) -> usize
+    ensures { λ r. ⌜ r ≡ tallies heard ⌝ }
+    ensures { λ r. ⌜ r ≤ 1 ⌝ }
+{
+    if heard {
+        return 1;
+    }
+    0
+}
+
 // How many lines a report gives that was just opened.
 pub fn lines_of(report: Report) -> usize
     requires { ⌜ report .blocks ≤ 32769 ⌝ }
-    ensures { λ r. ⌜ r ≡ countAt (report .stage) (report .blocks) ⌝ }
+    ensures { λ r. ⌜ r ≡ countAt (report .stage) (report .heard) (report .blocks) ⌝ }
 {
-    let blocks = report.blocks;
+    let blocks = report.blocks + tallies(report.heard);
     let stage = report.stage;
     match stage {
         Stage::Refused(_) => 1,
         Stage::PlateLine => blocks + 3,
         Stage::ProfileLine => blocks + 2,
         Stage::BlockLines => blocks + 1,
+        Stage::EndLine => 1,
         Stage::Done => 0,
     }
 }

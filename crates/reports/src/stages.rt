@@ -3,15 +3,21 @@ ghost use mathlib.Core.Path.{_≡_};
 ghost use Prim.Native.Nat.{_≤_};
 ghost use lib.ListN.{length, take};
 ghost use Rattle.plates.specs.Refusals.{field, number, place};
-ghost use Rattle.listings.specs.Writing.{WritesEnd, WritesOf, WritesPlate, WritesProfile, WritesRefused};
+ghost use Rattle.listings.specs.Writing.{WritesEnd, WritesOf, WritesPlate, WritesProfile, WritesRefused, WritesTally};
 ghost use Rattle.reports.specs.Report.{lineOfAnswer};
-ghost use Rattle.reports.specs.Steps.{BlocksStep, DecodedStep, Printable, RefusedStep, RoomStep, WritesStep, decodable, lends, ofBlock, refusedStep, stepBy, to, toBlocks, toNothing, toProfile};
-ghost use Rattle.sheets.specs.Blocks.{blockAt, nextLine};
+ghost use Rattle.reports.specs.Steps.{BlocksStep, Closes, DecodedStep, FoundStep, Printable, RefusedStep, RoomStep, WritesStep, afterLine, closed, decodable, isSilent, keptAfter, lends, ofBlock, refusedStep, silentStep, stepBy, to, toBlocks, toEnd, toNothing, toProfile};
+ghost use Rattle.sheets.specs.Blocks.{blockAt, counterAt, nextLine};
 use crate::Outcome;
 use crate::Report;
 use crate::Stage;
 use crate::Step;
 use crate::printing::printed_word;
+use crate::tally::Kept;
+use crate::tally::is_repeat;
+use crate::tally::raise;
+use crate::tally::reference_of;
+use crate::tally::share;
+use crate::tally::stands;
 use decoding::Answer;
 use decoding::Decoded;
 use listings::Written;
@@ -26,12 +32,15 @@ fn at_stage(report: Report, stage: Stage, at: usize) -> Report
 {
     let plate = report.plate;
     let order = report.order;
+    let kept = report.kept;
     Report {
         stage,
         plate,
         order,
         at,
+        heard: report.heard,
         blocks: report.blocks,
+        kept,
     }
 }
 
@@ -104,7 +113,7 @@ pub fn profile_line(report: Report, room: &mut [u8]) -> Step
 }
 
 // The end line.
-fn end_line(report: Report, room: &mut [u8]) -> Step
+pub fn end_line(report: Report, room: &mut [u8]) -> Step
     ensures { λ r. ⌜ WritesStep (WritesEnd (report .blocks) (now (room .entry))) report (toNothing report) r (now (room .exit)) ⌝ }
 {
     let after = at_stage(report, Stage::Done, report.at);
@@ -115,7 +124,77 @@ fn end_line(report: Report, room: &mut [u8]) -> Step
     )
 }
 
+// The tally line.
+fn tally_line(report: Report, room: &mut [u8]) -> Step
+    ensures { λ r. ⌜ WritesStep (WritesTally (report .kept .tally) (now (room .entry))) report (toEnd report) r (now (room .exit)) ⌝ }
+{
+    let after = at_stage(report, Stage::EndLine, report.at);
+    let kept = report.kept;
+    let tally = kept.tally;
+    step_by(listings::write_tally(tally, room), report, after)
+}
+
 // ---- blocks
+
+// What is kept after a line.
+fn kept_after(heard: bool, kept: Kept, counter: u16, samples: &[i16], decoded: Decoded) -> Kept
+    requires { ⌜ length (now samples) ≤ 64 ⌝ }
+    ensures { λ r. ⌜ r ≡ keptAfter heard kept counter (now (samples .entry)) decoded ⌝ }
+{
+    if heard {
+        let before = kept.reference;
+        let reference = reference_of(before, counter, decoded);
+        let so_far = kept.tally;
+        let tally = raise(so_far, share(before, counter, samples, decoded));
+        return Kept { reference, tally };
+    }
+    kept
+}
+
+// The report after a line of this counter and these samples, the next beginning at `next`.
+fn after_line(
+    report: Report,
+    next: usize,
+    counter: u16,
+    samples: &[i16],
+    decoded: Decoded,
+) -> Report
+    requires { ⌜ length (now samples) ≤ 64 ⌝ }
+    ensures { λ r. ⌜ r ≡ afterLine next report counter (now (samples .entry)) decoded ⌝ }
+{
+    let plate = report.plate;
+    let order = report.order;
+    let before = report.kept;
+    let kept = kept_after(report.heard, before, counter, samples, decoded);
+    Report {
+        stage: Stage::BlockLines,
+        plate,
+        order,
+        at: next,
+        heard: report.heard,
+        blocks: report.blocks,
+        kept,
+    }
+}
+
+// Whether a line of this counter is a repeat, which prints no line where it is not refused.
+fn is_silent(report: Report, counter: u16) -> bool
+    ensures { λ r. ⌜ r ≡ isSilent report counter ⌝ }
+{
+    let kept = report.kept;
+    let reference = kept.reference;
+    report.heard && is_repeat(stands(reference, counter))
+}
+
+// A step of no bytes.
+fn silent_step(after: Report) -> Step
+    ensures { λ r. ⌜ r ≡ silentStep after ⌝ }
+{
+    Step {
+        outcome: Outcome::Line(0),
+        next: after,
+    }
+}
 
 // The line of an answer, its word in the cover's order.
 fn word_line(before: Report, after: Report, answer: Answer, room: &mut [u8]) -> Step
@@ -185,13 +264,36 @@ fn refused_block(before: Report, after: Report, refusal: Refusal, room: &mut [u8
     refused_step(refusal, before)
 }
 
-// The line of what decoding replied.
-fn decoded_line(before: Report, after: Report, decoded: Decoded, room: &mut [u8]) -> Step
+// The line of an answer, or none for a repeat.
+fn found_line(silent: bool, before: Report, after: Report, answer: Answer, room: &mut [u8]) -> Step
+    requires { ⌜ before .plate .n ≤ 64 ⌝ }
+    ensures { λ r. ⌜ FoundStep silent answer before after (now (room .entry)) r (now (room .exit)) ⌝ }
+{
+    if silent {
+        return silent_step(after);
+    }
+    word_line(before, after, answer, room)
+}
+
+// The line of what decoding replied to a line of this counter.
+fn decoded_line(
+    before: Report,
+    after: Report,
+    counter: u16,
+    decoded: Decoded,
+    room: &mut [u8],
+) -> Step
     requires { ⌜ Printable decoded (before .plate) ⌝ }
-    ensures { λ r. ⌜ DecodedStep decoded before after (now (room .entry)) r (now (room .exit)) ⌝ }
+    ensures { λ r. ⌜ DecodedStep counter decoded before after (now (room .entry)) r (now (room .exit)) ⌝ }
 {
     match decoded {
-        Decoded::Found(answer) => word_line(before, after, answer, room),
+        Decoded::Found(answer) => found_line(
+            is_silent(before, counter),
+            before,
+            after,
+            answer,
+            room,
+        ),
         Decoded::Refused(refusal) => refused_block(before, after, refusal, room),
     }
 }
@@ -204,10 +306,11 @@ fn used(count: usize) -> usize
     if 64 < count { 0 } else { count }
 }
 
-// The line of a block of `count` samples, after which the next line begins at `next`.
+// The line of a block or heard line of this counter and `count` samples, after which the next line begins at `next`.
 fn samples_line(
     report: Report,
     next: usize,
+    counter: u16,
     count: usize,
     samples: &[i16; 64],
     metrics: &mut [i32],
@@ -215,20 +318,30 @@ fn samples_line(
     room: &mut [u8],
 ) -> Step
     requires { ⌜ length (now samples) ≡ 64 ⌝ }
-    ensures { λ r. ⌜ RoomStep (take (decodable count) (now (samples .entry))) report (toBlocks next report) (lends (now (metrics .entry)) (now (decisions .entry)) (now (room .entry))) r (lends (now (metrics .exit)) (now (decisions .exit)) (now (room .exit))) ⌝ }
+    ensures { λ r. ⌜ RoomStep counter (take (decodable count) (now (samples .entry))) report next (lends (now (metrics .entry)) (now (decisions .entry)) (now (room .entry))) r (lends (now (metrics .exit)) (now (decisions .exit)) (now (room .exit))) ⌝ }
 {
     if room.len() < 256 {
         return refused_step(Refusal::LineRoom, report);
     }
-    let after = at_stage(report, Stage::BlockLines, next);
     let plate = report.plate;
     let taken = used(count);
     let values = &samples[..];
     let decoded = decoding::decode(plate, &values[..taken], metrics, decisions);
-    decoded_line(report, after, decoded, room)
+    let after = after_line(report, next, counter, &values[..taken], decoded);
+    decoded_line(report, after, counter, decoded, room)
 }
 
-// The line of the block that begins at the report's place, or the end line.
+// After the last line: the tally of heard lines, or the end line.
+fn close_line(report: Report, room: &mut [u8]) -> Step
+    ensures { λ r. ⌜ WritesStep (Closes (report .heard) report (now (room .entry))) report (closed (report .heard) report) r (now (room .exit)) ⌝ }
+{
+    if report.heard {
+        return tally_line(report, room);
+    }
+    end_line(report, room)
+}
+
+// The line of the block or heard line that begins at the report's place, or what comes after the last.
 pub fn block_line(
     report: Report,
     input: &[u8],
@@ -236,15 +349,25 @@ pub fn block_line(
     decisions: &mut [u64],
     room: &mut [u8],
 ) -> Step
-    ensures { λ r. ⌜ BlocksStep (blockAt (now (input .entry)) (report .at)) (nextLine (now (input .entry)) (report .at)) report (lends (now (metrics .entry)) (now (decisions .entry)) (now (room .entry))) r (lends (now (metrics .exit)) (now (decisions .exit)) (now (room .exit))) ⌝ }
+    ensures { λ r. ⌜ BlocksStep (blockAt (report .heard) (now (input .entry)) (report .at)) (counterAt (now (input .entry)) (report .at)) (nextLine (now (input .entry)) (report .at)) report (lends (now (metrics .entry)) (now (decisions .entry)) (now (room .entry))) r (lends (now (metrics .exit)) (now (decisions .exit)) (now (room .exit))) ⌝ }
 {
     let mut values = [0; 64];
     let order = report.order;
-    let reply = sheets::read_block(input, report.at, order, &mut values);
+    let reply = sheets::read_block(report.heard, input, report.at, order, &mut values);
     match reply {
         BlockReply::Read { samples, next } => {
-            samples_line(report, next, samples, &values, metrics, decisions, room)
+            let counter = sheets::read_counter(input, report.at);
+            samples_line(
+                report,
+                next,
+                counter,
+                samples,
+                &values,
+                metrics,
+                decisions,
+                room,
+            )
         }
-        BlockReply::NoBlock => end_line(report, room),
+        BlockReply::NoBlock => close_line(report, room),
     }
 }

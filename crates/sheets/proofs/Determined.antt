@@ -1,6 +1,7 @@
 -- Two replies that meet the promise of a public call are equal, and so is what they leave of the lent places.
 use Prim.Native.Nat.{ℕ}
 use lib.IntN.{ℤ}
+use mathlib.Core.Bool.{Bool}
 use mathlib.Core.List.{List}
 use mathlib.Core.Path.{_≡_, sym, _∙_}
 use Rattle.sheets.specs.Blocks.{ReadsBlock}
@@ -14,6 +15,6 @@ pub sheet-determined : {s table : List ℕ} {r₁ r₂ : SheetReply} {t₁ t₂ 
 sheet-determined a b = (a .reply ∙ sym (b .reply), a .rows ∙ sym (b .rows))
 
 -- `read_block`: the reply and the room
-pub block-determined : {s : List ℕ} {at : ℕ} {order : Order} {room : List ℤ} {r₁ r₂ : BlockReply} {t₁ t₂ : List ℤ} → ReadsBlock s at order room r₁ t₁ → ReadsBlock s at order room r₂ t₂
+pub block-determined : {heard : Bool} {s : List ℕ} {at : ℕ} {order : Order} {room : List ℤ} {r₁ r₂ : BlockReply} {t₁ t₂ : List ℤ} → ReadsBlock heard s at order room r₁ t₁ → ReadsBlock heard s at order room r₂ t₂
     → (r₁ ≡ r₂) × (t₁ ≡ t₂)
 block-determined a b = (a .reply ∙ sym (b .reply), a .samples ∙ sym (b .samples))

@@ -1,7 +1,5 @@
 -- The refusal of a bad line is the first fault of the sheet's lines: the lowest line, then the lowest number, then the lowest field.
 use Prim.Native.Nat.{ℕ, zero, suc, _+_}
-use borrow.Author.Tests.{lt-ltb}
-use lib.Dec.{ltb}
 use lib.IntN.{ℤ}
 use lib.ListN.{length, drop}
 use mathlib.Core.Bool.{Bool, true, false, cond}
@@ -14,21 +12,23 @@ use Rattle.plates.specs.declared.Verdict.{Verdict}
 use Rattle.plates.specs.declared.Verdict.the-variants as J
 use Rattle.sheets.specs.Text.{fields}
 use Rattle.sheets.specs.Words.{wordOf}
-use Rattle.sheets.specs.Blocks.{BlockFound, block, noBlock, samplesOf, samplesFound, valuesOf, blockBy, blockLine, blockThen, blocksOf}
-use Rattle.sheets.specs.Lines.{fieldOf, numberOf, blockIs, lineBy, lineOf, front, rowThen, rowsOf, afterEnd, endBy, endingOf}
+use Rattle.sheets.specs.Blocks.{BlockFound, block, noBlock, samplesOf, samplesFound, heardRest, blockBy, blockLine, listedIn, blockThen, blocksOf, isHeard, heardLine, heardFront}
+use Rattle.sheets.specs.Lines.{fieldOf, numberOf, blockIs, heardFields, lineBy, lineOf, front, rowThen, rowsOf, afterEnd, cameAfter, endBy, endingOf}
 use Rattle.sheets.specs.Sheet.{refusalOf, lineVerdict}
-use Rattle.sheets.specs.Faults.{BeforeAt, Part, onRows, onBlocks, onNothing, after, firstWord, outOfTurn, WrongHere, WrongAt, FirstFault}
+use Rattle.sheets.specs.Faults.{BeforeAt, Part, onRows, onBlocks, onHeard, onNothing, after, firstWord, outOfTurn, WrongHere, WrongAt, FirstFault}
 use Rattle.sheets.specs.declared.Order.{Order}
 use Rattle.sheets.specs.declared.word.Word.{Word}
-use Rattle.sheets.specs.declared.word.Word.the-variants.{Cover, Row, Block, End, Other}
+use Rattle.sheets.specs.declared.word.Word.the-variants.{Cover, Row, Block, Heard, End, Other}
 use Rattle.sheets.specs.declared.block.Samples.{Samples}
 use Rattle.sheets.specs.declared.block.Samples.the-variants as S
+use Rattle.sheets.specs.declared.line.Came.{Came}
+use Rattle.sheets.specs.declared.line.Came.the-variants.{Nothing, Blocks, Heards}
 use Rattle.sheets.specs.declared.line.Fault.{Fault}
 use Rattle.sheets.specs.declared.line.Fault.the-variants as F
 use Rattle.sheets.specs.declared.line.Line.{Line}
 use Rattle.sheets.specs.declared.line.Line.the-variants as L
 use Rattle.sheets.specs.declared.body.Ending.{Ending}
-use Rattle.sheets.proofs.LineFaults.{LineJudged, Right, Told, line-judged, partOf, turn-told}
+use Rattle.sheets.proofs.LineFaults.{LineJudged, Received, Right, Told, line-judged, not-both, partOf, turn-told}
 use Rattle.sheets.proofs.Replies.{number-of-line}
 
 module _ (n : ℕ) where
@@ -102,137 +102,224 @@ module _ (n : ℕ) where
 
   module _ (order : Order) where
     -- a line that is missing or not ended, before end has come
-    missing : (late : Bool) (ls : List (List ℕ)) (line : ℕ) → ((m b : ℕ) → WrongHere n (partOf late) ls m b ≡ ((m ≡ 10) × (b ≡ 0)))
-        → LinesJudged (partOf late) ls line (J.Refused (refusalOf line F.Missing))
-    missing late ls line e = open-here (partOf late) ls line (rw (e 10 0) (refl, refl)) (λ m b w. rw (e m b) at w)
+    missing : (came : Came) (ls : List (List ℕ)) (line : ℕ) → ((m b : ℕ) → WrongHere n (partOf came) ls m b ≡ ((m ≡ 10) × (b ≡ 0)))
+        → LinesJudged (partOf came) ls line (J.Refused (refusalOf line F.Missing))
+    missing came ls line e = open-here (partOf came) ls line (rw (e 10 0) (refl, refl)) (λ m b w. rw (e m b) at w)
 
     -- neither a row nor a block: end, or the first fault
-    ending-judged : (late : Bool) (ls : List (List ℕ)) (line : ℕ) → ((w : ℕ) → front n order late ls ≡ L.Row w → ⊥) → (front n order late ls ≡ L.Block → ⊥)
-        → LinesJudged (partOf late) ls line (lineVerdict line (endingOf n order late ls))
-    ending-judged false [] line r b = missing false [] line (λ i j. refl)
-    ending-judged true [] line r b = missing true [] line (λ i j. refl)
-    ending-judged false (l ∷ []) line r b = missing false (l ∷ []) line (λ i j. refl)
-    ending-judged true (l ∷ []) line r b = missing true (l ∷ []) line (λ i j. refl)
-    ending-judged late (l ∷ m ∷ ms) line r b = by (lineOf n order late (fields l)) refl (line-judged n order late (fields l))
+    ending-judged : (came : Came) (ls : List (List ℕ)) (line : ℕ) → ((w : ℕ) → front n order came ls ≡ L.Row w → ⊥) → (front n order came ls ≡ L.Block → ⊥)
+        → LinesJudged (partOf came) ls line (lineVerdict line (endingOf n order came ls))
+    ending-judged Nothing [] line r b = missing Nothing [] line (λ i j. refl)
+    ending-judged Blocks [] line r b = missing Blocks [] line (λ i j. refl)
+    ending-judged Heards [] line r b = missing Heards [] line (λ i j. refl)
+    ending-judged Nothing (l ∷ []) line r b = missing Nothing (l ∷ []) line (λ i j. refl)
+    ending-judged Blocks (l ∷ []) line r b = missing Blocks (l ∷ []) line (λ i j. refl)
+    ending-judged Heards (l ∷ []) line r b = missing Heards (l ∷ []) line (λ i j. refl)
+    ending-judged came (l ∷ m ∷ ms) line r b = by (lineOf n order came (fields l)) refl (line-judged n order came (fields l))
       where
-        by : (x : Line) → lineOf n order late (fields l) ≡ x → LineJudged n (partOf late) (fields l) x
-            → LinesJudged (partOf late) (l ∷ m ∷ ms) line (lineVerdict line (endBy x (m ∷ ms)))
+        by : (x : Line) → lineOf n order came (fields l) ≡ x → LineJudged n (partOf came) (fields l) x
+            → LinesJudged (partOf came) (l ∷ m ∷ ms) line (lineVerdict line (endBy x (m ∷ ms)))
         by (L.Row w) e h = absurd (r w e)
         by L.Block e h = absurd (b e)
-        by L.End e h = on (partOf late) onNothing l m ms line (lineVerdict line (afterEnd (m ∷ ms))) (h .0) (ap after (h .1)) (nothing-judged line m ms)
-        by (L.Bad fault) e h = first-here (partOf late) l m ms line fault h
+        by L.End e h = on (partOf came) onNothing l m ms line (lineVerdict line (afterEnd (m ∷ ms))) (h .0) (ap after (h .1)) (nothing-judged line m ms)
+        by (L.Bad fault) e h = first-here (partOf came) l m ms line fault h
 
-    -- ---- blocks
+    -- ---- blocks and heard lines
 
-    -- a row does not come after a block
-    no-row : (ls : List (List ℕ)) (w : ℕ) → front n order true ls ≡ L.Row w → ⊥
-    no-row [] w e = let z : _≡_ {A = ℕ} 0 1 = cc in omega arith
-    no-row (l ∷ []) w e = let z : _≡_ {A = ℕ} 0 1 = cc in omega arith
-    no-row (l ∷ m ∷ ms) w e =
-        let h : LineJudged n onBlocks (fields l) (L.Row w) = subst (LineJudged n onBlocks (fields l)) e (line-judged n order true (fields l)) in
-        h .0 17 1 (outOfTurn (rw (h .1) refl) refl refl)
+    -- what has come after one of them
+    abbrev past : Bool → Came
+    past false = Blocks
+    past true = Heards
 
-    -- a block line is one by both definitions
-    abbrev Alike : List ℤ → BlockFound → Line → Type 0
-    Alike vs (block us) x = (us ≡ vs) × (x ≡ L.Block)
-    Alike vs noBlock x = x ≡ L.Block → ⊥
+    -- its word
+    abbrev wordFor : Bool → Word
+    wordFor false = Block
+    wordFor true = Heard
 
-    -- 1 for the word block, 0 for another
-    abbrev isBlock : Word → ℕ
-    isBlock Cover = 0
-    isBlock Row = 0
-    isBlock Block = 1
-    isBlock End = 0
-    isBlock Other = 0
+    part-past : (heard : Bool) → after (wordFor heard) ≡ partOf (past heard)
+    part-past false = refl
+    part-past true = refl
+
+    -- a row does not come after one of them
+    no-row-by : (heard : Bool) (word : Word) (fs : List (List ℕ)) (w : ℕ) → lineBy n order (past heard) word fs ≡ L.Row w → word ≡ Row → ⊥
+    no-row-by false word fs w e q = let z : L.Bad F.Turn ≡ L.Row w = rw q at e in let y : _≡_ {A = ℕ} 0 1 = cc in omega arith
+    no-row-by true word fs w e q = let z : L.Bad F.Turn ≡ L.Row w = rw q at e in let y : _≡_ {A = ℕ} 0 1 = cc in omega arith
+
+    no-row : (heard : Bool) (ls : List (List ℕ)) (w : ℕ) → front n order (past heard) ls ≡ L.Row w → ⊥
+    no-row heard [] w e = let z : _≡_ {A = ℕ} 0 1 = cc in omega arith
+    no-row heard (l ∷ []) w e = let z : _≡_ {A = ℕ} 0 1 = cc in omega arith
+    no-row heard (l ∷ m ∷ ms) w e = by (fields l) e (subst (LineJudged n (partOf (past heard)) (fields l)) e (line-judged n order (past heard) (fields l)) .1)
+      where
+        by : (fs : List (List ℕ)) → lineOf n order (past heard) fs ≡ L.Row w → firstWord fs ≡ Row → ⊥
+        by [] g q = let z : _≡_ {A = ℕ} 0 1 = cc in omega arith
+        by (v ∷ fs) g q = no-row-by heard (wordOf v) fs w g q
+
+    -- the lines that are sought go by what has come, or by the first of them
+    abbrev Sought : Came → Bool → List (List ℕ) → Type 0
+    Sought Nothing heard fs = heard ≡ heardLine fs
+    Sought Blocks heard fs = heard ≡ false
+    Sought Heards heard fs = heard ≡ true
+
+    past-sought : (heard : Bool) (fs : List (List ℕ)) → Sought (past heard) heard fs
+    past-sought false fs = refl
+    past-sought true fs = refl
+
+    -- a block or heard line is one by both definitions
+    abbrev Alike : Bool → Word → List ℤ → BlockFound → Line → Type 0
+    Alike heard word vs (block us) x = (us ≡ vs) × (x ≡ L.Block) × (word ≡ wordFor heard)
+    Alike heard word vs noBlock x = x ≡ L.Block → ⊥
+
+    -- a word that is neither
+    abbrev isOther : Word → ℕ
+    isOther Cover = 1
+    isOther Row = 1
+    isOther Block = 0
+    isOther Heard = 0
+    isOther End = 1
+    isOther Other = 1
 
     -- a line of another word is no block
-    other-word : (late : Bool) (w : List ℕ) (fs : List (List ℕ)) (word : Word) → wordOf w ≡ word → isBlock word ≡ 0 → lineBy n order late word fs ≡ L.Block → ⊥
-    other-word late w fs word e o g =
-        let f : lineOf n order late (w ∷ fs) ≡ L.Block = rw e g in
-        let b : wordOf w ≡ Block = subst (LineJudged n (partOf late) (w ∷ fs)) f (line-judged n order late (w ∷ fs)) .1 in
-        let z : isBlock word ≡ 1 = ap isBlock (sym e ∙ b) in
-        omega arith
+    other-word : (came : Came) (w : List ℕ) (fs : List (List ℕ)) (word : Word) → wordOf w ≡ word → isOther word ≡ 1 → lineBy n order came word fs ≡ L.Block → ⊥
+    other-word came w fs word e o g =
+        let f : lineOf n order came (w ∷ fs) ≡ L.Block = rw e g in
+        by (subst (LineJudged n (partOf came) (w ∷ fs)) f (line-judged n order came (w ∷ fs)) .1)
+      where
+        by : Received (wordOf w) → ⊥
+        by (inl b) = let z : isOther word ≡ 0 = ap isOther (sym e ∙ b) in omega arith
+        by (inr b) = let z : isOther word ≡ 0 = ap isOther (sym e ∙ b) in omega arith
+
+    never-block : (fault : Fault) → L.Bad fault ≡ L.Block → ⊥
+    never-block fault e = let z : _≡_ {A = ℕ} 0 1 = cc in omega arith
+
+    samples-alike : (heard : Bool) (vs : List ℤ) (r : Samples) → Alike heard (wordFor heard) vs (samplesFound r vs) (blockIs r)
+    samples-alike heard vs (S.Count k) = (refl, refl, refl)
+    samples-alike heard vs (S.Bad f) = never-block (F.Value f)
+
+    heard-alike : (vs : List ℤ) (fs : List (List ℕ)) → Alike true Heard vs (samplesFound (heardRest fs) vs) (heardFields fs)
+    heard-alike vs [] = never-block (F.Count 2)
+    heard-alike vs (f ∷ fs) = samples-alike true vs (heardRest (f ∷ fs))
+
+    -- by the word, which decides where nothing has come
+    by-word : (came : Came) (heard : Bool) (w : List ℕ) (fs : List (List ℕ)) (vs : List ℤ) (word : Word) → wordOf w ≡ word → Sought came heard (w ∷ fs)
+        → Alike heard word vs (samplesFound (blockBy heard word fs) vs) (lineBy n order came word fs)
+    by-word came heard w fs vs Cover e k = other-word came w fs Cover e refl
+    by-word came heard w fs vs Row e k = other-word came w fs Row e refl
+    by-word Nothing false w fs vs Block e k = samples-alike false vs (samplesOf 2 0 fs)
+    by-word Nothing true w fs vs Block e k = absurd (not-both (rw e at (sym k)) refl)
+    by-word Blocks false w fs vs Block e k = samples-alike false vs (samplesOf 2 0 fs)
+    by-word Blocks true w fs vs Block e k = absurd (not-both refl k)
+    by-word Heards false w fs vs Block e k = absurd (not-both refl (sym k))
+    by-word Heards true w fs vs Block e k = never-block F.Turn
+    by-word Nothing false w fs vs Heard e k = absurd (not-both refl (rw e at (sym k)))
+    by-word Nothing true w fs vs Heard e k = heard-alike vs fs
+    by-word Blocks false w fs vs Heard e k = never-block F.Turn
+    by-word Blocks true w fs vs Heard e k = absurd (not-both refl k)
+    by-word Heards false w fs vs Heard e k = absurd (not-both refl (sym k))
+    by-word Heards true w fs vs Heard e k = heard-alike vs fs
+    by-word came heard w fs vs End e k = other-word came w fs End e refl
+    by-word came heard w fs vs Other e k = other-word came w fs Other e refl
 
     -- by its word
-    alike : (late : Bool) (fs : List (List ℕ)) (vs : List ℤ) → Alike vs (samplesFound (blockLine fs) vs) (lineOf n order late fs)
-    alike late [] vs = λ e. (let z : _≡_ {A = ℕ} 0 1 = cc in absurd (omega arith))
-    alike late (w ∷ fs) vs = by (wordOf w) refl
-      where
-        samples : (r : Samples) → Alike vs (samplesFound r vs) (blockIs r)
-        samples (S.Count k) = (refl, refl)
-        samples (S.Bad f) = λ e. (let z : _≡_ {A = ℕ} 0 1 = cc in absurd (omega arith))
+    alike : (came : Came) (heard : Bool) (fs : List (List ℕ)) (vs : List ℤ) → Sought came heard fs
+        → Alike heard (firstWord fs) vs (samplesFound (blockLine heard fs) vs) (lineOf n order came fs)
+    alike came heard [] vs k = never-block F.Turn
+    alike came heard (w ∷ fs) vs k = by-word came heard w fs vs (wordOf w) refl k
 
-        by : (word : Word) → wordOf w ≡ word → Alike vs (samplesFound (blockBy word fs) vs) (lineBy n order late word fs)
-        by Block e = samples (samplesOf 0 fs)
-        by Cover e = other-word late w fs Cover e refl
-        by Row e = other-word late w fs Row e refl
-        by End e = other-word late w fs End e refl
-        by Other e = other-word late w fs Other e refl
+    -- what has come after so many more
+    abbrev cameThen : Came → Bool → ℕ → Came
+    cameThen came heard zero = came
+    cameThen came heard (suc k) = past heard
 
-    -- whether a row is out of its turn after so many blocks more
-    abbrev lateAfter : Bool → ℕ → Bool
-    lateAfter late k = cond late true (ltb 0 k)
+    -- how the lines end after them
+    abbrev blocksEnd : Came → Bool → List (List ℕ) → Ending
+    blocksEnd came heard ls = endingOf n order (cameThen came heard (length (blocksOf heard ls))) (drop (length (blocksOf heard ls)) ls)
 
-    -- how the lines end after the blocks
-    abbrev blocksEnd : Bool → List (List ℕ) → Ending
-    blocksEnd late ls = endingOf n order (lateAfter late (length (blocksOf ls))) (drop (length (blocksOf ls)) ls)
+    -- no more comes
+    none-judged : (came : Came) (ls : List (List ℕ)) (line : ℕ) → ((w : ℕ) → front n order came ls ≡ L.Row w → ⊥) → (front n order came ls ≡ L.Block → ⊥)
+        → LinesJudged (partOf came) ls line (lineVerdict (0 + line) (endingOf n order came ls))
+    none-judged came ls line r b = let z : 0 + line ≡ line = omega arith in rw z (ending-judged came ls line r b)
 
-    -- no block comes
-    none-judged : (late : Bool) (ls : List (List ℕ)) (line : ℕ) → ((w : ℕ) → front n order late ls ≡ L.Row w → ⊥) → (front n order late ls ≡ L.Block → ⊥)
-        → LinesJudged (partOf late) ls line (lineVerdict (0 + line) (endingOf n order (lateAfter late 0) ls))
-    none-judged false ls line r b = let z : 0 + line ≡ line = omega arith in rw z (ending-judged false ls line r b)
-    none-judged true ls line r b = let z : 0 + line ≡ line = omega arith in rw z (ending-judged true ls line r b)
+    -- the first of some lines is sought
+    abbrev SoughtFirst : Came → Bool → List (List ℕ) → Type 0
+    SoughtFirst came heard [] = Unit {0}
+    SoughtFirst came heard (l ∷ ls) = Sought came heard (fields l)
+
+    past-first : (heard : Bool) (ls : List (List ℕ)) → SoughtFirst (past heard) heard ls
+    past-first heard [] = tt
+    past-first heard (l ∷ ls) = past-sought heard (fields l)
+
+    -- one more leaves what comes after it
+    then-past : (heard : Bool) (k : ℕ) → cameThen (past heard) heard k ≡ past heard
+    then-past heard zero = refl
+    then-past heard (suc k) = refl
 
     -- blocks, and the line after them
-    blocks-judged : (late : Bool) (ls : List (List ℕ)) (line : ℕ) → ((w : ℕ) → front n order late ls ≡ L.Row w → ⊥)
-        → LinesJudged (partOf late) ls line (lineVerdict (length (blocksOf ls) + line) (blocksEnd late ls))
-    blocks-judged late [] line r = none-judged late [] line r (λ e. (let z : _≡_ {A = ℕ} 0 1 = cc in absurd (omega arith)))
-    blocks-judged late (l ∷ []) line r = none-judged late (l ∷ []) line r (λ e. (let z : _≡_ {A = ℕ} 0 1 = cc in absurd (omega arith)))
-    blocks-judged late (l ∷ m ∷ ms) line r =
-        by (blocks-judged true (m ∷ ms) (line + 1) (no-row (m ∷ ms))) (samplesFound (blockLine (fields l)) (valuesOf (drop 1 (fields l)))) (alike late (fields l) (valuesOf (drop 1 (fields l))))
+    blocks-judged : (came : Came) (heard : Bool) (ls : List (List ℕ)) (line : ℕ) → SoughtFirst came heard ls → ((w : ℕ) → front n order came ls ≡ L.Row w → ⊥)
+        → LinesJudged (partOf came) ls line (lineVerdict (length (blocksOf heard ls) + line) (blocksEnd came heard ls))
+    blocks-judged came heard [] line k r = none-judged came [] line r (never-block F.Missing)
+    blocks-judged came heard (l ∷ []) line k r = none-judged came (l ∷ []) line r (never-block F.Missing)
+    blocks-judged came heard (l ∷ m ∷ ms) line k r =
+        by (blocks-judged (past heard) heard (m ∷ ms) (line + 1) (past-first heard (m ∷ ms)) (no-row heard (m ∷ ms)))
+        (samplesFound (blockLine heard (fields l)) (listedIn heard (fields l))) (alike came heard (fields l) (listedIn heard (fields l)) k)
       where
-        ends : (late : Bool) (us : List ℤ) (bs : List (List ℤ)) → lateAfter late (length (us ∷ bs)) ≡ true
-        ends false us bs = lt-ltb 0 (length (us ∷ bs)) (omega arith)
-        ends true us bs = refl
-
-        by : LinesJudged onBlocks (m ∷ ms) (line + 1) (lineVerdict (length (blocksOf (m ∷ ms)) + (line + 1)) (blocksEnd true (m ∷ ms)))
-            → (found : BlockFound) → Alike (valuesOf (drop 1 (fields l))) found (lineOf n order late (fields l))
-            → LinesJudged (partOf late) (l ∷ m ∷ ms) line
-            (lineVerdict (length (blockThen found (blocksOf (m ∷ ms))) + line)
-            (endingOf n order (lateAfter late (length (blockThen found (blocksOf (m ∷ ms))))) (drop (length (blockThen found (blocksOf (m ∷ ms)))) (l ∷ m ∷ ms))))
+        by : LinesJudged (partOf (past heard)) (m ∷ ms) (line + 1) (lineVerdict (length (blocksOf heard (m ∷ ms)) + (line + 1)) (blocksEnd (past heard) heard (m ∷ ms)))
+            → (found : BlockFound) → Alike heard (firstWord (fields l)) (listedIn heard (fields l)) found (lineOf n order came (fields l))
+            → LinesJudged (partOf came) (l ∷ m ∷ ms) line
+            (lineVerdict (length (blockThen found (blocksOf heard (m ∷ ms))) + line)
+            (endingOf n order (cameThen came heard (length (blockThen found (blocksOf heard (m ∷ ms))))) (drop (length (blockThen found (blocksOf heard (m ∷ ms)))) (l ∷ m ∷ ms))))
         by h (block us) a =
-            let j : LineJudged n (partOf late) (fields l) L.Block = subst (LineJudged n (partOf late) (fields l)) (a .1) (line-judged n order late (fields l)) in
-            let e : suc (length (blocksOf (m ∷ ms))) + line ≡ length (blocksOf (m ∷ ms)) + (line + 1) = omega arith in
-            rw (e, ends late us (blocksOf (m ∷ ms)))
-            (on (partOf late) onBlocks l m ms line (lineVerdict (length (blocksOf (m ∷ ms)) + (line + 1)) (blocksEnd true (m ∷ ms))) (j .0) (ap after (j .1)) h)
-        by h noBlock a = none-judged late (l ∷ m ∷ ms) line r a
+            let j : LineJudged n (partOf came) (fields l) L.Block = subst (LineJudged n (partOf came) (fields l)) (a .1) (line-judged n order came (fields l)) in
+            let b = length (blocksOf heard (m ∷ ms)) in
+            let e : suc b + line ≡ b + (line + 1) = omega arith in
+            let g : LinesJudged (partOf (past heard)) (m ∷ ms) (line + 1) (lineVerdict (b + (line + 1)) (endingOf n order (past heard) (drop b (m ∷ ms)))) =
+            rw (then-past heard b) at h in
+            rw e
+            (on (partOf came) (partOf (past heard)) l m ms line (lineVerdict (b + (line + 1)) (endingOf n order (past heard) (drop b (m ∷ ms)))) (j .0)
+            (ap after (a .2) ∙ part-past heard) g)
+        by h noBlock a = none-judged came (l ∷ m ∷ ms) line r a
 
     -- ---- rows
 
+    first-sought : (ls : List (List ℕ)) → SoughtFirst Nothing (heardFront ls) ls
+    first-sought [] = tt
+    first-sought (l ∷ ls) = refl
+
+    then-after : (heard : Bool) (k : ℕ) → cameThen Nothing heard k ≡ cameAfter heard k
+    then-after heard zero = refl
+    then-after false (suc k) = refl
+    then-after true (suc k) = refl
+
+    -- how the lines end after the blocks or heard lines at their front
+    abbrev frontEnd : List (List ℕ) → Ending
+    frontEnd ls = endingOf n order (cameAfter (heardFront ls) (length (blocksOf (heardFront ls) ls))) (drop (length (blocksOf (heardFront ls) ls)) ls)
+
     -- no row comes
-    no-rows : (ls : List (List ℕ)) (line : ℕ) → ((w : ℕ) → front n order false ls ≡ L.Row w → ⊥)
-        → LinesJudged onRows ls line (lineVerdict (0 + (length (blocksOf ls) + line)) (blocksEnd false ls))
-    no-rows ls line r = let z : 0 + (length (blocksOf ls) + line) ≡ length (blocksOf ls) + line = omega arith in rw z (blocks-judged false ls line r)
+    no-rows : (ls : List (List ℕ)) (line : ℕ) → ((w : ℕ) → front n order Nothing ls ≡ L.Row w → ⊥)
+        → LinesJudged onRows ls line (lineVerdict (0 + (length (blocksOf (heardFront ls) ls) + line)) (frontEnd ls))
+    no-rows ls line r =
+        let t = heardFront ls in
+        let b = length (blocksOf t ls) in
+        let z : 0 + (b + line) ≡ b + line = omega arith in
+        rw (z, ← (then-after t b)) (blocks-judged Nothing t ls line (first-sought ls) r)
 
     -- the lines after the cover
-    pub rows-judged : (ls : List (List ℕ)) (line : ℕ) → LinesJudged onRows ls line
-        (lineVerdict (length (rowsOf n order ls) + (length (blocksOf (drop (length (rowsOf n order ls)) ls)) + line)) (blocksEnd false (drop (length (rowsOf n order ls)) ls)))
+    pub rows-judged : (ls : List (List ℕ)) (line : ℕ) → let left = drop (length (rowsOf n order ls)) ls in
+        LinesJudged onRows ls line (lineVerdict (length (rowsOf n order ls) + (length (blocksOf (heardFront left) left) + line)) (frontEnd left))
     rows-judged [] line = no-rows [] line (λ w e. (let z : _≡_ {A = ℕ} 0 1 = cc in absurd (omega arith)))
     rows-judged (l ∷ []) line = no-rows (l ∷ []) line (λ w e. (let z : _≡_ {A = ℕ} 0 1 = cc in absurd (omega arith)))
-    rows-judged (l ∷ m ∷ ms) line = by (rows-judged (m ∷ ms) (line + 1)) (lineOf n order false (fields l)) refl (line-judged n order false (fields l))
+    rows-judged (l ∷ m ∷ ms) line = by (rows-judged (m ∷ ms) (line + 1)) (lineOf n order Nothing (fields l)) refl (line-judged n order Nothing (fields l))
       where
-        by : LinesJudged onRows (m ∷ ms) (line + 1)
-            (lineVerdict (length (rowsOf n order (m ∷ ms)) + (length (blocksOf (drop (length (rowsOf n order (m ∷ ms))) (m ∷ ms))) + (line + 1)))
-            (blocksEnd false (drop (length (rowsOf n order (m ∷ ms))) (m ∷ ms))))
-            → (x : Line) → lineOf n order false (fields l) ≡ x → LineJudged n onRows (fields l) x
-            → LinesJudged onRows (l ∷ m ∷ ms) line
-            (lineVerdict (length (rowThen x (rowsOf n order (m ∷ ms))) + (length (blocksOf (drop (length (rowThen x (rowsOf n order (m ∷ ms)))) (l ∷ m ∷ ms))) + line))
-            (blocksEnd false (drop (length (rowThen x (rowsOf n order (m ∷ ms)))) (l ∷ m ∷ ms))))
+        by : (let left = drop (length (rowsOf n order (m ∷ ms))) (m ∷ ms) in
+            LinesJudged onRows (m ∷ ms) (line + 1) (lineVerdict (length (rowsOf n order (m ∷ ms)) + (length (blocksOf (heardFront left) left) + (line + 1))) (frontEnd left)))
+            → (x : Line) → lineOf n order Nothing (fields l) ≡ x → LineJudged n onRows (fields l) x
+            → let left = drop (length (rowThen x (rowsOf n order (m ∷ ms)))) (l ∷ m ∷ ms) in
+            LinesJudged onRows (l ∷ m ∷ ms) line (lineVerdict (length (rowThen x (rowsOf n order (m ∷ ms))) + (length (blocksOf (heardFront left) left) + line)) (frontEnd left))
         by h (L.Row w) e j =
             let k = length (rowsOf n order (m ∷ ms)) in
-            let b = length (blocksOf (drop k (m ∷ ms))) in
+            let left = drop k (m ∷ ms) in
+            let b = length (blocksOf (heardFront left) left) in
             let s : suc k + (b + line) ≡ k + (b + (line + 1)) = omega arith in
-            rw s (on onRows onRows l m ms line (lineVerdict (k + (b + (line + 1))) (blocksEnd false (drop k (m ∷ ms)))) (j .0) (ap after (j .1)) h)
+            rw s (on onRows onRows l m ms line (lineVerdict (k + (b + (line + 1))) (frontEnd left)) (j .0) (ap after (j .1)) h)
         by h L.Block e j = no-rows (l ∷ m ∷ ms) line (λ w g. (let z : _≡_ {A = ℕ} 0 1 = cc in absurd (omega arith)))
         by h L.End e j = no-rows (l ∷ m ∷ ms) line (λ w g. (let z : _≡_ {A = ℕ} 0 1 = cc in absurd (omega arith)))
         by h (L.Bad f) e j = no-rows (l ∷ m ∷ ms) line (λ w g. (let z : _≡_ {A = ℕ} 0 1 = cc in absurd (omega arith)))

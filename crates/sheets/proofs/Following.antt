@@ -13,7 +13,7 @@ use native.Mathlib.Nat.{zero-add, eq-or-lt-of-le}
 use native.Mathlib.Omega.{arith}
 use Rattle.plates.specs.declared.Verdict.the-variants as J
 use Rattle.sheets.specs.Text.{lineFeed, till, lines, linesFrom, begins}
-use Rattle.sheets.specs.Blocks.{BlockFound, block, noBlock, blocksOf, blockAt, nextLine, blockPlace}
+use Rattle.sheets.specs.Blocks.{BlockFound, block, noBlock, blocksOf, countersOf, counterAt, counterFront, blockAt, nextLine, blockPlace}
 use Rattle.sheets.specs.Sheet.{Contents, contents, endingAfter, lineVerdict, startOf, says, reading}
 use Rattle.sheets.specs.Turning.{byPosition, inOrder}
 use Rattle.sheets.specs.Readers.{Ended, Until}
@@ -49,9 +49,9 @@ until-there b s at h =
 no-block : {A : Type 0} {vs : List ℤ} → noBlock ≡ block vs → A
 no-block e = let z : _≡_ {A = ℕ} 0 1 = cc in absurd (omega arith)
 
-module _ (s : List ℕ) (at : ℕ) where
+module _ (heard : Bool) (s : List ℕ) (at : ℕ) where
   -- a block line is ended
-  pub block-ended : (vs : List ℤ) → blockAt s at ≡ block vs → Ended s at (nextLine s at)
+  pub block-ended : (vs : List ℤ) → blockAt heard s at ≡ block vs → Ended s at (nextLine s at)
   block-ended vs e = by (leb at (length s)) refl
     where
       by : (t : Bool) → leb at (length s) ≡ t → Ended s at (nextLine s at)
@@ -63,46 +63,63 @@ module _ (s : List ℕ) (at : ℕ) where
       by false q = no-block (rw (from-none lineFeed s at (leb-false at (length s) q)) at e)
 
   -- a block line, and those after it
-  pub block-first : (vs : List ℤ) → blockAt s at ≡ block vs → blocksOf (linesFrom s at) ≡ vs ∷ blocksOf (linesFrom s (nextLine s at))
-  block-first vs e = blocks-more (linesFrom s at) vs (line-split (block-ended vs e)) e
+  pub block-first : (vs : List ℤ) → blockAt heard s at ≡ block vs → blocksOf heard (linesFrom s at) ≡ vs ∷ blocksOf heard (linesFrom s (nextLine s at))
+  block-first vs e = blocks-more heard (linesFrom s at) vs (line-split (block-ended vs e)) e
 
   -- no block line there, and so no more
-  pub block-none : blockAt s at ≡ noBlock → blocksOf (linesFrom s at) ≡ []
-  block-none e = blocks-none (linesFrom s at) e
+  pub block-none : blockAt heard s at ≡ noBlock → blocksOf heard (linesFrom s at) ≡ []
+  block-none e = blocks-none heard (linesFrom s at) e
+
+  -- the counters of these lines
+  abbrev pub countersFrom : List ℕ
+  countersFrom = countersOf (length (blocksOf heard (linesFrom s at))) (linesFrom s at)
+
+  pub counters-none : blockAt heard s at ≡ noBlock → countersFrom ≡ []
+  counters-none e = ap (λ (bs : List (List ℤ)). countersOf (length bs) (linesFrom s at)) (block-none e)
+
+-- the counter of a line, and those of the lines after it
+pub counters-first : (heard : Bool) (s : List ℕ) (at : ℕ) (vs : List ℤ) → blockAt heard s at ≡ block vs
+    → countersFrom heard s at ≡ counterAt s at ∷ countersFrom heard s (nextLine s at)
+counters-first heard s at vs e =
+    let next = nextLine s at in
+    let l = line-split (block-ended heard s at vs e) in
+    ap (λ (bs : List (List ℤ)). countersOf (length bs) (linesFrom s at)) (block-first heard s at vs e)
+    ∙ ap (countersOf (suc (length (blocksOf heard (linesFrom s next))))) l
+    ∙ ap (λ (ls : List (List ℕ)). counterFront ls ∷ countersFrom heard s next) (sym l)
 
 -- the k-th block line from a place on is where reading k block lines leads
-abbrev There : List ℕ → ℕ → ℕ → Type 0
-There s at k = k < length (blocksOf (linesFrom s at)) → blockAt s (blockPlace s at k) ≡ block (getD (blocksOf (linesFrom s at)) k [])
+abbrev There : Bool → List ℕ → ℕ → ℕ → Type 0
+There heard s at k = k < length (blocksOf heard (linesFrom s at)) → blockAt heard s (blockPlace s at k) ≡ block (getD (blocksOf heard (linesFrom s at)) k [])
 
-module _ (s : List ℕ) (at : ℕ) where
-  there-first : (b : BlockFound) → blockAt s at ≡ b → There s at 0
-  there-first (block vs) e h = rw (block-first s at vs e) e
-  there-first noBlock e h = absurd (omega (arith, ap length (block-none s at e)))
+module _ (heard : Bool) (s : List ℕ) (at : ℕ) where
+  there-first : (b : BlockFound) → blockAt heard s at ≡ b → There heard s at 0
+  there-first (block vs) e h = rw (block-first heard s at vs e) e
+  there-first noBlock e h = absurd (omega (arith, ap length (block-none heard s at e)))
 
-  there-next : (k : ℕ) (b : BlockFound) → blockAt s at ≡ b → There s (nextLine s at) k → There s at (suc k)
-  there-next k (block vs) e t h = rw (block-first s at vs e) (t (omega (arith, ap length (block-first s at vs e))))
-  there-next k noBlock e t h = absurd (omega (arith, ap length (block-none s at e)))
+  there-next : (k : ℕ) (b : BlockFound) → blockAt heard s at ≡ b → There heard s (nextLine s at) k → There heard s at (suc k)
+  there-next k (block vs) e t h = rw (block-first heard s at vs e) (t (omega (arith, ap length (block-first heard s at vs e))))
+  there-next k noBlock e t h = absurd (omega (arith, ap length (block-none heard s at e)))
 
-pub block-follows : (s : List ℕ) (at k : ℕ) → There s at k
-block-follows s at zero = there-first s at (blockAt s at) refl
-block-follows s at (suc k) = there-next s at k (blockAt s at) refl (block-follows s (nextLine s at) k)
+pub block-follows : (heard : Bool) (s : List ℕ) (at k : ℕ) → There heard s at k
+block-follows heard s at zero = there-first heard s at (blockAt heard s at) refl
+block-follows heard s at (suc k) = there-next heard s at k (blockAt heard s at) refl (block-follows heard s (nextLine s at) k)
 
 -- after the last there is none
-abbrev Last : List ℕ → ℕ → ℕ → Type 0
-Last s at k = length (blocksOf (linesFrom s at)) ≡ k → blockAt s (blockPlace s at k) ≡ noBlock
+abbrev Last : Bool → List ℕ → ℕ → ℕ → Type 0
+Last heard s at k = length (blocksOf heard (linesFrom s at)) ≡ k → blockAt heard s (blockPlace s at k) ≡ noBlock
 
-module _ (s : List ℕ) (at : ℕ) where
-  last-here : (b : BlockFound) → blockAt s at ≡ b → Last s at 0
-  last-here (block vs) e h = absurd (omega (arith, ap length (block-first s at vs e)))
+module _ (heard : Bool) (s : List ℕ) (at : ℕ) where
+  last-here : (b : BlockFound) → blockAt heard s at ≡ b → Last heard s at 0
+  last-here (block vs) e h = absurd (omega (arith, ap length (block-first heard s at vs e)))
   last-here noBlock e h = e
 
-  last-later : (k : ℕ) (b : BlockFound) → blockAt s at ≡ b → Last s (nextLine s at) k → Last s at (suc k)
-  last-later k (block vs) e t h = t (omega (arith, ap length (block-first s at vs e)))
-  last-later k noBlock e t h = absurd (omega (arith, ap length (block-none s at e)))
+  last-later : (k : ℕ) (b : BlockFound) → blockAt heard s at ≡ b → Last heard s (nextLine s at) k → Last heard s at (suc k)
+  last-later k (block vs) e t h = t (omega (arith, ap length (block-first heard s at vs e)))
+  last-later k noBlock e t h = absurd (omega (arith, ap length (block-none heard s at e)))
 
-pub blocks-end : (s : List ℕ) (at k : ℕ) → Last s at k
-blocks-end s at zero = last-here s at (blockAt s at) refl
-blocks-end s at (suc k) = last-later s at k (blockAt s at) refl (blocks-end s (nextLine s at) k)
+pub blocks-end : (heard : Bool) (s : List ℕ) (at k : ℕ) → Last heard s at k
+blocks-end heard s at zero = last-here heard s at (blockAt heard s at) refl
+blocks-end heard s at (suc k) = last-later heard s at k (blockAt heard s at) refl (blocks-end heard s (nextLine s at) k)
 
 -- ---- the first block line of a sheet
 
@@ -158,38 +175,49 @@ line-left s a e =
     never : NoEnd Missing ≡ Fine → ⊥
     never q = let z : _≡_ {A = ℕ} 0 1 = cc in omega arith
 
-start-case : (s : List ℕ) → Accepts s → byPosition ((contents s) .order) (blocksOf (linesFrom s (startOf s (contents s)))) ≡ (contents s) .blocks
-unfolding contents
-start-case s a =
-    ap (λ (ls : List (List ℕ)). byPosition ((contents s) .order) (blocksOf ls))
-    (from-first s (suc (length ((contents s) .rows))) (line-left s a) ∙ sym (drop-one (length ((contents s) .rows)) (lines s)))
+-- the lines after the rows are those from the start on
+lines-from-start : (s : List ℕ) → Accepts s → linesFrom s (startOf s (contents s)) ≡ drop (length ((contents s) .rows)) (drop 1 (lines s))
+lines-from-start s a = from-first s (suc (length ((contents s) .rows))) (line-left s a) ∙ sym (drop-one (length ((contents s) .rows)) (lines s))
 
--- the blocks of a sheet are the block lines from its start on, in order of position
-pub blocks-from-start : (s : List ℕ) (c : Contents) → reading s ≡ says c → byPosition (c .order) (blocksOf (linesFrom s (startOf s c))) ≡ c .blocks
+start-case : (s : List ℕ) → Accepts s → byPosition ((contents s) .order) (blocksOf ((contents s) .heard) (linesFrom s (startOf s (contents s)))) ≡ (contents s) .blocks
+unfolding contents
+start-case s a = ap (λ (ls : List (List ℕ)). byPosition ((contents s) .order) (blocksOf ((contents s) .heard) ls)) (lines-from-start s a)
+
+-- the blocks of a sheet are the block or heard lines from its start on, in order of position
+pub blocks-from-start : (s : List ℕ) (c : Contents) → reading s ≡ says c → byPosition (c .order) (blocksOf (c .heard) (linesFrom s (startOf s c))) ≡ c .blocks
 blocks-from-start s c e = let a = accepted s c e in rw (← (a .1)) (start-case s (all-pass s (a .0)))
 
--- as many as these are
-pub blocks-counted : (s : List ℕ) (c : Contents) → reading s ≡ says c → length (blocksOf (linesFrom s (startOf s c))) ≡ length (c .blocks)
-blocks-counted s c e = sym (by-position-length (c .order) (blocksOf (linesFrom s (startOf s c)))) ∙ ap length (blocks-from-start s c e)
+counters-case : (s : List ℕ) → Accepts s → countersFrom ((contents s) .heard) s (startOf s (contents s)) ≡ (contents s) .counters
+unfolding contents
+counters-case s a =
+    ap (λ (ls : List (List ℕ)). countersOf (length (blocksOf ((contents s) .heard) ls)) ls) (lines-from-start s a)
 
--- the block line that is found at a place lists these samples
-pub record ListedAt (s : List ℕ) (at : ℕ) (order : Order) (samples : List ℤ) : Type 0 where
+-- and its counters are those of these lines
+pub counters-from-start : (s : List ℕ) (c : Contents) → reading s ≡ says c → countersFrom (c .heard) s (startOf s c) ≡ c .counters
+counters-from-start s c e = let a = accepted s c e in rw (← (a .1)) (counters-case s (all-pass s (a .0)))
+
+-- as many as these are
+pub blocks-counted : (s : List ℕ) (c : Contents) → reading s ≡ says c → length (blocksOf (c .heard) (linesFrom s (startOf s c))) ≡ length (c .blocks)
+blocks-counted s c e = sym (by-position-length (c .order) (blocksOf (c .heard) (linesFrom s (startOf s c)))) ∙ ap length (blocks-from-start s c e)
+
+-- the block or heard line that is found at a place lists these samples
+pub record ListedAt (heard : Bool) (s : List ℕ) (at : ℕ) (order : Order) (samples : List ℤ) : Type 0 where
   pub listed : List ℤ
-  pub found : blockAt s at ≡ block listed
+  pub found : blockAt heard s at ≡ block listed
   pub turned : samples ≡ inOrder order listed
 
--- block line k of a sheet is where reading k block lines from its start leads
+-- block or heard line k of a sheet is where reading k of these lines from its start leads
 pub sheet-block : (s : List ℕ) (c : Contents) → reading s ≡ says c → (k : ℕ) → k < length (c .blocks)
-    → ListedAt s (blockPlace s (startOf s c) k) (c .order) (getD (c .blocks) k [])
+    → ListedAt (c .heard) s (blockPlace s (startOf s c) k) (c .order) (getD (c .blocks) k [])
 sheet-block s c e k h =
     let at = startOf s c in
-    let few : k < length (blocksOf (linesFrom s at)) = omega (arith, blocks-counted s c e) in
+    let few : k < length (blocksOf (c .heard) (linesFrom s at)) = omega (arith, blocks-counted s c e) in
     record {
-      listed = getD (blocksOf (linesFrom s at)) k [];
-      found = block-follows s at k few;
-      turned = ap (λ (bs : List (List ℤ)). getD bs k []) (sym (blocks-from-start s c e)) ∙ by-position-entry (c .order) (blocksOf (linesFrom s at)) k few;
+      listed = getD (blocksOf (c .heard) (linesFrom s at)) k [];
+      found = block-follows (c .heard) s at k few;
+      turned = ap (λ (bs : List (List ℤ)). getD bs k []) (sym (blocks-from-start s c e)) ∙ by-position-entry (c .order) (blocksOf (c .heard) (linesFrom s at)) k few;
     }
 
--- and after the last of them there is no block line
-pub sheet-blocks-end : (s : List ℕ) (c : Contents) → reading s ≡ says c → blockAt s (blockPlace s (startOf s c) (length (c .blocks))) ≡ noBlock
-sheet-blocks-end s c e = blocks-end s (startOf s c) (length (c .blocks)) (blocks-counted s c e)
+-- and after the last of them there is none
+pub sheet-blocks-end : (s : List ℕ) (c : Contents) → reading s ≡ says c → blockAt (c .heard) s (blockPlace s (startOf s c) (length (c .blocks))) ≡ noBlock
+sheet-blocks-end s c e = blocks-end (c .heard) s (startOf s c) (length (c .blocks)) (blocks-counted s c e)

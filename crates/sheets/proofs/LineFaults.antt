@@ -10,22 +10,24 @@ use mathlib.Core.Path.{_≡_, refl, sym, _∙_, ap}
 use native.Mathlib.Decide.{decLt}
 use native.Mathlib.Omega.{arith}
 use Rattle.sheets.specs.Words.{wordOf}
-use Rattle.sheets.specs.Numbers.{numberOf, sampleOf}
+use Rattle.sheets.specs.Numbers.{counterOf, isNumber, numberOf, sampleOf}
 use Rattle.sheets.specs.Rows.{bitsOnly, wordFrom}
 use Rattle.sheets.specs.Turning.{inOrder}
-use Rattle.sheets.specs.Blocks.{isSample, samplesOf}
+use Rattle.sheets.specs.Blocks.{isSample, samplesOf, heardRest}
 use Rattle.sheets.specs.Covers.{kindOf, orderOf, coverIs, coverFields, coverRest, coverBy, coverOf}
-use Rattle.sheets.specs.Lines.{fieldOf, rowIs, rowRest, blockIs, endRest, lineBy, lineOf}
+use Rattle.sheets.specs.Lines.{fieldOf, rowIs, rowRest, blockIs, heardFields, endRest, lineBy, lineOf}
 use Rattle.sheets.specs.Lines as lines
-use Rattle.sheets.specs.Faults.{Part, onCover, onRows, onBlocks, inTurn, due, firstOff, isNumber, isKind, isOrder, goodField, formNumber, fieldAt, firstWord, Wrong, outOfTurn, miscounted, malformed, Before}
+use Rattle.sheets.specs.Faults.{Part, onCover, onRows, onBlocks, onHeard, inTurn, due, firstOff, isKind, isOrder, goodField, formNumber, fieldAt, firstWord, Wrong, outOfTurn, miscounted, malformed, Before}
 use Rattle.sheets.specs.declared.Order.{Order}
 use Rattle.sheets.specs.declared.number.Number.{Number}
 use Rattle.sheets.specs.declared.number.Number.the-variants as N
 use Rattle.sheets.specs.declared.word.Word.{Word}
-use Rattle.sheets.specs.declared.word.Word.the-variants.{Cover, Row, Block, End, Other}
+use Rattle.sheets.specs.declared.word.Word.the-variants.{Cover, Row, Block, Heard, End, Other}
 use Rattle.sheets.specs.declared.row.Row.the-variants as R
 use Rattle.sheets.specs.declared.block.Samples.{Samples}
 use Rattle.sheets.specs.declared.block.Samples.the-variants as S
+use Rattle.sheets.specs.declared.line.Came.{Came}
+use Rattle.sheets.specs.declared.line.Came.the-variants.{Nothing, Blocks, Heards}
 use Rattle.sheets.specs.declared.line.Line.{Line}
 use Rattle.sheets.specs.declared.line.Line.the-variants as L
 use Rattle.sheets.specs.declared.cover.KindField.{KindField}
@@ -53,6 +55,7 @@ form-low : (word : Word) → 19 ≤ formNumber word
 form-low Cover = omega arith
 form-low Row = omega arith
 form-low Block = omega arith
+form-low Heard = omega arith
 form-low End = omega arith
 form-low Other = omega arith
 
@@ -117,30 +120,35 @@ module _ (n : ℕ) (part : Part) (fs : List (List ℕ)) (word : Word) (e : first
 
 -- ---- a line after the cover
 
--- a row is out of its turn where a block has come
-abbrev pub partOf : Bool → Part
-partOf false = onRows
-partOf true = onBlocks
+-- the part of the sheet by what has come
+abbrev pub partOf : Came → Part
+partOf Nothing = onRows
+partOf Blocks = onBlocks
+partOf Heards = onHeard
+
+-- the word of a line that is a block or heard line
+abbrev pub Received : Word → Type 0
+Received word = (word ≡ Block) ⊎ (word ≡ Heard)
 
 -- what a line that was read says of all that may be wrong with it, and its word
 abbrev pub LineJudged : ℕ → Part → List (List ℕ) → Line → Type 0
 LineJudged n part fs (L.Row w) = Right n part fs × (firstWord fs ≡ Row)
-LineJudged n part fs L.Block = Right n part fs × (firstWord fs ≡ Block)
+LineJudged n part fs L.Block = Right n part fs × Received (firstWord fs)
 LineJudged n part fs L.End = Right n part fs × (firstWord fs ≡ End)
 LineJudged n part fs (L.Bad fault) = Told n part fs (lines.numberOf fault) (fieldOf fault)
 
 -- samples: all are of their form, or the first that is not
-abbrev Scanned : ℕ → List (List ℕ) → Samples → Type 0
-Scanned k fs (S.Count c) = (i : ℕ) → i < length fs → isSample (sampleOf (getD fs i [])) ≡ true
-Scanned k fs (S.Bad at) = (i : ℕ) × (at ≡ i + k + 2) × (i < length fs) × (isSample (sampleOf (getD fs i [])) ≡ false)
+abbrev Scanned : ℕ → ℕ → List (List ℕ) → Samples → Type 0
+Scanned lead k fs (S.Count c) = (i : ℕ) → i < length fs → isSample (sampleOf (getD fs i [])) ≡ true
+Scanned lead k fs (S.Bad at) = (i : ℕ) × (at ≡ i + k + lead) × (i < length fs) × (isSample (sampleOf (getD fs i [])) ≡ false)
     × ((j : ℕ) → j < i → isSample (sampleOf (getD fs j [])) ≡ true)
 
 -- the fields after block, so many samples standing before them
-samples-scanned : (k : ℕ) (fs : List (List ℕ)) → Scanned k fs (samplesOf k fs)
-samples-scanned k [] = λ i h. absurd (omega arith)
-samples-scanned k (f ∷ fs) = by (samples-scanned (k + 1) fs) (isSample (sampleOf f)) refl
+samples-scanned : (lead k : ℕ) (fs : List (List ℕ)) → Scanned lead k fs (samplesOf lead k fs)
+samples-scanned lead k [] = λ i h. absurd (omega arith)
+samples-scanned lead k (f ∷ fs) = by (samples-scanned lead (k + 1) fs) (isSample (sampleOf f)) refl
   where
-    on : isSample (sampleOf f) ≡ true → (r : Samples) → Scanned (k + 1) fs r → Scanned k (f ∷ fs) r
+    on : isSample (sampleOf f) ≡ true → (r : Samples) → Scanned lead (k + 1) fs r → Scanned lead k (f ∷ fs) r
     on e (S.Count c) h = all
       where
         all : (i : ℕ) → i < suc (length fs) → isSample (sampleOf (getD (f ∷ fs) i [])) ≡ true
@@ -152,8 +160,9 @@ samples-scanned k (f ∷ fs) = by (samples-scanned (k + 1) fs) (isSample (sample
         before zero l = e
         before (suc j) l = h .4 j (omega arith)
 
-    by : Scanned (k + 1) fs (samplesOf (k + 1) fs) → (t : Bool) → isSample (sampleOf f) ≡ t → Scanned k (f ∷ fs) (cond t (samplesOf (k + 1) fs) (S.Bad (k + 2)))
-    by h true e = on e (samplesOf (k + 1) fs) h
+    by : Scanned lead (k + 1) fs (samplesOf lead (k + 1) fs) → (t : Bool) → isSample (sampleOf f) ≡ t
+        → Scanned lead k (f ∷ fs) (cond t (samplesOf lead (k + 1) fs) (S.Bad (k + lead)))
+    by h true e = on e (samplesOf lead (k + 1) fs) h
     by h false e = (0, omega arith, omega arith, e, λ j l. absurd (omega arith))
 
 module _ (n : ℕ) (order : Order) (w : List ℕ) where
@@ -183,15 +192,11 @@ module _ (n : ℕ) (order : Order) (w : List ℕ) where
   sample-field i f = rw (ne-eqb (suc (suc i)) 1 (λ q. omega arith))
 
   -- any number of samples after block
-  block-judged : (late : Bool) → wordOf w ≡ Block → (fs : List (List ℕ)) → LineJudged n (partOf late) (w ∷ fs) (blockIs (samplesOf 0 fs))
-  block-judged late e fs = by (samplesOf 0 fs) (samples-scanned 0 fs)
+  block-judged : (part : Part) → inTurn part Block ≡ true → wordOf w ≡ Block → (fs : List (List ℕ)) → LineJudged n part (w ∷ fs) (blockIs (samplesOf 2 0 fs))
+  block-judged part turn e fs = by (samplesOf 2 0 fs) (samples-scanned 2 0 fs)
     where
-      turn : (l : Bool) → inTurn (partOf l) Block ≡ true
-      turn false = refl
-      turn true = refl
-
-      by : (r : Samples) → Scanned 0 fs r → LineJudged n (partOf late) (w ∷ fs) (blockIs r)
-      by (S.Count c) h = (all-right n (partOf late) (w ∷ fs) Block e (turn late) refl good, e)
+      by : (r : Samples) → Scanned 2 0 fs r → LineJudged n part (w ∷ fs) (blockIs r)
+      by (S.Count c) h = (all-right n part (w ∷ fs) Block e turn refl good, inl e)
         where
           good : (b : ℕ) → 1 ≤ b → b ≤ suc (length fs) → goodField n Block b (fieldAt (w ∷ fs) b) ≡ true
           good zero l k = absurd (omega arith)
@@ -200,36 +205,88 @@ module _ (n : ℕ) (order : Order) (w : List ℕ) where
       by (S.Bad at) h =
           let i = h .0 in
           let q : at ≡ suc (suc i) = omega (arith, h .1) in
-          rw q (form-told n (partOf late) (w ∷ fs) Block e (turn late) refl (suc (suc i)) (omega arith) (omega (arith, h .2)) (sample-field i (getD fs i []) ∙ h .3) earlier)
+          rw q (form-told n part (w ∷ fs) Block e turn refl (suc (suc i)) (omega arith) (omega (arith, h .2)) (sample-field i (getD fs i []) ∙ h .3) earlier)
         where
           earlier : (b : ℕ) → 1 ≤ b → b < suc (suc (h .0)) → goodField n Block b (fieldAt (w ∷ fs) b) ≡ true
           earlier zero l k = absurd (omega arith)
           earlier (suc zero) l k = refl
           earlier (suc (suc j)) l k = sample-field j (getD fs j []) ∙ h .4 j (omega arith)
 
+  -- a field after the counter
+  heard-field : (i : ℕ) (f : List ℕ) → goodField n Heard (suc (suc (suc i))) f ≡ isSample (sampleOf f)
+  heard-field i f = rw (ne-eqb (suc (suc (suc i))) 1 (λ q. omega arith), ne-eqb (suc (suc (suc i))) 2 (λ q. omega arith))
+
+  -- a heard line has as many fields as it should from two on
+  heard-due : (k : ℕ) → suc (suc k) ≡ due Heard (suc (suc k))
+  heard-due k = rw (le-ltb (suc (suc k)) 2 (omega arith))
+
+  -- a counter and any number of samples after heard
+  heard-judged : (part : Part) → inTurn part Heard ≡ true → wordOf w ≡ Heard → (fs : List (List ℕ)) → LineJudged n part (w ∷ fs) (heardFields fs)
+  heard-judged part turn e [] = few-told n part (w ∷ []) Heard e turn (omega arith)
+  heard-judged part turn e (f ∷ fs) = counter (isNumber (counterOf f)) refl
+    where
+      by : isNumber (counterOf f) ≡ true → (r : Samples) → Scanned 3 0 fs r → LineJudged n part (w ∷ f ∷ fs) (blockIs r)
+      by g (S.Count c) h = (all-right n part (w ∷ f ∷ fs) Heard e turn (heard-due (length fs)) good, inr e)
+        where
+          good : (b : ℕ) → 1 ≤ b → b ≤ suc (suc (length fs)) → goodField n Heard b (fieldAt (w ∷ f ∷ fs) b) ≡ true
+          good zero l k = absurd (omega arith)
+          good (suc zero) l k = refl
+          good (suc (suc zero)) l k = g
+          good (suc (suc (suc i))) l k = heard-field i (getD fs i []) ∙ h i (omega arith)
+      by g (S.Bad at) h =
+          let i = h .0 in
+          let q : at ≡ suc (suc (suc i)) = omega (arith, h .1) in
+          rw q
+          (form-told n part (w ∷ f ∷ fs) Heard e turn (heard-due (length fs)) (suc (suc (suc i))) (omega arith) (omega (arith, h .2))
+          (heard-field i (getD fs i []) ∙ h .3) earlier)
+        where
+          earlier : (b : ℕ) → 1 ≤ b → b < suc (suc (suc (h .0))) → goodField n Heard b (fieldAt (w ∷ f ∷ fs) b) ≡ true
+          earlier zero l k = absurd (omega arith)
+          earlier (suc zero) l k = refl
+          earlier (suc (suc zero)) l k = g
+          earlier (suc (suc (suc j))) l k = heard-field j (getD fs j []) ∙ h .4 j (omega arith)
+
+      before : (b : ℕ) → 1 ≤ b → b < 2 → goodField n Heard b (fieldAt (w ∷ f ∷ fs) b) ≡ true
+      before zero l k = absurd (omega arith)
+      before (suc zero) l k = refl
+      before (suc (suc b)) l k = absurd (omega arith)
+
+      counter : (t : Bool) → isNumber (counterOf f) ≡ t → LineJudged n part (w ∷ f ∷ fs) (blockIs (cond t (samplesOf 3 0 fs) (S.Bad 2)))
+      counter true g = by g (samplesOf 3 0 fs) (samples-scanned 3 0 fs)
+      counter false g = form-told n part (w ∷ f ∷ fs) Heard e turn (heard-due (length fs)) 2 (omega arith) (omega arith) g before
+
   -- nothing after end
-  end-judged : (late : Bool) → wordOf w ≡ End → (fs : List (List ℕ)) → LineJudged n (partOf late) (w ∷ fs) (endRest fs)
-  end-judged false e [] = (all-right n onRows (w ∷ []) End e refl refl (λ b l k. refl), e)
-  end-judged false e (f ∷ fs) = many-told n onRows (w ∷ f ∷ fs) End e refl (omega arith)
-  end-judged true e [] = (all-right n onBlocks (w ∷ []) End e refl refl (λ b l k. refl), e)
-  end-judged true e (f ∷ fs) = many-told n onBlocks (w ∷ f ∷ fs) End e refl (omega arith)
+  end-judged : (part : Part) → inTurn part End ≡ true → wordOf w ≡ End → (fs : List (List ℕ)) → LineJudged n part (w ∷ fs) (endRest fs)
+  end-judged part turn e [] = (all-right n part (w ∷ []) End e turn refl (λ b l k. refl), e)
+  end-judged part turn e (f ∷ fs) = many-told n part (w ∷ f ∷ fs) End e turn (omega arith)
 
   -- the word decides
-  by-word : (late : Bool) (word : Word) → wordOf w ≡ word → (fs : List (List ℕ)) → LineJudged n (partOf late) (w ∷ fs) (lineBy n order late word fs)
-  by-word false Cover e fs = turn-told n onRows (w ∷ fs) Cover e refl
-  by-word true Cover e fs = turn-told n onBlocks (w ∷ fs) Cover e refl
-  by-word false Row e fs = row-judged e fs
-  by-word true Row e fs = turn-told n onBlocks (w ∷ fs) Row e refl
-  by-word late Block e fs = block-judged late e fs
-  by-word late End e fs = end-judged late e fs
-  by-word false Other e fs = turn-told n onRows (w ∷ fs) Other e refl
-  by-word true Other e fs = turn-told n onBlocks (w ∷ fs) Other e refl
+  by-word : (came : Came) (word : Word) → wordOf w ≡ word → (fs : List (List ℕ)) → LineJudged n (partOf came) (w ∷ fs) (lineBy n order came word fs)
+  by-word Nothing Cover e fs = turn-told n onRows (w ∷ fs) Cover e refl
+  by-word Blocks Cover e fs = turn-told n onBlocks (w ∷ fs) Cover e refl
+  by-word Heards Cover e fs = turn-told n onHeard (w ∷ fs) Cover e refl
+  by-word Nothing Row e fs = row-judged e fs
+  by-word Blocks Row e fs = turn-told n onBlocks (w ∷ fs) Row e refl
+  by-word Heards Row e fs = turn-told n onHeard (w ∷ fs) Row e refl
+  by-word Nothing Block e fs = block-judged onRows refl e fs
+  by-word Blocks Block e fs = block-judged onBlocks refl e fs
+  by-word Heards Block e fs = turn-told n onHeard (w ∷ fs) Block e refl
+  by-word Nothing Heard e fs = heard-judged onRows refl e fs
+  by-word Blocks Heard e fs = turn-told n onBlocks (w ∷ fs) Heard e refl
+  by-word Heards Heard e fs = heard-judged onHeard refl e fs
+  by-word Nothing End e fs = end-judged onRows refl e fs
+  by-word Blocks End e fs = end-judged onBlocks refl e fs
+  by-word Heards End e fs = end-judged onHeard refl e fs
+  by-word Nothing Other e fs = turn-told n onRows (w ∷ fs) Other e refl
+  by-word Blocks Other e fs = turn-told n onBlocks (w ∷ fs) Other e refl
+  by-word Heards Other e fs = turn-told n onHeard (w ∷ fs) Other e refl
 
 -- each line after the cover
-pub line-judged : (n : ℕ) (order : Order) (late : Bool) (fs : List (List ℕ)) → LineJudged n (partOf late) fs (lineOf n order late fs)
-line-judged n order false [] = turn-told n onRows [] Other refl refl
-line-judged n order true [] = turn-told n onBlocks [] Other refl refl
-line-judged n order late (w ∷ fs) = by-word n order w late (wordOf w) refl fs
+pub line-judged : (n : ℕ) (order : Order) (came : Came) (fs : List (List ℕ)) → LineJudged n (partOf came) fs (lineOf n order came fs)
+line-judged n order Nothing [] = turn-told n onRows [] Other refl refl
+line-judged n order Blocks [] = turn-told n onBlocks [] Other refl refl
+line-judged n order Heards [] = turn-told n onHeard [] Other refl refl
+line-judged n order came (w ∷ fs) = by-word n order w came (wordOf w) refl fs
 
 -- ---- the cover
 
@@ -287,5 +344,6 @@ cover-judged n (w ∷ fs) = by (wordOf w) refl
     by Cover e = rest-judged n w e fs
     by Row e = turn-told n onCover (w ∷ fs) Row e refl
     by Block e = turn-told n onCover (w ∷ fs) Block e refl
+    by Heard e = turn-told n onCover (w ∷ fs) Heard e refl
     by End e = turn-told n onCover (w ∷ fs) End e refl
     by Other e = turn-told n onCover (w ∷ fs) Other e refl

@@ -15,7 +15,7 @@ use Rattle.sheets.specs.Text.{fields, lines}
 use Rattle.sheets.specs.Words.{wordOf}
 use Rattle.sheets.specs.Rows.{bitsOnly, wordFrom}
 use Rattle.sheets.specs.Turning.{inOrder}
-use Rattle.sheets.specs.Blocks.{samplesOf}
+use Rattle.sheets.specs.Blocks.{heardRest, samplesOf}
 use Rattle.sheets.specs.Lines.{rowIs, rowRest, blockIs, endRest, lineBy, lineOf, front, rowThen, rowsOf}
 use Rattle.sheets.specs.Sheet.{Contents, coverFront, coverIn, contents, inputTooLong, coverBad, lengthBad, lineBad, rowsTooMany, firstRefusal, verdict, says, readingBy, reading}
 use Rattle.sheets.specs.declared.Order.{Order}
@@ -24,6 +24,7 @@ use Rattle.sheets.specs.declared.word.Word.the-variants as W
 use Rattle.sheets.specs.declared.row.Row.the-variants as R
 use Rattle.sheets.specs.declared.block.Samples.{Samples}
 use Rattle.sheets.specs.declared.block.Samples.the-variants as S
+use Rattle.sheets.specs.declared.line.Came.the-variants.{Nothing}
 use Rattle.sheets.specs.declared.line.Line.{Line}
 use Rattle.sheets.specs.declared.line.Line.the-variants as L
 use Rattle.sheets.proofs.Characters.{word-small}
@@ -118,18 +119,20 @@ module _ (n : ℕ) (order : Order) where
   end-below [] = tt
   end-below (f ∷ fs) = tt
 
-  by-below : (w : Word) (fs : List (List ℕ)) → Below n (lineBy n order false w fs)
+  by-below : (w : Word) (fs : List (List ℕ)) → Below n (lineBy n order Nothing w fs)
   by-below W.Cover fs = tt
   by-below W.Row fs = rest-below fs
-  by-below W.Block fs = block-below (samplesOf 0 fs)
+  by-below W.Block fs = block-below (samplesOf 2 0 fs)
+  by-below W.Heard [] = tt
+  by-below W.Heard (f ∷ fs) = block-below (heardRest (f ∷ fs))
   by-below W.End fs = end-below fs
   by-below W.Other fs = tt
 
-  line-below : (fs : List (List ℕ)) → Below n (lineOf n order false fs)
+  line-below : (fs : List (List ℕ)) → Below n (lineOf n order Nothing fs)
   line-below [] = tt
   line-below (w ∷ fs) = by-below (wordOf w) fs
 
-  front-below : (ls : List (List ℕ)) → Below n (front n order false ls)
+  front-below : (ls : List (List ℕ)) → Below n (front n order Nothing ls)
   front-below [] = tt
   front-below (l ∷ []) = tt
   front-below (l ∷ m ∷ ls) = line-below (fields l)
@@ -144,7 +147,7 @@ module _ (n : ℕ) (order : Order) where
 
   rows-below : (ls : List (List ℕ)) (j : ℕ) → j < length (rowsOf n order ls) → getD (rowsOf n order ls) j 0 < 2 ^ n
   rows-below [] j l = absurd (omega arith)
-  rows-below (l ∷ ls) j h = then-below (front n order false (l ∷ ls)) (rowsOf n order ls) (front-below (l ∷ ls)) (rows-below ls) j h
+  rows-below (l ∷ ls) j h = then-below (front n order Nothing (l ∷ ls)) (rowsOf n order ls) (front-below (l ∷ ls)) (rows-below ls) j h
 
 -- ---- a sheet that is not refused
 

@@ -2,6 +2,7 @@
 use Prim.Native.Nat.{ℕ, _≤_, _<_}
 use lib.IntN.{ℤ}
 use lib.ListN.{length}
+use mathlib.Core.Bool.{Bool}
 use mathlib.Core.List.{List, [], _∷_}
 use mathlib.Core.Path.{_≡_, refl, sym, _∙_, ap}
 use native.Mathlib.Omega.{arith}
@@ -69,35 +70,35 @@ number-of-others = (refl, refl, refl)
 -- ---- a block line
 
 -- a block line was read: its samples as listed, and the next line, from which the other block lines follow
-pub record BlockIs (s : List ℕ) (at : ℕ) (order : Order) (room : List ℤ) (k next : ℕ) (room′ : List ℤ) : Type 0 where
+pub record BlockIs (heard : Bool) (s : List ℕ) (at : ℕ) (order : Order) (room : List ℤ) (k next : ℕ) (room′ : List ℤ) : Type 0 where
   pub said : List ℤ
-  pub is : blockAt s at ≡ block said
+  pub is : blockAt heard s at ≡ block said
   pub count : k ≡ length said
   pub samples : room′ ≡ placed order said room
   pub low : at < next
   pub high : next ≤ length s
-  pub after : blocksOf (linesFrom s at) ≡ said ∷ blocksOf (linesFrom s next)
+  pub after : blocksOf heard (linesFrom s at) ≡ said ∷ blocksOf heard (linesFrom s next)
 
 -- no block line begins there
-pub record BlockNot (s : List ℕ) (at : ℕ) (room room′ : List ℤ) : Type 0 where
-  pub is : blockAt s at ≡ noBlock
+pub record BlockNot (heard : Bool) (s : List ℕ) (at : ℕ) (room room′ : List ℤ) : Type 0 where
+  pub is : blockAt heard s at ≡ noBlock
   pub samples : room′ ≡ room
-  pub after : blocksOf (linesFrom s at) ≡ []
+  pub after : blocksOf heard (linesFrom s at) ≡ []
 
-module _ {s : List ℕ} {at : ℕ} {order : Order} {room room′ : List ℤ} {r : BlockReply} (p : ReadsBlock s at order room r room′) where
-  block-case : (b : BlockFound) → blockAt s at ≡ b → (k next : ℕ) → B.Read k next ≡ blockReply (nextLine s at) b → BlockIs s at order room k next room′
+module _ {heard : Bool} {s : List ℕ} {at : ℕ} {order : Order} {room room′ : List ℤ} {r : BlockReply} (p : ReadsBlock heard s at order room r room′) where
+  block-case : (b : BlockFound) → blockAt heard s at ≡ b → (k next : ℕ) → B.Read k next ≡ blockReply (nextLine s at) b → BlockIs heard s at order room k next room′
   block-case (block vs) e k next g =
       let n : nextLine s at ≡ next = cc in
-      let d = rw n at (block-ended s at vs e) in
-      record { said = vs; is = e; count = cc; samples = rw e at (p .samples); low = d .low; high = d .high; after = rw n at (block-first s at vs e) }
+      let d = rw n at (block-ended heard s at vs e) in
+      record { said = vs; is = e; count = cc; samples = rw e at (p .samples); low = d .low; high = d .high; after = rw n at (block-first heard s at vs e) }
   block-case noBlock e k next g = let z : _≡_ {A = ℕ} 0 1 = cc in absurd (omega arith)
 
-  pub block-is : (k next : ℕ) → r ≡ B.Read k next → BlockIs s at order room k next room′
-  block-is k next e = block-case (blockAt s at) refl k next (sym e ∙ p .reply)
+  pub block-is : (k next : ℕ) → r ≡ B.Read k next → BlockIs heard s at order room k next room′
+  block-is k next e = block-case (blockAt heard s at) refl k next (sym e ∙ p .reply)
 
-  none-case : (b : BlockFound) → blockAt s at ≡ b → B.NoBlock ≡ blockReply (nextLine s at) b → BlockNot s at room room′
+  none-case : (b : BlockFound) → blockAt heard s at ≡ b → B.NoBlock ≡ blockReply (nextLine s at) b → BlockNot heard s at room room′
   none-case (block vs) e g = let z : _≡_ {A = ℕ} 0 1 = cc in absurd (omega arith)
-  none-case noBlock e g = record { is = e; samples = rw e at (p .samples); after = block-none s at e }
+  none-case noBlock e g = record { is = e; samples = rw e at (p .samples); after = block-none heard s at e }
 
-  pub block-not : r ≡ B.NoBlock → BlockNot s at room room′
-  block-not e = none-case (blockAt s at) refl (sym e ∙ p .reply)
+  pub block-not : r ≡ B.NoBlock → BlockNot heard s at room room′
+  block-not e = none-case (blockAt heard s at) refl (sym e ∙ p .reply)

@@ -2,7 +2,6 @@
 use Prim.Native.Nat.{ℕ, _+_, _≤_}
 use denote.Enum.Declared.{tagOf}
 use lib.ListN.{length, set, length-set}
-use mathlib.Core.Bool.{false}
 use mathlib.Core.List.{List, [], _∷_}
 use mathlib.Core.Path.{_≡_, refl, sym, _∙_, ap}
 use native.Mathlib.Numerals.{add-one}
@@ -13,6 +12,7 @@ use Rattle.sheets.specs.Room.{laid}
 use Rattle.sheets.specs.Lines.{front, rowThen, rowsOf}
 use Rattle.sheets.specs.Readers.{RowsRead, Until}
 use Rattle.sheets.specs.declared.Order.{Order}
+use Rattle.sheets.specs.declared.line.Came.the-variants.{Nothing}
 use Rattle.sheets.specs.declared.line.Fault.the-variants.{Missing}
 use Rattle.sheets.specs.declared.line.Line.{Line}
 use Rattle.sheets.specs.declared.line.Line.the-variants.{Row, Block, End, Bad}
@@ -36,11 +36,11 @@ pub record Rowing (n : ℕ) (order : Order) (s : List ℕ) (from : ℕ) (table�
 
 module _ (n : ℕ) (order : Order) where
   -- the rows end at a line that is none
-  rows-none : (ls : List (List ℕ)) (k : Line) → front n order false ls ≡ k → OneOf (1 ∷ 2 ∷ 3 ∷ []) (tagOf the-type k) → rowsOf n order ls ≡ []
+  rows-none : (ls : List (List ℕ)) (k : Line) → front n order Nothing ls ≡ k → OneOf (1 ∷ 2 ∷ 3 ∷ []) (tagOf the-type k) → rowsOf n order ls ≡ []
   rows-none [] k e h = refl
   rows-none (l ∷ ls) k e h = rw e (other-line k (rowsOf n order ls) h)
 
-  rows-more : (ls : List (List ℕ)) {l : List ℕ} {ms : List (List ℕ)} (w : ℕ) → ls ≡ l ∷ ms → front n order false ls ≡ Row w → rowsOf n order ls ≡ w ∷ rowsOf n order ms
+  rows-more : (ls : List (List ℕ)) {l : List ℕ} {ms : List (List ℕ)} (w : ℕ) → ls ≡ l ∷ ms → front n order Nothing ls ≡ Row w → rowsOf n order ls ≡ w ∷ rowsOf n order ms
   rows-more ls {l} {ms} w q e = ap (rowsOf n order) q ∙ ap (λ (k : Line). rowThen k (rowsOf n order ms)) (rw q at e)
 
 module _ {n : ℕ} {order : Order} {s : List ℕ} {from : ℕ} where
@@ -56,7 +56,7 @@ module _ {n : ℕ} {order : Order} {s : List ℕ} {from : ℕ} where
     }
 
     -- a line that is no row
-    pub row-stop : (l : Line) → front n order false (linesFrom s at) ≡ l → OneOf (1 ∷ 2 ∷ 3 ∷ []) (tagOf the-type l)
+    pub row-stop : (l : Line) → front n order Nothing (linesFrom s at) ≡ l → OneOf (1 ∷ 2 ∷ 3 ∷ []) (tagOf the-type l)
         → RowsRead n order s from table₀ (record { count = k; next = at }) table
     row-stop l e h = row-end (rows-none n order (linesFrom s at) l e h)
 
@@ -65,10 +65,10 @@ module _ {n : ℕ} {order : Order} {s : List ℕ} {from : ℕ} where
     row-last h = row-end (rw (at-end s at (omega arith)))
 
     -- one row more
-    pub row-on : (r : ℕ) → at ≤ length s → Until lineFeed s at r → (w : ℕ) → front n order false (linesFrom s at) ≡ Row w
+    pub row-on : (r : ℕ) → at ≤ length s → Until lineFeed s at r → (w : ℕ) → front n order Nothing (linesFrom s at) ≡ Row w
         → Rowing n order s from table₀ (set table k w) (r + 1) (k + 1)
     row-on r h u w e =
-        let d = line-closed s at r u (λ q. never (sym (line-open n order false s at r h u q) ∙ e)) in
+        let d = line-closed s at r u (λ q. never (sym (line-open n order Nothing s at r h u q) ∙ e)) in
         let g = rows-more n order (linesFrom s at) w (line-split d) e in
         record {
           passing = pass-on (i .passing) (r + 1) d w g;

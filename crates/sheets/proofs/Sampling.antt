@@ -25,19 +25,19 @@ read-bad d vs room room′ f e = record { is = sym e; stored = λ k q. absurd (n
     never q = let z : _≡_ {A = ℕ} 0 1 = cc in omega arith
 
 -- k samples are taken, and the next field begins at `at`: the fields left, after those, are all of them
-pub record Sampling (line : List ℕ) (from : ℕ) (room₀ room : List ℤ) (at k : ℕ) : Type 0 where
+pub record Sampling (lead : ℕ) (line : List ℕ) (from : ℕ) (room₀ room : List ℤ) (at k : ℕ) : Type 0 where
   pub low : from + k ≤ at
   pub high : at ≤ length line + 1
   pub size : length room ≡ length room₀
-  pub counted : samplesOf k (fieldsFrom line at) ≡ samplesOf 0 (fieldsFrom line from)
+  pub counted : samplesOf lead k (fieldsFrom line at) ≡ samplesOf lead 0 (fieldsFrom line from)
   pub kept : laidFrom k (valuesOf (fieldsFrom line at)) room ≡ laid (valuesOf (fieldsFrom line from)) room₀
 
-pub sample-start : (line : List ℕ) (from : ℕ) (room : List ℤ) → from ≤ length line + 1 → Sampling line from room room from 0
-sample-start line from room h = record { low = omega arith; high = h; size = refl; counted = refl; kept = refl }
+pub sample-start : (lead : ℕ) (line : List ℕ) (from : ℕ) (room : List ℤ) → from ≤ length line + 1 → Sampling lead line from room room from 0
+sample-start lead line from room h = record { low = omega arith; high = h; size = refl; counted = refl; kept = refl }
 
-module _ {line : List ℕ} {from : ℕ} {room₀ room : List ℤ} {at k : ℕ} (i : Sampling line from room₀ room at k) where
+module _ {lead : ℕ} {line : List ℕ} {from : ℕ} {room₀ room : List ℤ} {at k : ℕ} (i : Sampling lead line from room₀ room at k) where
   -- at the end all are taken
-  pub sample-end : length line < at → FieldsRead (fieldsFrom line from) room₀ (Count k) room
+  pub sample-end : length line < at → FieldsRead lead (fieldsFrom line from) room₀ (Count k) room
   sample-end h =
       let e = from-none tab line at h in
       record {
@@ -47,7 +47,7 @@ module _ {line : List ℕ} {from : ℕ} {room₀ room : List ℤ} {at k : ℕ} (
 
   module _ (r : ℕ) (h : at ≤ length line) (u : Until tab line at r) where
     -- one field more, which is a sample
-    pub sample-on : (v : ℤ) → sampleOf (take (r - at) (drop at line)) ≡ S.Is v → Sampling line from room₀ (set room k v) (r + 1) (k + 1)
+    pub sample-on : (v : ℤ) → sampleOf (take (r - at) (drop at line)) ≡ S.Is v → Sampling lead line from room₀ (set room k v) (r + 1) (k + 1)
     sample-on v e =
         let m = from-more tab line at r h u in
         record {
@@ -60,5 +60,5 @@ module _ {line : List ℕ} {from : ℕ} {room₀ room : List ℤ} {at k : ℕ} (
 
     -- a field that is none
     pub sample-bad : sampleOf (take (r - at) (drop at line)) ≡ S.Bad
-        → FieldsRead (fieldsFrom line from) room₀ (Bad (k + 2)) room
-    sample-bad e = read-bad _ _ room₀ room (k + 2) (sym (i .counted) ∙ rw (from-more tab line at r h u, e))
+        → FieldsRead lead (fieldsFrom line from) room₀ (Bad (k + lead)) room
+    sample-bad e = read-bad _ _ room₀ room (k + lead) (sym (i .counted) ∙ rw (from-more tab line at r h u, e))

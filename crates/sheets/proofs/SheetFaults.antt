@@ -12,7 +12,7 @@ use Rattle.plates.specs.declared.Refusal.the-variants.{InputTooLong, Length, To
 use Rattle.plates.specs.declared.Verdict.{Verdict}
 use Rattle.plates.specs.declared.Verdict.the-variants as J
 use Rattle.sheets.specs.Text.{fields, lines}
-use Rattle.sheets.specs.Blocks.{blocksOf}
+use Rattle.sheets.specs.Blocks.{blocksOf, heardFront}
 use Rattle.sheets.specs.Covers.{coverOf}
 use Rattle.sheets.specs.Lines.{rowsOf}
 use Rattle.sheets.specs.Sheet.{Contents, refusalOf, contentsOf, contents, coverFront, coverIn, coverBad, lineBad, inputTooLong, lengthBad, rowsTooMany, firstRefusal, verdict, says, refused, readingBy, reading}
@@ -28,8 +28,9 @@ use Rattle.sheets.proofs.Turns.{by-position-length}
 body-judged : (cover : Cover) (ls : List (List ℕ)) → LinesJudged (cover .n) onRows ls 2 (lineBad (contentsOf cover ls) ls)
 body-judged cover ls =
     let r = length (rowsOf (cover .n) (cover .order) ls) in
-    let b = length (blocksOf (drop r ls)) in
-    let c : length (contentsOf cover ls .blocks) ≡ b = by-position-length (cover .order) (blocksOf (drop r ls)) in
+    let found = blocksOf (heardFront (drop r ls)) (drop r ls) in
+    let b = length found in
+    let c : length (contentsOf cover ls .blocks) ≡ b = by-position-length (cover .order) found in
     let e : r + b + 2 ≡ r + (b + 2) = omega arith in
     rw (c, e) (rows-judged (cover .n) (cover .order) ls 2)
 

@@ -7,8 +7,8 @@ use mathlib.Core.Bool.{Bool, true, false, cond}
 use mathlib.Core.List.{List, [], _∷_}
 use mathlib.Core.Path.{_≡_, refl, ap}
 use native.Mathlib.Omega.{arith}
-use Rattle.sheets.specs.Words.{same, cover, row, block, end, wordOf}
-use Rattle.sheets.specs.declared.word.Word.the-variants.{Cover, Row, Block, End, Other}
+use Rattle.sheets.specs.Words.{same, cover, row, block, heard, end, wordOf}
+use Rattle.sheets.specs.declared.word.Word.the-variants.{Cover, Row, Block, Heard, End, Other}
 use Rattle.sheets.proofs.Bytes.{here}
 
 both : (t u : Bool) → u ≡ false → cond t u false ≡ false
@@ -55,12 +55,12 @@ listed5 (a ∷ b ∷ c ∷ d ∷ e ∷ g ∷ f) h = absurd (omega arith)
 
 -- three letters are row, end or neither
 pub three : (a b c : ℕ) → let f = a ∷ b ∷ c ∷ [] in wordOf f ≡ cond (same f row) Row (cond (same f end) End Other)
-three a b c = let f = a ∷ b ∷ c ∷ [] in rw (apart f cover (λ e. omega arith), apart f block (λ e. omega arith))
+three a b c = let f = a ∷ b ∷ c ∷ [] in rw (apart f cover (λ e. omega arith), apart f block (λ e. omega arith), apart f heard (λ e. omega arith))
 
--- five letters are cover, block or neither
-pub five : (a b c d e : ℕ) → let f = a ∷ b ∷ c ∷ d ∷ e ∷ [] in wordOf f ≡ cond (same f cover) Cover (cond (same f block) Block Other)
+-- five letters are cover, block, heard or none of these
+pub five : (a b c d e : ℕ) → let f = a ∷ b ∷ c ∷ d ∷ e ∷ [] in wordOf f ≡ cond (same f cover) Cover (cond (same f block) Block (cond (same f heard) Heard Other))
 five a b c d e = let f = a ∷ b ∷ c ∷ d ∷ e ∷ [] in rw (apart f row (λ e. omega arith), apart f end (λ e. omega arith))
 
--- a text of another length is none of the four words
+-- a text of another length is none of the five words
 pub no-word : (f : List ℕ) → (length f ≡ 3 → ⊥) → (length f ≡ 5 → ⊥) → wordOf f ≡ Other
-no-word f m n = rw (apart f cover n, apart f row m, apart f block n, apart f end m)
+no-word f m n = rw (apart f cover n, apart f row m, apart f block n, apart f heard n, apart f end m)

@@ -85,9 +85,9 @@ found-case true u d j vs e = e
 found-case false u d j vs e = refl
 
 -- fields are samples where each of them is one
-samples-found : (k : ℕ) (fs : List (List ℕ)) (vs : List ℤ) → samplesFound (samplesOf k fs) vs ≡ cond (every isSampleField fs) (block vs) noBlock
-samples-found k [] vs = refl
-samples-found k (f ∷ fs) vs = found-case (isSampleField f) (every isSampleField fs) (samplesOf (k + 1) fs) (k + 2) vs (samples-found (k + 1) fs vs)
+samples-found : (lead k : ℕ) (fs : List (List ℕ)) (vs : List ℤ) → samplesFound (samplesOf lead k fs) vs ≡ cond (every isSampleField fs) (block vs) noBlock
+samples-found lead k [] vs = refl
+samples-found lead k (f ∷ fs) vs = found-case (isSampleField f) (every isSampleField fs) (samplesOf lead (k + 1) fs) (k + lead) vs (samples-found lead (k + 1) fs vs)
 
 -- a block whose samples are listed from the far end
 abbrev pub foundTurned : BlockFound → BlockFound
@@ -98,9 +98,9 @@ cond-turned : (t : Bool) (vs : List ℤ) → cond t (block (reverse vs)) noBlock
 cond-turned true vs = refl
 cond-turned false vs = refl
 
-pub samples-turned : (fs : List (List ℕ)) → samplesFound (samplesOf 0 (reverse fs)) (valuesOf (reverse fs)) ≡ foundTurned (samplesFound (samplesOf 0 fs) (valuesOf fs))
-samples-turned fs =
-    samples-found 0 (reverse fs) (valuesOf (reverse fs))
+pub samples-turned : (lead : ℕ) (fs : List (List ℕ)) → samplesFound (samplesOf lead 0 (reverse fs)) (valuesOf (reverse fs)) ≡ foundTurned (samplesFound (samplesOf lead 0 fs) (valuesOf fs))
+samples-turned lead fs =
+    samples-found lead 0 (reverse fs) (valuesOf (reverse fs))
     ∙ ap₂ (λ (t : Bool) (vs : List ℤ). cond t (block vs) noBlock) (every-turned isSampleField fs) (values-turned fs)
     ∙ cond-turned (every isSampleField fs) (valuesOf fs)
-    ∙ ap foundTurned (sym (samples-found 0 fs (valuesOf fs)))
+    ∙ ap foundTurned (sym (samples-found lead 0 fs (valuesOf fs)))

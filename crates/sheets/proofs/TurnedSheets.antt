@@ -1,21 +1,19 @@
 -- A sheet that is not refused and the same sheet turned say the same, but for the cover's last word.
 use Prim.Native.Nat.{ℕ, _+_, _≤_}
 use borrow.Author.Tests.{le-ltb}
-use lib.Dec.{ltb}
-use lib.IntN.{ℤ}
 use lib.ListN.{length, drop}
 use mathlib.Core.Bool.{Bool, true, false, cond}
 use mathlib.Core.List.{List, [], _∷_}
-use mathlib.Core.Path.{_≡_, refl, _∙_, ap, ap₂}
+use mathlib.Core.Path.{_≡_, refl, sym, _∙_, ap}
 use native.Mathlib.Omega.{arith}
 use Rattle.plates.specs.declared.Verdict.the-variants as J
 use Rattle.sheets.specs.Text.{fields, lines}
 use Rattle.sheets.specs.Words.{same, first, last, wordOf}
 use Rattle.sheets.specs.Numbers.{numberOf}
 use Rattle.sheets.specs.Turning.{byPosition}
-use Rattle.sheets.specs.Blocks.{blocksOf}
+use Rattle.sheets.specs.Blocks.{blocksOf, countersOf, heardFront}
 use Rattle.sheets.specs.Covers.{kindOf, orderOf, coverIs, coverFields, coverRest, coverBy, coverOf}
-use Rattle.sheets.specs.Lines.{rowsOf}
+use Rattle.sheets.specs.Lines.{cameAfter, rowsOf}
 use Rattle.sheets.specs.Sheet.{Contents, coverFront, coverIn, contents, contentsOf, coverBad, endingAfter, lineBad, lineVerdict, verdict, says, reading}
 use Rattle.sheets.specs.Turned.{coverTurned, restTurned, fieldsTurned, otherWord, other, underOther, LinesTurned, IsTurned}
 use Rattle.sheets.specs.declared.Order.{Order}
@@ -35,7 +33,8 @@ use Rattle.sheets.specs.declared.cover.CoverLine.the-variants as C
 use Rattle.sheets.specs.declared.body.Ending.{Ending}
 use Rattle.sheets.specs.declared.body.Ending.the-variants.{Fine, NoEnd, After}
 use Rattle.sheets.proofs.Ranges.{accepted, Accepts, all-pass}
-use Rattle.sheets.proofs.TurnedLines.{blocks-turned, drop-turned, fine-turned, rows-turned}
+use Rattle.sheets.proofs.TurnedLines.{blocks-turned, counters-turned, drop-turned, fine-turned, heard-turned, rows-turned}
+use Rattle.sheets.proofs.Turns.{by-position-length}
 
 -- ---- the cover
 
@@ -71,6 +70,7 @@ cover-by-word : (w : Word) (fs : List (List ℕ)) (cover : Cover) → coverBy w 
 cover-by-word W.Cover fs cover e = rest-turned fs cover e
 cover-by-word W.Row fs cover e = let z : _≡_ {A = ℕ} 0 1 = cc in absurd (omega arith)
 cover-by-word W.Block fs cover e = let z : _≡_ {A = ℕ} 0 1 = cc in absurd (omega arith)
+cover-by-word W.Heard fs cover e = let z : _≡_ {A = ℕ} 0 1 = cc in absurd (omega arith)
 cover-by-word W.End fs cover e = let z : _≡_ {A = ℕ} 0 1 = cc in absurd (omega arith)
 cover-by-word W.Other fs cover e = let z : _≡_ {A = ℕ} 0 1 = cc in absurd (omega arith)
 
@@ -91,15 +91,35 @@ cover-is (C.Bad f) e = let z : _≡_ {A = ℕ} 0 1 = cc in absurd (omega arith)
 
 -- ---- the whole
 
+-- what the lines after some rows say
+abbrev saidBy : Cover → List ℕ → List (List ℕ) → Contents
+saidBy cover rows left = record {
+  n = cover .n;
+  kind = cover .kind;
+  order = cover .order;
+  rows = rows;
+  heard = heardFront left;
+  blocks = byPosition (cover .order) (blocksOf (heardFront left) left);
+  counters = countersOf (length (blocksOf (heardFront left) left)) left;
+}
+
+left-under : (cover : Cover) (rows : List ℕ) (ls ms : List (List ℕ)) → LinesTurned ls ms → saidBy (coverUnder cover) rows ms ≡ underOther (saidBy cover rows ls)
+left-under cover rows ls ms h =
+    let o = cover .order in
+    let t = heardFront ls in
+    let b = blocks-turned t o ls ms h in
+    let k : length (blocksOf t ms) ≡ length (blocksOf t ls) =
+    sym (by-position-length (other o) (blocksOf t ms)) ∙ ap length b ∙ by-position-length o (blocksOf t ls) in
+    let c : countersOf (length (blocksOf t ms)) ms ≡ countersOf (length (blocksOf t ls)) ls =
+    ap (λ (j : ℕ). countersOf j ms) k ∙ counters-turned (length (blocksOf t ls)) ls ms h in
+    rw (heard-turned ls ms h, b, c)
+
 contents-under : (cover : Cover) (ls ms : List (List ℕ)) → LinesTurned ls ms → contentsOf (coverUnder cover) ms ≡ underOther (contentsOf cover ls)
 contents-under cover ls ms h =
-    let n = cover .n in
-    let o = cover .order in
-    let r = rows-turned n o ls ms h in
-    let k = length (rowsOf n o ls) in
-    let b : byPosition (other o) (blocksOf (drop (length (rowsOf n (other o) ms)) ms)) ≡ byPosition o (blocksOf (drop k ls)) =
-    ap (λ (rows : List ℕ). byPosition (other o) (blocksOf (drop (length rows) ms))) r ∙ blocks-turned o (drop k ls) (drop k ms) (drop-turned k ls ms h) in
-    ap₂ (λ (rows : List ℕ) (blocks : List (List ℤ)). record { n = n; kind = cover .kind; order = other o; rows = rows; blocks = blocks }) r b
+    let rows = rowsOf (cover .n) (cover .order) ls in
+    let k = length rows in
+    ap (λ (found : List ℕ). saidBy (coverUnder cover) found (drop (length found) ms)) (rows-turned (cover .n) (cover .order) ls ms h)
+    ∙ left-under cover rows (drop k ls) (drop k ms) (drop-turned k ls ms h)
 
 fine-case : (line : ℕ) (d : Ending) → lineVerdict line d ≡ J.Accepted → d ≡ Fine
 fine-case line Fine e = refl
@@ -130,7 +150,7 @@ module _ (s t : List ℕ) (h : IsTurned s t) (short : length t ≤ 32768) (p : A
       let ms′ = drop (length (c .rows)) ms in
       let k = length (c .blocks) in
       let d = drop-turned k ls′ ms′ (drop-turned (length (c .rows)) ls ms (drop-turned 1 (lines s) (lines t) (h .turned))) in
-      ap (lineVerdict line) (fine-turned (c .n) (c .order) (ltb 0 k) (drop k ls′) (drop k ms′) d f)
+      ap (lineVerdict line) (fine-turned (c .n) (c .order) (cameAfter (c .heard) k) (drop k ls′) (drop k ms′) d f)
 
   verdict-there : verdict t ≡ J.Accepted
   unfolding verdict

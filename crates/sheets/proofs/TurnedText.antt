@@ -89,6 +89,8 @@ module _ (b : ℕ) where
     rest-free W.Row [] k = k
     rest-free W.Row (f ∷ fs) k = (free-reverse f (k .0), k .1)
     rest-free W.Block fs k = all-reverse fs k
+    rest-free W.Heard [] k = k
+    rest-free W.Heard (f ∷ fs) k = (k .0, all-reverse fs (k .1))
     rest-free W.End fs k = k
     rest-free W.Other fs k = k
 

@@ -1,6 +1,7 @@
 -- Sheets on paper, read by the definitions: the paper's sheet, and sheets that meet several refusals, of which the first in order is given.
 use Prim.Native.Nat.{ℕ, zero, suc}
 use lib.IntN.{ℤ, pos, negsuc}
+use mathlib.Core.Bool.{false}
 use mathlib.Core.List.{List, [], _∷_, _++_}
 use mathlib.Core.Path.{_≡_, refl}
 use Rattle.plates.specs.declared.Kind.the-variants.{G}
@@ -49,12 +50,12 @@ rowsOnly (suc k) = rowLine (49 ∷ []) ++ rowsOnly k
 
 -- ---- the paper's sheet
 
-with-first : reading (sheet first) ≡ says (record { n = 8; kind = G; order = First; rows = 15 ∷ 90 ∷ 60 ∷ 240 ∷ []; blocks = samples ∷ [] })
+with-first : reading (sheet first) ≡ says (record { n = 8; kind = G; order = First; rows = 15 ∷ 90 ∷ 60 ∷ 240 ∷ []; heard = false; blocks = samples ∷ []; counters = 0 ∷ [] })
 unfolding verdict contents coverFields
 with-first = refl
 
 -- with last its rows are turned, and so are its samples
-with-last : reading (sheet last) ≡ says (record { n = 8; kind = G; order = Last; rows = 240 ∷ 90 ∷ 60 ∷ 15 ∷ []; blocks = turnedSamples ∷ [] })
+with-last : reading (sheet last) ≡ says (record { n = 8; kind = G; order = Last; rows = 240 ∷ 90 ∷ 60 ∷ 15 ∷ []; heard = false; blocks = turnedSamples ∷ []; counters = 0 ∷ [] })
 unfolding verdict contents coverFields
 with-last = refl
 

@@ -50,6 +50,7 @@ abbrev pub coverBy : Word → List (List ℕ) → CoverLine
 coverBy W.Cover fs = coverRest fs
 coverBy W.Row fs = Bad Turn
 coverBy W.Block fs = Bad Turn
+coverBy W.Heard fs = Bad Turn
 coverBy W.End fs = Bad Turn
 coverBy W.Other fs = Bad Turn
 

@@ -12,27 +12,26 @@ use Rattle.plates.specs.declared.Refusal.{Refusal}
 use Rattle.plates.specs.declared.Refusal.the-variants.{InputTooLong, Length, TooManyRows}
 use Rattle.sheets.specs.Text.{fields, lines}
 use Rattle.sheets.specs.Words.{wordOf}
-use Rattle.sheets.specs.Numbers.{numberOf}
+use Rattle.sheets.specs.Numbers.{counterOf, isNumber, numberOf}
 use Rattle.sheets.specs.Rows.{bitsOnly}
 use Rattle.sheets.specs.Blocks.{isSample}
 use Rattle.sheets.specs.Numbers.{sampleOf}
 use Rattle.sheets.specs.Covers.{kindOf, orderOf}
-use Rattle.sheets.specs.declared.number.Number.{Number}
-use Rattle.sheets.specs.declared.number.Number.the-variants as N
 use Rattle.sheets.specs.declared.cover.KindField.{KindField}
 use Rattle.sheets.specs.declared.cover.KindField.the-variants as K
 use Rattle.sheets.specs.declared.cover.OrderField.{OrderField}
 use Rattle.sheets.specs.declared.cover.OrderField.the-variants as O
 use Rattle.sheets.specs.declared.word.Word.{Word}
-use Rattle.sheets.specs.declared.word.Word.the-variants.{Cover, Row, Block, End, Other}
+use Rattle.sheets.specs.declared.word.Word.the-variants.{Cover, Row, Block, Heard, End, Other}
 
 -- ---- which word a line may begin with
 
--- the parts of a sheet: the cover; rows, until a block has come; blocks; nothing after end
+-- the parts of a sheet: the cover; rows, until a block or heard line has come; blocks; heard lines; nothing after end
 pub data Part : Type 0 where
   onCover : Part
   onRows : Part
   onBlocks : Part
+  onHeard : Part
   onNothing : Part
 
 -- the words that are in their turn
@@ -40,18 +39,27 @@ abbrev pub inTurn : Part → Word → Bool
 inTurn onCover Cover = true
 inTurn onCover Row = false
 inTurn onCover Block = false
+inTurn onCover Heard = false
 inTurn onCover End = false
 inTurn onCover Other = false
 inTurn onRows Cover = false
 inTurn onRows Row = true
 inTurn onRows Block = true
+inTurn onRows Heard = true
 inTurn onRows End = true
 inTurn onRows Other = false
 inTurn onBlocks Cover = false
 inTurn onBlocks Row = false
 inTurn onBlocks Block = true
+inTurn onBlocks Heard = false
 inTurn onBlocks End = true
 inTurn onBlocks Other = false
+inTurn onHeard Cover = false
+inTurn onHeard Row = false
+inTurn onHeard Block = false
+inTurn onHeard Heard = true
+inTurn onHeard End = true
+inTurn onHeard Other = false
 inTurn onNothing word = false
 
 -- the part after a line that is in its turn
@@ -59,16 +67,18 @@ abbrev pub after : Word → Part
 after Cover = onRows
 after Row = onRows
 after Block = onBlocks
+after Heard = onHeard
 after End = onNothing
 after Other = onNothing
 
 -- ---- fields
 
--- how many fields a line of this word is to have, where it has k: a block may have any number
+-- how many fields a line of this word is to have, where it has k: a block may have any number, and a heard line any number from two on
 abbrev pub due : Word → ℕ → ℕ
 due Cover k = 4
 due Row k = 2
 due Block k = k
+due Heard k = cond (ltb k 2) 2 k
 due End k = 1
 due Other k = k
 
@@ -76,12 +86,7 @@ due Other k = k
 abbrev pub firstOff : ℕ → ℕ → ℕ
 firstOff k d = suc (cond (ltb k d) k d)
 
--- whether a field was a number
-abbrev pub isNumber : Number → Bool
-isNumber (N.Is n) = true
-isNumber N.Bad = false
-
--- whether it was G or H
+-- whether a field was G or H
 abbrev pub isKind : KindField → Bool
 isKind (K.Is kind) = true
 isKind K.Bad = false
@@ -96,6 +101,7 @@ abbrev pub goodField : ℕ → Word → ℕ → List ℕ → Bool
 goodField n Cover at f = cond (eqb at 2) (isNumber (numberOf 3 f)) (cond (eqb at 3) (isKind (kindOf f)) (cond (eqb at 4) (isOrder (orderOf f)) true))
 goodField n Row at f = cond (eqb at 2) (eqb (length f) n && bitsOnly f) true
 goodField n Block at f = cond (eqb at 1) true (isSample (sampleOf f))
+goodField n Heard at f = cond (eqb at 1) true (cond (eqb at 2) (isNumber (counterOf f)) (isSample (sampleOf f)))
 goodField n End at f = true
 goodField n Other at f = true
 
@@ -104,6 +110,7 @@ abbrev pub formNumber : Word → ℕ
 formNumber Cover = 19
 formNumber Row = 20
 formNumber Block = 19
+formNumber Heard = 19
 formNumber End = 19
 formNumber Other = 19
 
@@ -132,6 +139,7 @@ abbrev pub Open : Part → List ℕ → ℕ → ℕ → Type 0
 Open onCover text number at = (number ≡ 10) × (at ≡ 0)
 Open onRows text number at = (number ≡ 10) × (at ≡ 0)
 Open onBlocks text number at = (number ≡ 10) × (at ≡ 0)
+Open onHeard text number at = (number ≡ 10) × (at ≡ 0)
 Open onNothing [] number at = ⊥
 Open onNothing (x ∷ xs) number at = (number ≡ 10) × (at ≡ 0)
 

@@ -1,9 +1,9 @@
--- Numbers have one to four digits (n one to three), no leading zero but for 0 itself, a minus only on a sample and never before 0.
+-- Numbers have one to four digits (n one to three, a counter one to five), no leading zero but for 0 itself, a minus only on a sample and never before 0.
 use Prim.Native.Nat.{ℕ, _+_, _*_, _-_}
 use lib.Dec.{eqb, leb, ltb}
 use lib.IntN.{pos, negℤ}
 use lib.ListN.{length, getD, drop}
-use mathlib.Core.Bool.{Bool, cond, _&&_}
+use mathlib.Core.Bool.{Bool, true, false, cond, _&&_}
 use mathlib.Core.List.{List, [], _∷_}
 use Rattle.sheets.specs.declared.number.Number.{Number}
 use Rattle.sheets.specs.declared.number.Number.the-variants.{Is, Bad}
@@ -27,6 +27,25 @@ leadingZero f = ltb 1 (length f) && eqb (getD f 0 0) 48
 abbrev pub numberOf : ℕ → List ℕ → Number
 numberOf most f =
     cond (eqb (length f) 0) Bad (cond (ltb most (length f)) Bad (cond (leadingZero f) Bad (digitsOf 0 f)))
+
+-- a counter is at most 65535
+abbrev pub counterIs : Number → Number
+counterIs (Is v) = cond (leb v 65535) (Is v) Bad
+counterIs Bad = Bad
+
+-- a counter: a number of one to five digits
+abbrev pub counterOf : List ℕ → Number
+counterOf f = counterIs (numberOf 5 f)
+
+-- whether a field was a number
+abbrev pub isNumber : Number → Bool
+isNumber (Is v) = true
+isNumber Bad = false
+
+-- its value, where it was
+abbrev pub worth : Number → ℕ
+worth (Is v) = v
+worth Bad = 0
 
 -- a number as a sample
 abbrev pub plain : Number → Sample

@@ -2,6 +2,7 @@
 use Prim.Native.Nat.{ℕ, _+_, _-_, _≤_, _<_}
 use lib.IntN.{ℤ}
 use lib.ListN.{length, drop}
+use mathlib.Core.Bool.{Bool}
 use mathlib.Core.List.{List, [], _∷_}
 use mathlib.Core.Path.{_≡_}
 use Rattle.plates.specs.declared.Refusal.{Refusal}
@@ -9,7 +10,7 @@ use Rattle.plates.specs.declared.Verdict.{Verdict}
 use Rattle.plates.specs.declared.Verdict.the-variants as J
 use Rattle.sheets.specs.Text.{lineFeed, till, lines, linesFrom, begins}
 use Rattle.sheets.specs.Room.{laid}
-use Rattle.sheets.specs.Blocks.{samplesOf, valuesOf, blockLine, blocksOf, blockAt, nextLine, blockReply}
+use Rattle.sheets.specs.Blocks.{samplesOf, valuesOf, blockBy, blockLine, valuesAfter, listedIn, heardRest, blocksOf, blockAt, nextLine, blockReply}
 use Rattle.sheets.specs.Lines.{rowsOf}
 use Rattle.sheets.specs.Sheet.{coverFront, coverIn, contentsOf, coverBad, lengthBad, endingAfter, lineVerdict, rowsTooMany, firstRefusal, sheetAt}
 use Rattle.sheets.specs.declared.Order.{Order}
@@ -21,6 +22,7 @@ use Rattle.sheets.specs.declared.SheetReply.{SheetReply}
 use Rattle.sheets.specs.declared.SheetReply.the-variants.{Read, Refused}
 use Rattle.sheets.specs.declared.number.Number.{Number}
 use Rattle.sheets.specs.declared.number.Number.the-variants.{Is, Bad}
+use Rattle.sheets.specs.declared.word.Word.{Word}
 use Rattle.sheets.specs.declared.block.Samples.{Samples}
 use Rattle.sheets.specs.declared.block.Samples.the-variants.{Count}
 use Rattle.sheets.specs.declared.cover.Cover.{Cover}
@@ -55,13 +57,21 @@ pub record SamplesRead (d : Samples) (vs : List ℤ) (room : List ℤ) (r : Samp
   pub is : r ≡ d
   pub stored : (k : ℕ) → r ≡ Count k → room′ ≡ laid vs room
 
--- the fields after block
-abbrev pub FieldsRead : List (List ℕ) → List ℤ → Samples → List ℤ → Type 0
-FieldsRead fs room r room′ = SamplesRead (samplesOf 0 fs) (valuesOf fs) room r room′
+-- the fields from the first sample on, which is field `lead`
+abbrev pub FieldsRead : ℕ → List (List ℕ) → List ℤ → Samples → List ℤ → Type 0
+FieldsRead lead fs room r room′ = SamplesRead (samplesOf lead 0 fs) (valuesOf fs) room r room′
+
+-- the fields after heard
+abbrev pub HeardRead : List (List ℕ) → List ℤ → Samples → List ℤ → Type 0
+HeardRead fs room r room′ = SamplesRead (heardRest fs) (valuesOf (drop 1 fs)) room r room′
+
+-- the fields after a word
+abbrev pub RestRead : Bool → Word → List (List ℕ) → List ℤ → Samples → List ℤ → Type 0
+RestRead heard word fs room r room′ = SamplesRead (blockBy heard word fs) (valuesAfter heard fs) room r room′
 
 -- the fields of a whole line
-abbrev pub LineRead : List (List ℕ) → List ℤ → Samples → List ℤ → Type 0
-LineRead fs room r room′ = SamplesRead (blockLine fs) (valuesOf (drop 1 fs)) room r room′
+abbrev pub LineRead : Bool → List (List ℕ) → List ℤ → Samples → List ℤ → Type 0
+LineRead heard fs room r room′ = SamplesRead (blockLine heard fs) (listedIn heard fs) room r room′
 
 -- where the sample of a position is listed among n
 abbrev pub listedAt : Order → ℕ → ℕ → ℕ
@@ -75,8 +85,8 @@ pub record Ended (s : List ℕ) (at next : ℕ) : Type 0 where
   pub until : Until lineFeed s at (next - 1)
 
 -- r is the reply for the block line at a place
-pub record BlockRead (s : List ℕ) (at : ℕ) (r : BlockReply) : Type 0 where
-  pub reply : r ≡ blockReply (nextLine s at) (blockAt s at)
+pub record BlockRead (heard : Bool) (s : List ℕ) (at : ℕ) (r : BlockReply) : Type 0 where
+  pub reply : r ≡ blockReply (nextLine s at) (blockAt heard s at)
   pub place : (k next : ℕ) → r ≡ B.Read k next → Ended s at next
 
 -- ---- the cover
@@ -110,8 +120,8 @@ pub record RowsRead (n : ℕ) (order : Order) (s : List ℕ) (from : ℕ) (table
   pub stored : table′ ≡ laid (rowsOf n order (linesFrom s from)) table
 
 -- the blocks from a place on
-abbrev pub BlocksRead : List ℕ → ℕ → Run → Type 0
-BlocksRead s from r = Passed (blocksOf (linesFrom s from)) s from r
+abbrev pub BlocksRead : Bool → List ℕ → ℕ → Run → Type 0
+BlocksRead heard s from r = Passed (blocksOf heard (linesFrom s from)) s from r
 
 -- the reply by the verdict, a sheet being read
 abbrev pub replyBy : Verdict → Sheet → SheetReply

@@ -1,9 +1,9 @@
--- A whole sheet. In order: one cover line, any number of row lines, any number of block lines, end, nothing after.
+-- A whole sheet. In order: one cover line, any number of row lines, any number of block lines or any number of heard lines, end, nothing after.
 use Prim.Native.Nat.{ℕ, suc, _+_}
 use lib.Dec.{eqb, ltb}
 use lib.IntN.{ℤ}
 use lib.ListN.{length, drop}
-use mathlib.Core.Bool.{cond}
+use mathlib.Core.Bool.{Bool, cond}
 use mathlib.Core.List.{List, [], _∷_}
 use mathlib.Core.Path.{_≡_}
 use Rattle.plates.specs.declared.Kind.{Kind}
@@ -15,9 +15,9 @@ use Rattle.plates.specs.declared.Verdict.the-variants as J
 use Rattle.sheets.specs.Text.{lines, fields, begins}
 use Rattle.sheets.specs.Room.{laid}
 use Rattle.sheets.specs.Turning.{byPosition}
-use Rattle.sheets.specs.Blocks.{blocksOf}
+use Rattle.sheets.specs.Blocks.{blocksOf, countersOf, heardFront}
 use Rattle.sheets.specs.Covers.{coverOf}
-use Rattle.sheets.specs.Lines.{rowsOf, endingOf}
+use Rattle.sheets.specs.Lines.{cameAfter, rowsOf, endingOf}
 use Rattle.sheets.specs.declared.Order.{Order}
 use Rattle.sheets.specs.declared.Order.the-variants.{First}
 use Rattle.sheets.specs.declared.Sheet.{Sheet}
@@ -33,13 +33,16 @@ use Rattle.sheets.specs.declared.body.Ending.the-variants.{Fine, NoEnd, 
 
 -- ---- what a sheet says
 
--- its cover, the words of its rows, and the samples of each of its block lines in order of position
+-- its cover, the words of its rows, whether its lines after these are heard lines, the samples of each of its block or heard lines in order of
+-- position, and the counter of each, which is 0 on a block line
 pub record Contents : Type 0 where
   pub n : ℕ
   pub kind : Kind
   pub order : Order
   pub rows : List ℕ
+  pub heard : Bool
   pub blocks : List (List ℤ)
+  pub counters : List ℕ
 
 -- the cover is the first line; what follows the last line feed is no line
 abbrev pub coverFront : List (List ℕ) → CoverLine
@@ -52,16 +55,20 @@ abbrev pub coverIn : CoverLine → Cover
 coverIn (C.Is cover) = cover
 coverIn (C.Bad fault) = record { n = 0; kind = G; order = First }
 
--- the rows at the front of the lines after the cover, and the blocks at the front of those after the rows
+-- the rows at the front of the lines after the cover, and the blocks, or the heard lines where the first is one, at the front of those after the rows
 abbrev pub contentsOf : Cover → List (List ℕ) → Contents
 contentsOf cover ls =
     let rows = rowsOf (cover .n) (cover .order) ls in
+    let left = drop (length rows) ls in
+    let found = blocksOf (heardFront left) left in
     record {
       n = cover .n;
       kind = cover .kind;
       order = cover .order;
       rows = rows;
-      blocks = byPosition (cover .order) (blocksOf (drop (length rows) ls));
+      heard = heardFront left;
+      blocks = byPosition (cover .order) found;
+      counters = countersOf (length found) left;
     }
 
 -- what the lines of a text say
@@ -92,10 +99,10 @@ coverBad (C.Bad fault) = J.Refused (refusalOf 1 fault)
 abbrev pub lengthBad : ℕ → Verdict
 lengthBad n = cond (eqb n 0) (J.Refused Length) (cond (ltb 64 n) (J.Refused Length) J.Accepted)
 
--- how the lines end that stand after the rows and blocks; a row there is late where a block has come
+-- how the lines end that stand after the rows and blocks; a row there is late where a block has come, and a heard line, or a block after heard lines
 abbrev pub endingAfter : Contents → List (List ℕ) → Ending
 endingAfter c ls =
-    endingOf (c .n) (c .order) (ltb 0 (length (c .blocks))) (drop (length (c .blocks)) (drop (length (c .rows)) ls))
+    endingOf (c .n) (c .order) (cameAfter (c .heard) (length (c .blocks))) (drop (length (c .blocks)) (drop (length (c .rows)) ls))
 
 -- the bad line is the one that is to be end, or the one after it
 abbrev pub lineVerdict : ℕ → Ending → Verdict
@@ -143,7 +150,7 @@ reading s = readingBy (verdict s) (contents s)
 
 -- ---- the reply
 
--- the reply for what a sheet says, its block lines beginning at `start`
+-- the reply for what a sheet says, its block or heard lines beginning at `start`
 abbrev pub sheetAt : ℕ → Contents → Sheet
 sheetAt start c = record {
   n = c .n;
@@ -151,10 +158,11 @@ sheetAt start c = record {
   order = c .order;
   rows = length (c .rows);
   start = start;
+  heard = c .heard;
   blocks = length (c .blocks);
 }
 
--- where they begin: at the line after the cover and the rows, which is the first block line, or end where there is none
+-- where they begin: at the line after the cover and the rows, which is the first block or heard line, or end where there is none
 abbrev pub startOf : List ℕ → Contents → ℕ
 startOf s c = begins (lines s) (suc (length (c .rows)))
 

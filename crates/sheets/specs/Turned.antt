@@ -1,4 +1,4 @@
--- A sheet turned: every row and block reversed, under the other word of the cover.
+-- A sheet turned: every row and block reversed, and the samples of every heard line, under the other word of the cover.
 use Prim.Native.Nat.{ℕ}
 use mathlib.Core.Bool.{cond}
 use mathlib.Core.List.{List, [], _∷_, _++_, reverse}
@@ -9,7 +9,7 @@ use Rattle.sheets.specs.Sheet.{Contents}
 use Rattle.sheets.specs.declared.Order.{Order}
 use Rattle.sheets.specs.declared.Order.the-variants.{First, Last}
 use Rattle.sheets.specs.declared.word.Word.{Word}
-use Rattle.sheets.specs.declared.word.Word.the-variants.{Cover, Row, Block, End, Other}
+use Rattle.sheets.specs.declared.word.Word.the-variants.{Cover, Row, Block, Heard, End, Other}
 
 -- first for last, and last for first
 abbrev pub otherWord : List ℕ → List ℕ
@@ -27,11 +27,17 @@ abbrev pub rowTurned : List (List ℕ) → List (List ℕ)
 rowTurned [] = []
 rowTurned (f ∷ fs) = reverse f ∷ fs
 
+-- the fields after heard: the counter, and those after it from the far end
+abbrev pub heardTurned : List (List ℕ) → List (List ℕ)
+heardTurned [] = []
+heardTurned (f ∷ fs) = f ∷ reverse fs
+
 -- the fields after a word: those after block from the far end, each as it is
 abbrev pub restTurned : Word → List (List ℕ) → List (List ℕ)
 restTurned Cover fs = coverTurned fs
 restTurned Row fs = rowTurned fs
 restTurned Block fs = reverse fs
+restTurned Heard fs = heardTurned fs
 restTurned End fs = fs
 restTurned Other fs = fs
 
@@ -71,6 +77,6 @@ abbrev pub other : Order → Order
 other First = Last
 other Last = First
 
--- the same contents under the other order: n, kind, rows and blocks, both by position, are the same
+-- the same contents under the other order: n, kind, rows and blocks, both by position, and the counters are the same
 abbrev pub underOther : Contents → Contents
-underOther c = record { n = c .n; kind = c .kind; order = other (c .order); rows = c .rows; blocks = c .blocks }
+underOther c = record { n = c .n; kind = c .kind; order = other (c .order); rows = c .rows; heard = c .heard; blocks = c .blocks; counters = c .counters }

@@ -4,7 +4,7 @@ use lib.Dec.{eqb}
 use mathlib.Core.Bool.{Bool, true, false, cond}
 use mathlib.Core.List.{List, [], _∷_}
 use Rattle.sheets.specs.declared.word.Word.{Word}
-use Rattle.sheets.specs.declared.word.Word.the-variants.{Cover, Row, Block, End, Other}
+use Rattle.sheets.specs.declared.word.Word.the-variants.{Cover, Row, Block, Heard, End, Other}
 
 -- whether two texts are the same
 abbrev pub same : List ℕ → List ℕ → Bool
@@ -25,6 +25,10 @@ row = 114 ∷ 111 ∷ 119 ∷ []
 abbrev pub block : List ℕ
 block = 98 ∷ 108 ∷ 111 ∷ 99 ∷ 107 ∷ []
 
+-- h e a r d
+abbrev pub heard : List ℕ
+heard = 104 ∷ 101 ∷ 97 ∷ 114 ∷ 100 ∷ []
+
 -- e n d
 abbrev pub end : List ℕ
 end = 101 ∷ 110 ∷ 100 ∷ []
@@ -37,7 +41,7 @@ first = 102 ∷ 105 ∷ 114 ∷ 115 ∷ 116 ∷ []
 abbrev pub last : List ℕ
 last = 108 ∷ 97 ∷ 115 ∷ 116 ∷ []
 
--- which of the four words a line's first field is
+-- which of the five words a line's first field is
 abbrev pub wordOf : List ℕ → Word
 wordOf f =
-    cond (same f cover) Cover (cond (same f row) Row (cond (same f block) Block (cond (same f end) End Other)))
+    cond (same f cover) Cover (cond (same f row) Row (cond (same f block) Block (cond (same f heard) Heard (cond (same f end) End Other))))

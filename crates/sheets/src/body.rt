@@ -1,9 +1,10 @@
-// The lines after the cover: rows, blocks, end.
+// The lines after the cover: rows, blocks or heard lines, end.
 ghost use Prim.Native.Nat.{_+_, _≤_};
 ghost use lib.ListN.{length, set};
 ghost use mathlib.Core.Path.{_≡_};
-ghost use Rattle.sheets.specs.Text.{linesFrom};
-ghost use Rattle.sheets.specs.Lines.{afterEnd, endingOf};
+ghost use Rattle.sheets.specs.Text.{fields, linesFrom};
+ghost use Rattle.sheets.specs.Lines.{afterEnd, cameAfter, endingOf};
+ghost use Rattle.sheets.specs.Blocks.{heardFront, heardLine, isHeard};
 ghost use Rattle.sheets.specs.Readers.{closed, bodyOf, RowsRead, BlocksRead, BodyRead};
 use crate::BlockReply;
 use crate::Order;
@@ -11,11 +12,14 @@ use crate::Sheet;
 use crate::SheetReply;
 use crate::block::block_at;
 use crate::cover::Cover;
+use crate::line::Came;
 use crate::line::Fault;
 use crate::line::Line;
 use crate::line::line_between;
 use crate::line::refusal_of;
 use crate::scan::until;
+use crate::word::Word;
+use crate::word::read_word;
 use plates::Refusal;
 
 // So many lines, and where the line after them begins.
@@ -53,7 +57,7 @@ pub fn read_rows(input: &[u8], from: usize, n: usize, order: Order, table: &mut 
     let mut rows: usize = 0;
     while at < input.len() {
         let end = until(input, at, b'\n');
-        let line = line_between(input, at, end, n, order, false);
+        let line = line_between(input, at, end, n, order, Came::Nothing);
         let Line::Row(word) = line else {
             return Run {
                 count: rows,
@@ -70,15 +74,60 @@ pub fn read_rows(input: &[u8], from: usize, n: usize, order: Order, table: &mut 
     }
 }
 
-// The block lines from a place on, counted.
-pub fn read_blocks(input: &[u8], from: usize) -> Run
+// Whether a word is heard.
+fn is_heard(word: Word) -> bool
+    ensures { λ r. ⌜ r ≡ isHeard word ⌝ }
+{
+    match word {
+        Word::Heard => true,
+        Word::Cover => false,
+        Word::Row => false,
+        Word::Block => false,
+        Word::End => false,
+        Word::Other => false,
+    }
+}
+
+// Whether a line begins with heard.
+fn begins_heard(line: &[u8]) -> bool
+    ensures { λ r. ⌜ r ≡ heardLine (fields (now (line .entry))) ⌝ }
+{
+    let end = until(line, 0, b'\t');
+    let word = read_word(&line[..end]);
+    is_heard(word)
+}
+
+// Whether the line at a place does.
+fn heard_at(input: &[u8], at: usize) -> bool
+    requires { ⌜ at ≤ length (now input) ⌝ }
+    ensures { λ r. ⌜ r ≡ heardFront (linesFrom (now (input .entry)) at) ⌝ }
+{
+    let end = until(input, at, b'\n');
+    begins_heard(&input[at..end])
+}
+
+// What has come after so many blocks or heard lines.
+fn came_after(heard: bool, count: usize) -> Came
+    ensures { λ r. ⌜ r ≡ cameAfter heard count ⌝ }
+{
+    if count == 0 {
+        return Came::Nothing;
+    }
+    if heard {
+        return Came::Heards;
+    }
+    Came::Blocks
+}
+
+// The block lines from a place on, or the heard lines, counted.
+pub fn read_blocks(heard: bool, input: &[u8], from: usize) -> Run
     requires { ⌜ from ≤ length (now input) ⌝ }
-    ensures { λ r. ⌜ BlocksRead (now (input .entry)) from r ⌝ }
+    ensures { λ r. ⌜ BlocksRead heard (now (input .entry)) from r ⌝ }
 {
     let mut at = from;
     let mut blocks: usize = 0;
     while at < input.len() {
-        let reply = block_at(input, at);
+        let reply = block_at(heard, input, at);
         let BlockReply::Read { samples: _, next } = reply else {
             return Run {
                 count: blocks,
@@ -110,13 +159,13 @@ fn after_end(input: &[u8], at: usize) -> Ending
 }
 
 // The line at a place, which is to be end, and what stands after it.
-fn read_end(input: &[u8], at: usize, n: usize, order: Order, late: bool) -> Ending
+fn read_end(input: &[u8], at: usize, n: usize, order: Order, came: Came) -> Ending
     requires { ⌜ at ≤ length (now input) ⌝ }
     requires { ⌜ n ≤ 64 ⌝ }
-    ensures { λ r. ⌜ r ≡ endingOf n order late (linesFrom (now (input .entry)) at) ⌝ }
+    ensures { λ r. ⌜ r ≡ endingOf n order came (linesFrom (now (input .entry)) at) ⌝ }
 {
     let end = until(input, at, b'\n');
-    let line = line_between(input, at, end, n, order, late);
+    let line = line_between(input, at, end, n, order, came);
     match line {
         Line::End => after_end(input, end + 1),
         Line::Bad(fault) => Ending::NoEnd(fault),
@@ -157,16 +206,18 @@ fn check_body(input: &[u8], from: usize, cover: Cover) -> SheetReply
     let mut scratch = [0u64; 1];
     let rows = read_rows(input, from, n, order, &mut scratch);
     let start = rows.next;
-    let blocks = read_blocks(input, start);
+    let heard = heard_at(input, start);
+    let blocks = read_blocks(heard, input, start);
     let end = blocks.next;
-    let late = 0 < blocks.count;
-    let ending = read_end(input, end, n, order, late);
+    let came = came_after(heard, blocks.count);
+    let ending = read_end(input, end, n, order, came);
     let sheet = Sheet {
         n,
         kind,
         order,
         rows: rows.count,
         start,
+        heard,
         blocks: blocks.count,
     };
     close(sheet, ending)

@@ -130,6 +130,7 @@ fn cover_by(word: Word, line: &[u8], a: usize) -> CoverLine
         Word::Cover => cover_rest(line, a),
         Word::Row => CoverLine::Bad(Fault::Turn),
         Word::Block => CoverLine::Bad(Fault::Turn),
+        Word::Heard => CoverLine::Bad(Fault::Turn),
         Word::End => CoverLine::Bad(Fault::Turn),
         Word::Other => CoverLine::Bad(Fault::Turn),
     }

@@ -1,8 +1,10 @@
 // The sheet: its grammar as definitions, and its reader.
-ghost use Rattle.sheets.specs.Blocks.{ReadsBlock};
+ghost use mathlib.Core.Path.{_≡_};
+ghost use Rattle.sheets.specs.Blocks.{ReadsBlock, counterAt};
 ghost use Rattle.sheets.specs.Sheet.{ReadsSheet};
 use block::block_at;
 use body::read_body;
+use counter::counter_at;
 use head::Head;
 use head::read_head;
 use placing::place_samples;
@@ -11,6 +13,7 @@ use plates::Refusal;
 
 mod block;
 mod body;
+mod counter;
 mod cover;
 mod head;
 mod line;
@@ -27,14 +30,15 @@ pub enum Order {
     Last,
 }
 
-// What a sheet that is not refused says: its cover, the number of its rows, where the line after them begins (its first block line, or
-// end where it has none), and the number of its block lines.
+// What a sheet that is not refused says: its cover, the number of its rows, where the line after them begins (its first block or heard line,
+// or end where it has none), whether these are heard lines, and their number.
 pub struct Sheet {
     pub n: usize,
     pub kind: Kind,
     pub order: Order,
     pub rows: usize,
     pub start: usize,
+    pub heard: bool,
     pub blocks: usize,
 }
 
@@ -44,7 +48,7 @@ pub enum SheetReply {
     Refused(Refusal),
 }
 
-// A block line's number of samples and where the next line begins, or that no block line begins at that place.
+// A block or heard line's number of samples and where the next line begins, or that no such line begins at that place.
 pub enum BlockReply {
     Read { samples: usize, next: usize },
     NoBlock,
@@ -64,16 +68,29 @@ pub fn read_sheet(input: &[u8], table: &mut [u64; 64]) -> SheetReply
     }
 }
 
-// Reads the block line that begins at a place of a sheet in the cover's order: its samples go into the places of their positions, or are left
+// Reads the block line, or on a sheet of heard lines the heard line, that begins at a place of a sheet in the cover's order: its samples go into the places of their positions, or are left
 // out where they are more than 64, and are counted in any case.
-pub fn read_block(input: &[u8], at: usize, order: Order, room: &mut [i16; 64]) -> BlockReply
-    ensures { λ r. ⌜ ReadsBlock (now (input .entry)) at order (now (room .entry)) r (now (room .exit)) ⌝ }
+pub fn read_block(
+    heard: bool,
+    input: &[u8],
+    at: usize,
+    order: Order,
+    room: &mut [i16; 64],
+) -> BlockReply
+    ensures { λ r. ⌜ ReadsBlock heard (now (input .entry)) at order (now (room .entry)) r (now (room .exit)) ⌝ }
 {
-    let reply = block_at(input, at);
+    let reply = block_at(heard, input, at);
     let BlockReply::Read { samples, next } = reply else {
         return BlockReply::NoBlock;
     };
     let end = next - 1;
-    place_samples(&input[at..end], samples, order, room);
+    place_samples(heard, &input[at..end], samples, order, room);
     BlockReply::Read { samples, next }
+}
+
+// Reads the counter of the heard line that begins at a place: 0 where none begins there.
+pub fn read_counter(input: &[u8], at: usize) -> u16
+    ensures { λ r. ⌜ r ≡ counterAt (now (input .entry)) at ⌝ }
+{
+    counter_at(input, at)
 }

@@ -5,9 +5,10 @@ ghost use mathlib.Core.Path.{_≡_};
 ghost use Rattle.sheets.specs.Text.{lineFeed, fields, fieldsFrom, linesFrom};
 ghost use Rattle.sheets.specs.Readers.{Until};
 ghost use Rattle.sheets.specs.Sheet.{refusalOf};
-ghost use Rattle.sheets.specs.Lines.{rowIs, rowRest, blockIs, blockRest, endRest, lineBy, lineOf, front};
+ghost use Rattle.sheets.specs.Lines.{rowIs, rowRest, blockIs, blockRest, heardFields, endRest, lateRow, lateBlock, lateHeard, lineBy, lineOf, front};
 use crate::Order;
 use crate::block::Samples;
+use crate::block::read_heard;
 use crate::block::read_samples;
 use crate::row::Row;
 use crate::row::read_row;
@@ -15,6 +16,13 @@ use crate::scan::until;
 use crate::word::Word;
 use crate::word::read_word;
 use plates::Refusal;
+
+// What has come before a line: neither a block nor a heard line, blocks, or heard lines.
+pub enum Came {
+    Nothing,
+    Blocks,
+    Heards,
+}
 
 // What is wrong with a line. Fields are counted from 1.
 pub enum Fault {
@@ -43,7 +51,7 @@ pub fn refusal_of(line: usize, fault: Fault) -> Refusal
     }
 }
 
-// What a line is: a row with its word, a block, the end, or none of these.
+// What a line is: a row with its word, a block or heard line, the end, or none of these.
 pub enum Line {
     Row(u64),
     Block,
@@ -94,7 +102,20 @@ fn block_rest(line: &[u8], a: usize) -> Line
     ensures { λ r. ⌜ r ≡ blockRest (fieldsFrom (now (line .entry)) (a + 1)) ⌝ }
 {
     let mut scratch = [0i16; 1];
-    let samples = read_samples(line, a + 1, &mut scratch);
+    let samples = read_samples(line, a + 1, 2, &mut scratch);
+    block_is(samples)
+}
+
+// The fields after heard, which ends at a.
+fn heard_rest(line: &[u8], a: usize) -> Line
+    requires { ⌜ a ≤ length (now line) ⌝ }
+    ensures { λ r. ⌜ r ≡ heardFields (fieldsFrom (now (line .entry)) (a + 1)) ⌝ }
+{
+    if a == line.len() {
+        return Line::Bad(Fault::Count(2));
+    }
+    let mut scratch = [0i16; 1];
+    let samples = read_heard(line, a, &mut scratch);
     block_is(samples)
 }
 
@@ -109,45 +130,89 @@ fn end_rest(line: &[u8], a: usize) -> Line
     Line::Bad(Fault::Count(2))
 }
 
-// The word chooses the reader of the fields after it. `late` says that a block line has come, so that no row may.
-fn line_by(word: Word, line: &[u8], a: usize, n: usize, order: Order, late: bool) -> Line
+// Whether a row is out of its turn.
+fn late_row(came: Came) -> bool
+    ensures { λ r. ⌜ r ≡ lateRow came ⌝ }
+{
+    match came {
+        Came::Nothing => false,
+        Came::Blocks => true,
+        Came::Heards => true,
+    }
+}
+
+// Whether a block is.
+fn late_block(came: Came) -> bool
+    ensures { λ r. ⌜ r ≡ lateBlock came ⌝ }
+{
+    match came {
+        Came::Nothing => false,
+        Came::Blocks => false,
+        Came::Heards => true,
+    }
+}
+
+// Whether a heard line is.
+fn late_heard(came: Came) -> bool
+    ensures { λ r. ⌜ r ≡ lateHeard came ⌝ }
+{
+    match came {
+        Came::Nothing => false,
+        Came::Blocks => true,
+        Came::Heards => false,
+    }
+}
+
+// The word chooses the reader of the fields after it, by what has come before the line.
+fn line_by(word: Word, line: &[u8], a: usize, n: usize, order: Order, came: Came) -> Line
     requires { ⌜ a ≤ length (now line) ⌝ }
     requires { ⌜ n ≤ 64 ⌝ }
-    ensures { λ r. ⌜ r ≡ lineBy n order late word (fieldsFrom (now (line .entry)) (a + 1)) ⌝ }
+    ensures { λ r. ⌜ r ≡ lineBy n order came word (fieldsFrom (now (line .entry)) (a + 1)) ⌝ }
 {
     match word {
         Word::Cover => Line::Bad(Fault::Turn),
         Word::Row => {
-            if late {
+            if late_row(came) {
                 return Line::Bad(Fault::Turn);
             }
             row_rest(line, a, n, order)
         }
-        Word::Block => block_rest(line, a),
+        Word::Block => {
+            if late_block(came) {
+                return Line::Bad(Fault::Turn);
+            }
+            block_rest(line, a)
+        }
+        Word::Heard => {
+            if late_heard(came) {
+                return Line::Bad(Fault::Turn);
+            }
+            heard_rest(line, a)
+        }
         Word::End => end_rest(line, a),
         Word::Other => Line::Bad(Fault::Turn),
     }
 }
 
 // A whole line after the cover.
-fn read_line(line: &[u8], n: usize, order: Order, late: bool) -> Line
+fn read_line(line: &[u8], n: usize, order: Order, came: Came) -> Line
     requires { ⌜ n ≤ 64 ⌝ }
-    ensures { λ r. ⌜ r ≡ lineOf n order late (fields (now (line .entry))) ⌝ }
+    ensures { λ r. ⌜ r ≡ lineOf n order came (fields (now (line .entry))) ⌝ }
 {
     let a = until(line, 0, b'\t');
     let word = read_word(&line[..a]);
-    line_by(word, line, a, n, order, late)
+    line_by(word, line, a, n, order, came)
 }
 
 // The line from `at` to `end`, which is missing or not ended where `end` is the end of the input.
-pub fn line_between(input: &[u8], at: usize, end: usize, n: usize, order: Order, late: bool) -> Line
+pub fn line_between(input: &[u8], at: usize, end: usize, n: usize, order: Order, came: Came) -> Line
     requires { ⌜ at ≤ length (now input) ⌝ }
     requires { ⌜ Until lineFeed (now input) at end ⌝ }
     requires { ⌜ n ≤ 64 ⌝ }
-    ensures { λ r. ⌜ r ≡ front n order late (linesFrom (now (input .entry)) at) ⌝ }
+    ensures { λ r. ⌜ r ≡ front n order came (linesFrom (now (input .entry)) at) ⌝ }
 {
     if end == input.len() {
         return Line::Bad(Fault::Missing);
     }
-    read_line(&input[at..end], n, order, late)
+    read_line(&input[at..end], n, order, came)
 }

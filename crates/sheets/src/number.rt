@@ -1,9 +1,9 @@
-// The numbers of a sheet: n on the cover, and samples.
+// The numbers of a sheet: n on the cover, counters and samples.
 ghost use Prim.Native.Nat.{_+_, _-_, _^_, _≤_, _<_};
 ghost use lib.IntN.{pos, negℤ};
 ghost use lib.ListN.{length};
 ghost use mathlib.Core.Path.{_≡_};
-ghost use Rattle.sheets.specs.Numbers.{leadingZero, digitsOf, numberOf, plain, negated, sampleOf};
+ghost use Rattle.sheets.specs.Numbers.{counterIs, counterOf, leadingZero, digitsOf, numberOf, plain, negated, sampleOf};
 ghost use Rattle.sheets.specs.Readers.{Below, NumberRead};
 use crate::scan::within;
 
@@ -27,9 +27,9 @@ fn digit(x: u8) -> usize
     (x - b'0') as usize
 }
 
-// The value of a run of at most four digits.
+// The value of a run of at most five digits.
 fn read_digits(f: &[u8]) -> Number
-    requires { ⌜ length (now f) ≤ 4 ⌝ }
+    requires { ⌜ length (now f) ≤ 5 ⌝ }
     ensures { λ r. ⌜ NumberRead (digitsOf 0 (now (f .entry))) (10 ^ length (now (f .entry))) r ⌝ }
 {
     let mut value: usize = 0;
@@ -54,7 +54,7 @@ fn leading_zero(f: &[u8]) -> bool
 
 // A number of one to `most` digits, with no leading zero but for 0 itself.
 pub fn read_number(f: &[u8], most: usize) -> Number
-    requires { ⌜ most ≤ 4 ⌝ }
+    requires { ⌜ most ≤ 5 ⌝ }
     ensures { λ r. ⌜ NumberRead (numberOf most (now (f .entry))) (10 ^ most) r ⌝ }
 {
     let length = f.len();
@@ -68,6 +68,30 @@ pub fn read_number(f: &[u8], most: usize) -> Number
         return Number::Bad;
     }
     read_digits(f)
+}
+
+// A number that is at most 65535.
+fn as_counter(number: Number) -> Number
+    ensures { λ r. ⌜ r ≡ counterIs number ⌝ }
+    ensures { λ r. ⌜ Below 65536 r ⌝ }
+{
+    match number {
+        Number::Is(value) => {
+            if value <= 65535 {
+                return Number::Is(value);
+            }
+            Number::Bad
+        }
+        Number::Bad => Number::Bad,
+    }
+}
+
+// A counter: a number of one to five digits, at most 65535.
+pub fn read_counter_field(f: &[u8]) -> Number
+    ensures { λ r. ⌜ r ≡ counterOf (now (f .entry)) ⌝ }
+    ensures { λ r. ⌜ Below 65536 r ⌝ }
+{
+    as_counter(read_number(f, 5))
 }
 
 // A number of four digits as a signed one.

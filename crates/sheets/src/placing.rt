@@ -1,8 +1,8 @@
-// The samples of a block line in their places by position.
+// The samples of a block or heard line in their places by position.
 ghost use Prim.Native.Nat.{_<_, _≤_};
-ghost use lib.ListN.{drop, length};
+ghost use lib.ListN.{length};
 ghost use mathlib.Core.Path.{_≡_};
-ghost use Rattle.sheets.specs.Blocks.{blockLine, placed, valuesOf};
+ghost use Rattle.sheets.specs.Blocks.{blockLine, placed, listedIn};
 ghost use Rattle.sheets.specs.Readers.{listedAt};
 ghost use Rattle.sheets.specs.Room.{laid};
 ghost use Rattle.sheets.specs.Text.{fields};
@@ -38,16 +38,16 @@ fn place_listed(listed: &[i16], order: Order, room: &mut [i16])
     }
 }
 
-// The samples of a block line that has `count` of them, which are left out where they are more than 64.
-pub fn place_samples(line: &[u8], count: usize, order: Order, room: &mut [i16])
-    requires { ⌜ blockLine (fields (now line)) ≡ Count count ⌝ }
-    ensures { λ _. ⌜ now (room .exit) ≡ placed order (valuesOf (drop 1 (fields (now (line .entry))))) (now (room .entry)) ⌝ }
+// The samples of a block or heard line that has `count` of them, which are left out where they are more than 64.
+pub fn place_samples(heard: bool, line: &[u8], count: usize, order: Order, room: &mut [i16])
+    requires { ⌜ blockLine heard (fields (now line)) ≡ Count count ⌝ }
+    ensures { λ _. ⌜ now (room .exit) ≡ placed order (listedIn heard (fields (now (line .entry)))) (now (room .entry)) ⌝ }
 {
     if 64 < count {
         return;
     }
     let mut listed = [0i16; 64];
-    read_block_line(line, &mut listed);
+    read_block_line(heard, line, &mut listed);
     let values = &listed[..];
     place_listed(&values[..count], order, room);
 }

@@ -3,11 +3,12 @@ ghost use mathlib.Core.List.{[], _∷_};
 ghost use mathlib.Core.Path.{_≡_};
 ghost use Rattle.sheets.specs.Words.{same, wordOf};
 
-// Which of the four words a line's first field is.
+// Which of the five words a line's first field is.
 pub enum Word {
     Cover,
     Row,
     Block,
+    Heard,
     End,
     Other,
 }
@@ -58,6 +59,19 @@ fn five_letters(a: u8, b: u8, c: u8, d: u8, e: u8) -> Word
                 b'o' => match d {
                     b'c' => match e {
                         b'k' => Word::Block,
+                        _ => Word::Other,
+                    },
+                    _ => Word::Other,
+                },
+                _ => Word::Other,
+            },
+            _ => Word::Other,
+        },
+        b'h' => match b {
+            b'e' => match c {
+                b'a' => match d {
+                    b'r' => match e {
+                        b'd' => Word::Heard,
                         _ => Word::Other,
                     },
                     _ => Word::Other,

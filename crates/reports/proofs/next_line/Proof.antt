@@ -1,7 +1,7 @@
 -- `next_line` meets its contract.
-use borrow.Author.Needs.{needs}
 use Rattle.reports.proofs.WrittenSteps.{at-its-stage, only-writes}
 use mathlib.Core.Path.{refl}
+use borrow.Author.Needs.{needs}
 use Rattle.reports.proofs.next_line.Statement.{statement}
 use Rattle.reports.proofs.next_line.Tie as tie
 
@@ -31,6 +31,12 @@ block-line-requires c κs = search needs
 
 enum-told-4 : tie.Need-enum-told-4
 enum-told-4 c = search needs
+
+end-line-requires : tie.Need-end-line-requires
+end-line-requires c κs = search needs
+
+enum-told-5 : tie.Need-enum-told-5
+enum-told-5 c = search needs
 
 same-length : tie.Need-same-length
 same-length c = search needs
@@ -62,8 +68,14 @@ same-length-6 c = search needs
 returns-4 : tie.Need-returns-4
 returns-4 c = at-its-stage _ (c .before .before .before .before .before .before .before .before .before .enum-told3 .given .1) (c .before .before .before .before .before .block-line .ensures)
 
+same-length-7 : tie.Need-same-length-7
+same-length-7 c = search needs
+
 returns-5 : tie.Need-returns-5
-returns-5 c = at-its-stage _ (c .enum-told4 .given .1) (record { is = refl; same = refl })
+returns-5 c = at-its-stage _ (c .before .before .before .before .enum-told4 .given .1) (only-writes (c .before .before .end-line .ensures))
+
+returns-6 : tie.Need-returns-6
+returns-6 c = at-its-stage _ (c .enum-told5 .given .1) (record { is = refl; same = refl })
 
 pub next-line-spec : {M : Type 1} → statement M
 next-line-spec =
@@ -78,6 +90,8 @@ next-line-spec =
     enum-told-3
     block-line-requires
     enum-told-4
+    end-line-requires
+    enum-told-5
     same-length
     returns
     same-length-2
@@ -88,4 +102,6 @@ next-line-spec =
     same-length-5
     same-length-6
     returns-4
-    returns-5)
+    same-length-7
+    returns-5
+    returns-6)

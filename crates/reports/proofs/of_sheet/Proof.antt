@@ -1,7 +1,7 @@
 -- `of_sheet` meets its contract.
-use borrow.Author.Needs.{needs}
 use mathlib.Core.Path.{sym}
 use lib.Seq.{length-take-le}
+use borrow.Author.Needs.{needs}
 use Rattle.reports.proofs.of_sheet.Statement.{statement}
 use Rattle.reports.proofs.of_sheet.Tie as tie
 
@@ -20,12 +20,14 @@ refused-requires c κs = search needs
 enum-told : tie.Need-enum-told
 enum-told c = search needs
 
+nothing-kept-requires : tie.Need-nothing-kept-requires
+nothing-kept-requires c κs = search needs
+
 returns : tie.Need-returns
-returns c =
-    record { prepared = _; prepares = c .before .before .before .before .prepare .ensures; is = rw (c .before .before .verdict .given .1) (c .refused .ensures) }
+returns c = record { prepared = _; prepares = c .before .before .before .before .prepare .ensures; is = rw (c .before .before .verdict .given .1) (c .refused .ensures) }
 
 returns-2 : tie.Need-returns-2
-returns-2 c = record { prepared = _; prepares = c .before .before .before .prepare .ensures; is = rw (c .before .enum-told .given .1) }
+returns-2 c = record { prepared = _; prepares = c .before .before .before .before .prepare .ensures; is = rw (c .before .before .enum-told .given .1, c .nothing-kept .ensures) }
 
 pub of-sheet-spec : {M : Type 1} → statement M
 of-sheet-spec =
@@ -36,5 +38,6 @@ of-sheet-spec =
     enum-known-verdict
     refused-requires
     enum-told
+    nothing-kept-requires
     returns
     returns-2)

@@ -20,7 +20,7 @@ enum-told c = search needs
 returns : tie.Need-returns
 returns c =
     let e = sym (c .enum-told .given .1) ∙ c .before .before .block-at .ensures .reply in
-    record { reply = e; samples = room-stays (c .before .before .before .before .args .order) (blockAt (c .before .before .before .before .args .input .now) (c .before .before .before .before .args .at)) _ _ e }
+    record { reply = e; samples = room-stays (c .before .before .before .before .args .order) (blockAt (c .before .before .before .before .args .heard) (c .before .before .before .before .args .input .now) (c .before .before .before .before .args .at)) _ _ e }
 
 sub-end : tie.Need-sub-end
 sub-end c =
@@ -48,7 +48,7 @@ place-samples-requires c κs =
     let g = c .before .before .before .reply .given in
     let b = c .before .before .before .before .before .block-at .ensures in
     let p = b .place (g .0 .0) (g .0 .1 .0) (g .1) in
-    counted-there (a .input .now) (a .at) (g .0 .1 .0 - 1) (omega arith) (p .until) (λ q. omega arith) (g .0 .0) (g .0 .1 .0) (sym (g .1) ∙ b .reply)
+    counted-there (a .heard) (a .input .now) (a .at) (g .0 .1 .0 - 1) (omega arith) (p .until) (λ q. omega arith) (g .0 .0) (g .0 .1 .0) (sym (g .1) ∙ b .reply)
 
 returns-2 : tie.Need-returns-2
 returns-2 c =
@@ -60,7 +60,7 @@ returns-2 c =
     let e = sym (c .before .before .before .before .reply .given .1) ∙ c .before .before .before .before .before .before .block-at .ensures .reply in
     record {
       reply = e;
-      samples = placed-there s (a .at) (next - 1) (omega arith) (p .until) (λ q. omega arith) k next e (a .order) (a .room .now) _ (c .place-samples .ensures);
+      samples = placed-there (a .heard) s (a .at) (next - 1) (omega arith) (p .until) (λ q. omega arith) k next e (a .order) (a .room .now) _ (c .place-samples .ensures);
     }
 
 pub read-block-spec : {M : Type 1} → statement M

@@ -1,10 +1,13 @@
 -- `listing::lines_of` meets its contract.
 use borrow.Author.Needs.{needs}
-use mathlib.Core.Path.{ap, sym}
-use Rattle.reports.specs.declared.Stage.{Stage}
-use Rattle.reports.specs.Remaining.{countAt}
 use Rattle.reports.proofs.listing.lines_of.Statement.{statement}
 use Rattle.reports.proofs.listing.lines_of.Tie as tie
+
+tallies-requires : tie.Need-tallies-requires
+tallies-requires c κs = search needs
+
+add-blocks : tie.Need-add-blocks
+add-blocks c = search needs
 
 enum-told : tie.Need-enum-told
 enum-told c = search needs
@@ -30,25 +33,39 @@ add-result-3 c = search needs
 enum-told-5 : tie.Need-enum-told-5
 enum-told-5 c = search needs
 
+enum-told-6 : tie.Need-enum-told-6
+enum-told-6 c = search needs
+
 returns : tie.Need-returns
 returns c = search needs
 
 returns-2 : tie.Need-returns-2
-returns-2 c = sym (ap (λ (s : Stage). countAt s (c .before .before .args .report .blocks)) (c .enum-told2 .given .1))
+returns-2 c =
+    let a = c .before .before .before .before .args in
+    rw (c .enum-told2 .given .1, ← (c .before .before .before .tallies .ensures .0))
 
 returns-3 : tie.Need-returns-3
-returns-3 c = sym (ap (λ (s : Stage). countAt s (c .before .before .args .report .blocks)) (c .enum-told3 .given .1))
+returns-3 c =
+    let a = c .before .before .before .before .args in
+    rw (c .enum-told3 .given .1, ← (c .before .before .before .tallies .ensures .0))
 
 returns-4 : tie.Need-returns-4
-returns-4 c = sym (ap (λ (s : Stage). countAt s (c .before .before .args .report .blocks)) (c .enum-told4 .given .1))
+returns-4 c =
+    let a = c .before .before .before .before .args in
+    rw (c .enum-told4 .given .1, ← (c .before .before .before .tallies .ensures .0))
 
 returns-5 : tie.Need-returns-5
 returns-5 c = search needs
+
+returns-6 : tie.Need-returns-6
+returns-6 c = search needs
 
 pub lines-of-spec : {M : Type 1} → statement M
 lines-of-spec =
     tie.close
     (tie.spec
+    tallies-requires
+    add-blocks
     enum-told
     enum-told-2
     add-result
@@ -57,8 +74,10 @@ lines-of-spec =
     enum-told-4
     add-result-3
     enum-told-5
+    enum-told-6
     returns
     returns-2
     returns-3
     returns-4
-    returns-5)
+    returns-5
+    returns-6)

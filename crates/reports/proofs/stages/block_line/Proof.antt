@@ -1,11 +1,11 @@
 -- `stages::block_line` meets its contract.
-use borrow.Author.Needs.{needs}
+use Rattle.sheets.specs.Blocks.{blockAt, counterAt, nextLine}
+use Rattle.reports.proofs.WrittenSteps.{only-writes}
+use Rattle.reports.proofs.BlockSteps.{block-step, end-step, places-size}
 use mathlib.Core.Path.{_∙_, refl, sym}
 use lib.ListN.{replicate}
 use lib.IntN.{pos}
-use Rattle.sheets.specs.Blocks.{blockAt, nextLine}
-use Rattle.reports.proofs.WrittenSteps.{only-writes}
-use Rattle.reports.proofs.BlockSteps.{block-step, end-step, places-size}
+use borrow.Author.Needs.{needs}
 use Rattle.reports.proofs.stages.block_line.Statement.{statement}
 use Rattle.reports.proofs.stages.block_line.Tie as tie
 
@@ -15,16 +15,19 @@ read-block-requires c κs = search needs
 enum-known-reply : tie.Need-enum-known-reply
 enum-known-reply c = search needs
 
+read-counter-requires : tie.Need-read-counter-requires
+read-counter-requires c κs = search needs
+
 samples-line-requires : tie.Need-samples-line-requires
 samples-line-requires c κs =
-    let a = c .before .before .before .before .before .before .before .before .before .before .before .before .args in
-    rw (c .before .before .before .before .before .before .before .read-block .ensures .samples) (places-size (a .report .order) (replicate 64 (pos 0)) refl (blockAt (a .input .now) (a .report .at)))
+    let a = c .before .before .before .before .before .before .before .before .before .before .before .before .before .args in
+    rw (c .before .before .before .before .before .before .before .before .read-block .ensures .samples) (places-size (a .report .order) (replicate 64 (pos 0)) refl (blockAt (a .report .heard) (a .input .now) (a .report .at)))
 
 enum-told : tie.Need-enum-told
 enum-told c = search needs
 
-end-line-requires : tie.Need-end-line-requires
-end-line-requires c κs = search needs
+close-line-requires : tie.Need-close-line-requires
+close-line-requires c κs = search needs
 
 same-length : tie.Need-same-length
 same-length c = search needs
@@ -37,8 +40,10 @@ same-length-3 c = search needs
 
 returns : tie.Need-returns
 returns c =
-    let a = c .before .before .before .before .before .before .before .before .before .before .before .before .before .before .before .before .before .before .args in
-    block-step (replicate 64 (pos 0)) refl (blockAt (a .input .now) (a .report .at)) (nextLine (a .input .now) (a .report .at)) _ _ _ (sym (c .before .before .before .before .before .before .before .before .before .before .before .reply .given .1) ∙ c .before .before .before .before .before .before .before .before .before .before .before .before .before .read-block .ensures .reply) (c .before .before .before .before .before .before .before .before .before .before .before .before .before .read-block .ensures .samples) (c .before .before .before .before .before .samples-line .ensures)
+    let a = c .before .before .before .before .before .before .before .before .before .before .before .before .before .before .before .before .before .before .before .args in
+    let r = c .before .before .before .before .before .before .before .before .before .before .before .before .before .before .read-block in
+    block-step (replicate 64 (pos 0)) refl (blockAt (a .report .heard) (a .input .now) (a .report .at)) (counterAt (a .input .now) (a .report .at)) (nextLine (a .input .now) (a .report .at)) _ _ _
+    (sym (c .before .before .before .before .before .before .before .before .before .before .before .before .reply .given .1) ∙ r .ensures .reply) (r .ensures .samples) (rw (c .before .before .before .before .before .before .before .before .before .before .read-counter .ensures) at (c .before .before .before .before .before .samples-line .ensures))
 
 same-length-4 : tie.Need-same-length-4
 same-length-4 c = search needs
@@ -46,7 +51,8 @@ same-length-4 c = search needs
 returns-2 : tie.Need-returns-2
 returns-2 c =
     let a = c .before .before .before .before .before .before .before .before .before .before .before .args in
-    end-step (replicate 64 (pos 0)) refl (blockAt (a .input .now) (a .report .at)) (nextLine (a .input .now) (a .report .at)) (sym (c .before .before .before .before .enum-told .given .1) ∙ c .before .before .before .before .before .before .read-block .ensures .reply) (only-writes (c .before .before .end-line .ensures))
+    end-step (replicate 64 (pos 0)) refl (blockAt (a .report .heard) (a .input .now) (a .report .at)) (counterAt (a .input .now) (a .report .at)) (nextLine (a .input .now) (a .report .at))
+    (sym (c .before .before .before .before .enum-told .given .1) ∙ c .before .before .before .before .before .before .read-block .ensures .reply) (only-writes (c .before .before .close-line .ensures))
 
 pub block-line-spec : {M : Type 1} → statement M
 block-line-spec =
@@ -54,9 +60,10 @@ block-line-spec =
     (tie.spec
     read-block-requires
     enum-known-reply
+    read-counter-requires
     samples-line-requires
     enum-told
-    end-line-requires
+    close-line-requires
     same-length
     same-length-2
     same-length-3

@@ -1,18 +1,21 @@
 -- `stages::decoded_line` meets its contract.
-use borrow.Author.Needs.{needs}
-use mathlib.Core.Path.{subst}
-use Rattle.decoding.specs.declared.Decoded.{Decoded}
 use Rattle.reports.specs.Steps.{Printable}
+use Rattle.decoding.specs.declared.Decoded.{Decoded}
+use mathlib.Core.Path.{subst}
+use borrow.Author.Needs.{needs}
 use Rattle.reports.proofs.stages.decoded_line.Statement.{statement}
 use Rattle.reports.proofs.stages.decoded_line.Tie as tie
 
 enum-known-decoded : tie.Need-enum-known-decoded
 enum-known-decoded c = search needs
 
-word-line-requires : tie.Need-word-line-requires
-word-line-requires c κs =
-    let s = c .before .before .before .before .before in
-    subst (λ (d : Decoded). Printable d (s .args .before .plate)) (c .before .before .decoded .given .1) (s .pre)
+is-silent-requires : tie.Need-is-silent-requires
+is-silent-requires c κs = search needs
+
+found-line-requires : tie.Need-found-line-requires
+found-line-requires c κs =
+    let s = c .before .before .before .before .before .before in
+    subst (λ (d : Decoded). Printable d (s .args .before .plate)) (c .before .before .before .decoded .given .1) (s .pre)
 
 enum-known-decoded-2 : tie.Need-enum-known-decoded-2
 enum-known-decoded-2 c = search needs
@@ -24,7 +27,7 @@ same-length : tie.Need-same-length
 same-length c = search needs
 
 returns : tie.Need-returns
-returns c = rw (c .before .before .before .before .before .decoded .given .1) (c .before .before .word-line .ensures)
+returns c = rw (c .before .before .before .before .before .before .decoded .given .1) (rw (c .before .before .before .before .is-silent .ensures) at (c .before .before .found-line .ensures))
 
 same-length-2 : tie.Need-same-length-2
 same-length-2 c = search needs
@@ -37,7 +40,8 @@ decoded-line-spec =
     tie.close
     (tie.spec
     enum-known-decoded
-    word-line-requires
+    is-silent-requires
+    found-line-requires
     enum-known-decoded-2
     refused-block-requires
     same-length

@@ -7,7 +7,7 @@ use Rattle.sheets.proofs.block.block_at.Statement.{statement}
 use Rattle.sheets.proofs.block.block_at.Tie as tie
 
 returns : tie.Need-returns
-returns c = past-end (c .before .before .args .input .now) (c .before .before .args .at) (c .if1 .taken)
+returns c = past-end (c .before .before .args .heard) (c .before .before .args .input .now) (c .before .before .args .at) (c .if1 .taken)
 
 until-requires : tie.Need-until-requires
 until-requires c κs = search needs
@@ -16,7 +16,7 @@ returns-2 : tie.Need-returns-2
 returns-2 c =
     let a = c .before .before .before .before .args in
     let u = c .before .until in
-    open-line (a .input .now) (a .at) (u .result) (omega arith) (u .ensures) (c .if2 .taken)
+    open-line (a .heard) (a .input .now) (a .at) (u .result) (omega arith) (u .ensures) (c .if2 .taken)
 
 sub-read-block-line : tie.Need-sub-read-block-line
 sub-read-block-line c = search needs
@@ -43,7 +43,7 @@ returns-3 : tie.Need-returns-3
 returns-3 c =
     let a = c .before .before .before .before .before .before .before .before .before .before .args in
     let u = c .before .before .before .before .before .before .before .until in
-    no-block-there (a .input .now) (a .at) (u .result) (omega arith) (u .ensures) (c .before .before .before .before .before .before .if2 .left) (c .enum-told .given .0 .0) (sym (c .before .before .before .read-block-line .ensures .is) ∙ c .enum-told .given .1)
+    no-block-there (a .heard) (a .input .now) (a .at) (u .result) (omega arith) (u .ensures) (c .before .before .before .before .before .before .if2 .left) (c .enum-told .given .0 .0) (sym (c .before .before .before .read-block-line .ensures .is) ∙ c .enum-told .given .1)
 
 add-next : tie.Need-add-next
 add-next c = search needs
@@ -52,7 +52,7 @@ returns-4 : tie.Need-returns-4
 returns-4 c =
     let a = c .before .before .before .before .before .before .before .before .before .before .before .args in
     let u = c .before .before .before .before .before .before .before .before .until in
-    block-there (a .input .now) (a .at) (u .result) (omega arith) (u .ensures) (c .before .before .before .before .before .before .before .if2 .left) (c .before .found .given .0 .0) (sym (c .before .before .before .before .read-block-line .ensures .is) ∙ c .before .found .given .1)
+    block-there (a .heard) (a .input .now) (a .at) (u .result) (omega arith) (u .ensures) (c .before .before .before .before .before .before .before .if2 .left) (c .before .found .given .0 .0) (sym (c .before .before .before .before .read-block-line .ensures .is) ∙ c .before .found .given .1)
 
 pub block-at-spec : {M : Type 1} → statement M
 block-at-spec =

@@ -11,13 +11,13 @@ use Rattle.sheets.proofs.block.read_samples.Statement.{statement}
 use Rattle.sheets.proofs.block.read_samples.Tie as tie
 
 abbrev Inv-loop : tie.InvT-loop
-Inv-loop line from room₀ at₀ k₀ room at k = Sampling line from room₀ room at k
+Inv-loop line from lead room₀ at₀ k₀ room at k = Sampling lead line from room₀ room at k
 
 abbrev μ-loop : tie.MeasureT-loop
-μ-loop line from room₀ at₀ k₀ room at k = length line + 1 - at
+μ-loop line from lead room₀ at₀ k₀ room at k = length line + 1 - at
 
 loop-holds : tie.Need-loop-holds Inv-loop μ-loop
-loop-holds c = sample-start _ _ _ (c .before .pre)
+loop-holds c = sample-start _ _ _ _ (c .before .pre .0)
 
 until-requires : tie.Need-until-requires Inv-loop μ-loop
 until-requires c κs = search needs
@@ -40,8 +40,8 @@ enum-known-sample c = search needs
 enum-told : tie.Need-enum-told Inv-loop μ-loop
 enum-told c = search needs
 
-add-t14 : tie.Need-add-t14 Inv-loop μ-loop
-add-t14 c = search needs
+add-t15 : tie.Need-add-t15 Inv-loop μ-loop
+add-t15 c = search needs
 
 same-length : tie.Need-same-length Inv-loop μ-loop
 same-length c = search needs
@@ -93,7 +93,7 @@ read-samples-spec =
     read-sample-requires
     enum-known-sample
     enum-told
-    add-t14
+    add-t15
     same-length
     returns
     put-sample-requires

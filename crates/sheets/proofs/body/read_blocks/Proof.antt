@@ -10,10 +10,10 @@ use Rattle.sheets.proofs.body.read_blocks.Statement.{statement}
 use Rattle.sheets.proofs.body.read_blocks.Tie as tie
 
 abbrev Inv-loop : tie.InvT-loop
-Inv-loop input from at₀ blocks₀ at blocks = Passing blocksOf input from at blocks
+Inv-loop heard input from at₀ blocks₀ at blocks = Passing (blocksOf heard) input from at blocks
 
 abbrev μ-loop : tie.MeasureT-loop
-μ-loop input from at₀ blocks₀ at blocks = length input - at
+μ-loop heard input from at₀ blocks₀ at blocks = length input - at
 
 loop-holds : tie.Need-loop-holds Inv-loop μ-loop
 loop-holds c = pass-start _ _ _ (c .before .pre)
@@ -28,7 +28,7 @@ enum-told : tie.Need-enum-told Inv-loop μ-loop
 enum-told c = search needs
 
 returns : tie.Need-returns Inv-loop μ-loop
-returns c = block-stop (c .before .before .before .before .loop .inv) (c .before .before .block-at .result) (c .before .before .block-at .ensures) (c .enum-told .given .1)
+returns c = block-stop _ (c .before .before .before .before .loop .inv) (c .before .before .block-at .result) (c .before .before .block-at .ensures) (c .enum-told .given .1)
 
 add-blocks : tie.Need-add-blocks Inv-loop μ-loop
 add-blocks c = search needs
@@ -39,10 +39,10 @@ loop-less c =
     omega arith
 
 loop-again : tie.Need-loop-again Inv-loop μ-loop
-loop-again c = block-on (c .before .before .before .before .before .loop .inv) (c .before .before .before .block-at .result) (c .before .before .before .block-at .ensures) _ _ (c .before .reply .given .1)
+loop-again c = block-on _ (c .before .before .before .before .before .loop .inv) (c .before .before .before .block-at .result) (c .before .before .before .block-at .ensures) _ _ (c .before .reply .given .1)
 
 returns-2 : tie.Need-returns-2 Inv-loop μ-loop
-returns-2 c = block-last (c .before .loop .inv) (c .loop-test .left)
+returns-2 c = block-last _ (c .before .loop .inv) (c .loop-test .left)
 
 pub read-blocks-spec : {M : Type 1} → statement M
 read-blocks-spec =

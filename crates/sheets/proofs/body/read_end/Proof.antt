@@ -21,7 +21,7 @@ after-end-requires : tie.Need-after-end-requires
 after-end-requires c κs =
     let a = c .before .before .before .before .before .args in
     let u = c .before .before .before .until in
-    end-closed (a .n) (a .order) (a .late) (a .input .now) (a .at) (u .result) (c .before .before .before .before .before .pre .0) (u .ensures) (sym (c .before .before .line-between .ensures) ∙ c .enum-told .given .1) .high
+    end-closed (a .n) (a .order) (a .came) (a .input .now) (a .at) (u .result) (c .before .before .before .before .before .pre .0) (u .ensures) (sym (c .before .before .line-between .ensures) ∙ c .enum-told .given .1) .high
 
 enum-known-line : tie.Need-enum-known-line
 enum-known-line c = search needs
@@ -37,7 +37,7 @@ returns c =
     let a = c .before .before .before .before .before .before .args in
     let u = c .before .before .before .before .until in
     c .after-end .ensures
-    ∙ sym (end-then (a .n) (a .order) (a .late) (a .input .now) (a .at) (u .result) (c .before .before .before .before .before .before .pre .0) (u .ensures) (sym (c .before .before .before .line-between .ensures) ∙ c .before .enum-told .given .1))
+    ∙ sym (end-then (a .n) (a .order) (a .came) (a .input .now) (a .at) (u .result) (c .before .before .before .before .before .before .pre .0) (u .ensures) (sym (c .before .before .before .line-between .ensures) ∙ c .before .enum-told .given .1))
 
 returns-2 : tie.Need-returns-2
 returns-2 c = rw (sym (c .before .before .before .line-between .ensures), c .before .line .given .1)

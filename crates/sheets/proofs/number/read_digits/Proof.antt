@@ -35,7 +35,7 @@ returns c =
 mul-value : tie.Need-mul-value Inv-loop μ-loop
 mul-value c =
     let l = c .before .before .before .before in
-    omega (arith, grown 10 (l .loop .value) 0 (l .loop .i) 4 (omega arith) (l .loop .inv .1) (omega arith) (omega arith))
+    omega (arith, grown 10 (l .loop .value) 0 (l .loop .i) 5 (omega arith) (l .loop .inv .1) (omega arith) (omega arith))
 
 digit-requires : tie.Need-digit-requires Inv-loop μ-loop
 digit-requires c κs = between 48 57 _ (sym (c .before .within .ensures) ∙ not-false _ (c .if1 .left)) .0
@@ -44,7 +44,7 @@ add-value : tie.Need-add-value Inv-loop μ-loop
 add-value c =
     let l = c .before .before .before .before .before in
     let d = between 48 57 (getD (l .before .before .args .f .now) (l .loop .i) 0) (sym (c .before .before .within .ensures) ∙ not-false _ (c .before .if1 .left)) in
-    omega (arith, grown 10 (l .loop .value) (c .digit .result) (l .loop .i) 4 (omega arith) (l .loop .inv .1) (omega arith) (omega arith))
+    omega (arith, grown 10 (l .loop .value) (c .digit .result) (l .loop .i) 5 (omega arith) (l .loop .inv .1) (omega arith) (omega arith))
 
 add-i : tie.Need-add-i Inv-loop μ-loop
 add-i c = search needs

@@ -14,7 +14,7 @@ use Rattle.sheets.proofs.placing.place_samples.Tie as tie
 returns : tie.Need-returns
 returns c =
     let a = c .before .before .args in
-    placed-long (a .order) (fields (a .line .now)) (a .count) (c .before .before .pre) (a .room .now) (c .if1 .taken)
+    placed-long (a .heard) (a .order) (fields (a .line .now)) (a .count) (c .before .before .pre) (a .room .now) (c .if1 .taken)
 
 slice-aggregate-read-block-line : tie.Need-slice-aggregate-read-block-line
 slice-aggregate-read-block-line c = search needs
@@ -40,7 +40,7 @@ returns-2 : tie.Need-returns-2
 returns-2 c =
     let s = c .before .before .before .before .before .before .before .before .before .before in
     let r = c .before .before .before .before .before .before .read-block-line .ensures in
-    placed-short (s .args .order) (fields (s .args .line .now)) (s .args .count) (s .pre) (s .args .room .now) (replicate 64 (pos 0)) _ _ refl
+    placed-short (s .args .heard) (s .args .order) (fields (s .args .line .now)) (s .args .count) (s .pre) (s .args .room .now) (replicate 64 (pos 0)) _ _ refl
     (omega (arith, c .before .before .before .before .before .before .before .before .if1 .left)) (r .stored _ (r .is ∙ s .pre)) (c .before .place-listed .ensures)
 
 pub place-samples-spec : {M : Type 1} → statement M

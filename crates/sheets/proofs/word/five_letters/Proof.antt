@@ -56,8 +56,33 @@ returns-10 c =
 
 returns-11 : tie.Need-returns-11
 returns-11 c =
+    let a = c .before .before .before .before .before .args in
+    rw (five (a .a) (a .b) (a .c) (a .d) (a .e), c .before .before .before .before .match .keys3, c .before .before .before .match10 .keys1, c .before .before .match11 .keys1, c .before .match12 .keys1, c .match13 .keys1)
+
+returns-12 : tie.Need-returns-12
+returns-12 c =
+    let a = c .before .before .before .before .before .args in
+    rw (five (a .a) (a .b) (a .c) (a .d) (a .e), c .before .before .before .before .match .keys3, c .before .before .before .match10 .keys1, c .before .before .match11 .keys1, c .before .match12 .keys1, ne-eqb _ _ (c .match13 .rest .1))
+
+returns-13 : tie.Need-returns-13
+returns-13 c =
+    let a = c .before .before .before .before .args in
+    rw (five (a .a) (a .b) (a .c) (a .d) (a .e), c .before .before .before .match .keys3, c .before .before .match10 .keys1, c .before .match11 .keys1, ne-eqb _ _ (c .match12 .rest .1))
+
+returns-14 : tie.Need-returns-14
+returns-14 c =
+    let a = c .before .before .before .args in
+    rw (five (a .a) (a .b) (a .c) (a .d) (a .e), c .before .before .match .keys3, c .before .match10 .keys1, ne-eqb _ _ (c .match11 .rest .1))
+
+returns-15 : tie.Need-returns-15
+returns-15 c =
+    let a = c .before .before .args in
+    rw (five (a .a) (a .b) (a .c) (a .d) (a .e), c .before .match .keys3, ne-eqb _ _ (c .match10 .rest .1))
+
+returns-16 : tie.Need-returns-16
+returns-16 c =
     let a = c .before .args in
-    rw (five (a .a) (a .b) (a .c) (a .d) (a .e), ne-eqb _ _ (c .match .rest .0 .1), ne-eqb _ _ (c .match .rest .1))
+    rw (five (a .a) (a .b) (a .c) (a .d) (a .e), ne-eqb _ _ (c .match .rest .0 .0 .1), ne-eqb _ _ (c .match .rest .0 .1), ne-eqb _ _ (c .match .rest .1))
 
 pub five-letters-spec : {M : Type 1} → statement M
 five-letters-spec =
@@ -73,4 +98,9 @@ five-letters-spec =
     returns-8
     returns-9
     returns-10
-    returns-11)
+    returns-11
+    returns-12
+    returns-13
+    returns-14
+    returns-15
+    returns-16)
