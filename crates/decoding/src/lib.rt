@@ -60,10 +60,10 @@ pub fn decode(plate: Plate, samples: &[i16], metrics: &mut [i32], decisions: &mu
     }
     let sizes = sizes_of(n, plate.k, &plate.profile);
     let metric_need = sizes.half + sizes.half;
+    let decision_need = n * sizes.words;
     if metrics.len() < metric_need {
         return Decoded::Refused(Refusal::MetricRoom);
     }
-    let decision_need = n * sizes.words;
     if decisions.len() < decision_need {
         return Decoded::Refused(Refusal::DecisionRoom);
     }

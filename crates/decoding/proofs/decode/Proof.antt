@@ -53,27 +53,27 @@ add-metric-need c =
     let e = sizes-are (s .args .t1) given (c .before .sizes-of .result) (c .before .sizes-of .ensures) in
     record { fits = omega (arith, ap (λ (z : Sizes). z .half) e, plate-sizes-fit (s .args .t1) given .half-small) }
 
-returns-4 : tie.Need-returns-4
-returns-4 c =
+mul-decision-need : tie.Need-mul-decision-need
+mul-decision-need c =
     let s = c .before .before .before .before .before .before .before .before .before .before .before in
     let given = c .before .before .before .before .before .before .before .before .before .is-prepared .ensures .yes-is (not-false _ (c .before .before .before .before .before .before .before .before .if1 .left)) in
     let e = sizes-are (s .args .t1) given (c .before .before .sizes-of .result) (c .before .before .sizes-of .ensures) in
-    let h : length (s .args .metrics .now) < metricNeed (s .args .t1) = omega (arith, c .if4 .taken, ap (λ (z : Sizes). z .half) e) in
-    refused-8 (s .args .t1) (s .args .samples .now) (s .args .metrics .now) (s .args .decisions .now) given ((c .before .before .before .before .before .before .before .if2 .left)) (c .before .before .before .before .before .before .first-over .result) (c .before .before .before .before .before .before .first-over .ensures) (λ h. omega (arith, h, c .before .before .before .before .before .if3 .left)) h
+    record { fits = subst (λ (x : ℕ). s .args .t1 .n * x < 2 ^ 64) (sym (ap (λ (z : Sizes). z .words) e)) (omega (arith, decision-need-small (s .args .t1) given)) }
 
-mul-decision-need : tie.Need-mul-decision-need
-mul-decision-need c =
+returns-4 : tie.Need-returns-4
+returns-4 c =
     let s = c .before .before .before .before .before .before .before .before .before .before .before .before in
     let given = c .before .before .before .before .before .before .before .before .before .before .is-prepared .ensures .yes-is (not-false _ (c .before .before .before .before .before .before .before .before .before .if1 .left)) in
     let e = sizes-are (s .args .t1) given (c .before .before .before .sizes-of .result) (c .before .before .before .sizes-of .ensures) in
-    record { fits = subst (λ (x : ℕ). s .args .t1 .n * x < 2 ^ 64) (sym (ap (λ (z : Sizes). z .words) e)) (omega (arith, decision-need-small (s .args .t1) given)) }
+    let h : length (s .args .metrics .now) < metricNeed (s .args .t1) = omega (arith, c .if4 .taken, ap (λ (z : Sizes). z .half) e) in
+    refused-8 (s .args .t1) (s .args .samples .now) (s .args .metrics .now) (s .args .decisions .now) given ((c .before .before .before .before .before .before .before .before .if2 .left)) (c .before .before .before .before .before .before .before .first-over .result) (c .before .before .before .before .before .before .before .first-over .ensures) (λ h. omega (arith, h, c .before .before .before .before .before .before .if3 .left)) h
 
 returns-5 : tie.Need-returns-5
 returns-5 c =
     let s = c .before .before .before .before .before .before .before .before .before .before .before .before .before in
     let given = c .before .before .before .before .before .before .before .before .before .before .before .is-prepared .ensures .yes-is (not-false _ (c .before .before .before .before .before .before .before .before .before .before .if1 .left)) in
     let e = sizes-are (s .args .t1) given (c .before .before .before .before .sizes-of .result) (c .before .before .before .before .sizes-of .ensures) in
-    let m : metricNeed (s .args .t1) ≤ length (s .args .metrics .now) = omega (arith, c .before .before .if4 .left, ap (λ (z : Sizes). z .half) e) in
+    let m : metricNeed (s .args .t1) ≤ length (s .args .metrics .now) = omega (arith, c .before .if4 .left, ap (λ (z : Sizes). z .half) e) in
     let h : length (s .args .decisions .now) < decisionNeed (s .args .t1) = subst (λ (x : ℕ). length (s .args .decisions .now) < s .args .t1 .n * x) (ap (λ (z : Sizes). z .words) e) (c .if5 .taken) in
     refused-9 (s .args .t1) (s .args .samples .now) (s .args .metrics .now) (s .args .decisions .now) given ((c .before .before .before .before .before .before .before .before .before .if2 .left)) (c .before .before .before .before .before .before .before .before .first-over .result) (c .before .before .before .before .before .before .before .before .first-over .ensures) (λ h. omega (arith, h, c .before .before .before .before .before .before .before .if3 .left)) m h
 
@@ -82,13 +82,13 @@ search-requires c κs =
     let s = c .before .before .before .before .before .before .before .before .before .before .before .before .before .before .before .before .before in
     let given = c .before .before .before .before .before .before .before .before .before .before .before .before .before .before .before .is-prepared .ensures .yes-is (not-false _ (c .before .before .before .before .before .before .before .before .before .before .before .before .before .before .if1 .left)) in
     let e = sizes-are (s .args .t1) given (c .before .before .before .before .before .before .before .before .sizes-of .result) (c .before .before .before .before .before .before .before .before .sizes-of .ensures) in
-    let m : metricNeed (s .args .t1) ≤ length (s .args .metrics .now) = omega (arith, c .before .before .before .before .before .before .if4 .left, ap (λ (z : Sizes). z .half) e) in
+    let m : metricNeed (s .args .t1) ≤ length (s .args .metrics .now) = omega (arith, c .before .before .before .before .before .if4 .left, ap (λ (z : Sizes). z .half) e) in
     let d : decisionNeed (s .args .t1) ≤ length (s .args .decisions .now) = subst (λ (x : ℕ). s .args .t1 .n * x ≤ length (s .args .decisions .now)) (ap (λ (z : Sizes). z .words) e) (omega (arith, c .before .before .before .before .if5 .left)) in
     subst (λ (z : Sizes). SizesFit (s .args .t1 .rows) z × (RoomsFit z (s .args .samples .now) (s .args .metrics .now) (s .args .decisions .now) × (0 < z .words))) (sym e)
     (plate-sizes-fit (s .args .t1) given, (rooms-fit (s .args .t1) (s .args .samples .now) (s .args .metrics .now) (s .args .decisions .now) given ((c .before .before .before .before .before .before .before .before .before .before .before .before .before .if2 .left)) (c .before .before .before .before .before .before .before .before .before .before .before .before .first-over .result) (c .before .before .before .before .before .before .before .before .before .before .before .before .first-over .ensures) (λ h. omega (arith, h, c .before .before .before .before .before .before .before .before .before .before .before .if3 .left)) m d, omega arith))
 
 clear-metrics-requires : tie.Need-clear-metrics-requires
-clear-metrics-requires c κs = omega (arith, c .before .before .before .before .before .before .before .before .before .before .before .if4 .left, c .before .before .before .before .search .ensures .kept .metrics-size)
+clear-metrics-requires c κs = omega (arith, c .before .before .before .before .before .before .before .before .before .before .if4 .left, c .before .before .before .before .search .ensures .kept .metrics-size)
 
 clear-decisions-requires : tie.Need-clear-decisions-requires
 clear-decisions-requires c κs = omega (arith, c .before .before .before .before .before .before .before .before .before .before .before .before .if5 .left, c .before .before .before .before .before .before .before .search .ensures .kept .decisions-size)
@@ -96,7 +96,7 @@ clear-decisions-requires c κs = omega (arith, c .before .before .before .before
 same-length : tie.Need-same-length
 same-length c =
     let z = c .before .before .before .before .before .before .before .before .before .before .before .before .before .before .before .before .before .before .before .sizes-of .result in
-    let h : z .half + z .half ≤ length (c .before .before .before .before .before .before .before .before .before .before .search .last .1 .1 .1 .0) = omega (arith, c .before .before .before .before .before .before .before .before .before .before .before .before .before .before .before .before .before .if4 .left, c .before .before .before .before .before .before .before .before .before .before .search .ensures .kept .metrics-size) in
+    let h : z .half + z .half ≤ length (c .before .before .before .before .before .before .before .before .before .before .search .last .1 .1 .1 .0) = omega (arith, c .before .before .before .before .before .before .before .before .before .before .before .before .before .before .before .before .if4 .left, c .before .before .before .before .before .before .before .before .before .before .search .ensures .kept .metrics-size) in
     length-filled (pos 0) (c .before .before .before .before .before .before .before .before .before .before .search .last .1 .1 .1 .0) _ (z .half + z .half) (c .before .before .before .before .before .clear-metrics .ensures) h ∙ c .before .before .before .before .before .before .before .before .before .before .search .ensures .kept .metrics-size
 
 same-length-2 : tie.Need-same-length-2
@@ -111,7 +111,7 @@ returns-6 c =
     let s = c .before .before .before .before .before .before .before .before .before .before .before .before .before .before .before .before .before .before .before .before .before .before .before .before .before .before .before .before in
     let given = c .before .before .before .before .before .before .before .before .before .before .before .before .before .before .before .before .before .before .before .before .before .before .before .before .before .before .is-prepared .ensures .yes-is (not-false _ (c .before .before .before .before .before .before .before .before .before .before .before .before .before .before .before .before .before .before .before .before .before .before .before .before .before .if1 .left)) in
     let e = sizes-are (s .args .t1) given (c .before .before .before .before .before .before .before .before .before .before .before .before .before .before .before .before .before .before .before .sizes-of .result) (c .before .before .before .before .before .before .before .before .before .before .before .before .before .before .before .before .before .before .before .sizes-of .ensures) in
-    let m : metricNeed (s .args .t1) ≤ length (s .args .metrics .now) = omega (arith, c .before .before .before .before .before .before .before .before .before .before .before .before .before .before .before .before .before .if4 .left, ap (λ (z : Sizes). z .half) e) in
+    let m : metricNeed (s .args .t1) ≤ length (s .args .metrics .now) = omega (arith, c .before .before .before .before .before .before .before .before .before .before .before .before .before .before .before .before .if4 .left, ap (λ (z : Sizes). z .half) e) in
     let d : decisionNeed (s .args .t1) ≤ length (s .args .decisions .now) = subst (λ (x : ℕ). s .args .t1 .n * x ≤ length (s .args .decisions .now)) (ap (λ (z : Sizes). z .words) e) (omega (arith, c .before .before .before .before .before .before .before .before .before .before .before .before .before .before .before .if5 .left)) in
     decoded (s .args .t1) (s .args .samples .now) (s .args .metrics .now) (s .args .decisions .now) given ((c .before .before .before .before .before .before .before .before .before .before .before .before .before .before .before .before .before .before .before .before .before .before .before .before .if2 .left)) (c .before .before .before .before .before .before .before .before .before .before .before .before .before .before .before .before .before .before .before .before .before .before .before .first-over .result) (c .before .before .before .before .before .before .before .before .before .before .before .before .before .before .before .before .before .before .before .before .before .before .before .first-over .ensures) (λ h. omega (arith, h, c .before .before .before .before .before .before .before .before .before .before .before .before .before .before .before .before .before .before .before .before .before .before .if3 .left)) m d (c .before .before .before .before .before .before .before .before .before .before .search .last .1 .1 .1 .0) (c .before .before .before .before .before .before .before .before .before .before .search .last .1 .1 .1 .1 .0) (c .before .before .before .before .before .before .before .before .before .before .search .result)
     (subst (λ (z : Sizes). Searched (s .args .t1 .rows) z (s .args .samples .now) (s .args .metrics .now) (s .args .decisions .now) (c .before .before .before .before .before .before .before .before .before .before .search .last .1 .1 .1 .0) (c .before .before .before .before .before .before .before .before .before .before .search .last .1 .1 .1 .1 .0) (c .before .before .before .before .before .before .before .before .before .before .search .result)) e (c .before .before .before .before .before .before .before .before .before .before .search .ensures)) _ _
@@ -128,8 +128,8 @@ decode-spec =
     returns-3
     sizes-of-requires
     add-metric-need
-    returns-4
     mul-decision-need
+    returns-4
     returns-5
     search-requires
     clear-metrics-requires
