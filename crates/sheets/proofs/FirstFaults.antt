@@ -1,8 +1,7 @@
 -- The refusal of a bad line is the first fault of the sheet's lines: the lowest line, then the lowest number, then the lowest field.
 use Prim.Native.Nat.{ℕ, zero, suc, _+_}
-use lib.IntN.{ℤ}
 use lib.ListN.{length, drop}
-use mathlib.Core.Bool.{Bool, true, false, cond}
+use mathlib.Core.Bool.{Bool, true, false}
 use mathlib.Core.List.{List, [], _∷_}
 use mathlib.Core.Logic.{inl, inr}
 use mathlib.Core.Path.{_≡_, refl, sym, _∙_, ap, subst}
@@ -11,16 +10,11 @@ use Rattle.plates.specs.Refusals.{field, number, place}
 use Rattle.plates.specs.declared.Verdict.{Verdict}
 use Rattle.plates.specs.declared.Verdict.the-variants as J
 use Rattle.sheets.specs.Text.{fields}
-use Rattle.sheets.specs.Words.{wordOf}
-use Rattle.sheets.specs.Blocks.{BlockFound, block, noBlock, samplesOf, samplesFound, heardRest, blockBy, blockLine, listedIn, blockThen, blocksOf, isHeard, heardLine, heardFront}
-use Rattle.sheets.specs.Lines.{fieldOf, numberOf, blockIs, heardFields, lineBy, lineOf, front, rowThen, rowsOf, afterEnd, cameAfter, endBy, endingOf}
+use Rattle.sheets.specs.Blocks.{BlockFound, block, noBlock, samplesFound, blockLine, listedIn, blockThen, blocksOf, heardFront}
+use Rattle.sheets.specs.Lines.{fieldOf, numberOf, lineOf, front, rowThen, rowsOf, afterEnd, cameAfter, endBy, endingOf}
 use Rattle.sheets.specs.Sheet.{refusalOf, lineVerdict}
-use Rattle.sheets.specs.Faults.{BeforeAt, Part, onRows, onBlocks, onHeard, onNothing, after, firstWord, outOfTurn, WrongHere, WrongAt, FirstFault}
+use Rattle.sheets.specs.Faults.{BeforeAt, Part, onRows, onNothing, after, firstWord, WrongHere, WrongAt, FirstFault}
 use Rattle.sheets.specs.declared.Order.{Order}
-use Rattle.sheets.specs.declared.word.Word.{Word}
-use Rattle.sheets.specs.declared.word.Word.the-variants.{Cover, Row, Block, Heard, End, Other}
-use Rattle.sheets.specs.declared.block.Samples.{Samples}
-use Rattle.sheets.specs.declared.block.Samples.the-variants as S
 use Rattle.sheets.specs.declared.line.Came.{Came}
 use Rattle.sheets.specs.declared.line.Came.the-variants.{Nothing, Blocks, Heards}
 use Rattle.sheets.specs.declared.line.Fault.{Fault}
@@ -28,7 +22,8 @@ use Rattle.sheets.specs.declared.line.Fault.the-variants as F
 use Rattle.sheets.specs.declared.line.Line.{Line}
 use Rattle.sheets.specs.declared.line.Line.the-variants as L
 use Rattle.sheets.specs.declared.body.Ending.{Ending}
-use Rattle.sheets.proofs.LineFaults.{LineJudged, Received, Right, Told, line-judged, not-both, partOf, turn-told}
+use Rattle.sheets.proofs.LineFaults.{LineJudged, Right, Told, line-judged, partOf, turn-told}
+use Rattle.sheets.proofs.BlocksAlike.{Alike, Sought, alike, never-block, no-row, part-past, past, past-sought}
 use Rattle.sheets.proofs.Replies.{number-of-line}
 
 module _ (n : ℕ) where
@@ -126,105 +121,6 @@ module _ (n : ℕ) where
 
     -- ---- blocks and heard lines
 
-    -- what has come after one of them
-    abbrev past : Bool → Came
-    past false = Blocks
-    past true = Heards
-
-    -- its word
-    abbrev wordFor : Bool → Word
-    wordFor false = Block
-    wordFor true = Heard
-
-    part-past : (heard : Bool) → after (wordFor heard) ≡ partOf (past heard)
-    part-past false = refl
-    part-past true = refl
-
-    -- a row does not come after one of them
-    no-row-by : (heard : Bool) (word : Word) (fs : List (List ℕ)) (w : ℕ) → lineBy n order (past heard) word fs ≡ L.Row w → word ≡ Row → ⊥
-    no-row-by false word fs w e q = let z : L.Bad F.Turn ≡ L.Row w = rw q at e in let y : _≡_ {A = ℕ} 0 1 = cc in omega arith
-    no-row-by true word fs w e q = let z : L.Bad F.Turn ≡ L.Row w = rw q at e in let y : _≡_ {A = ℕ} 0 1 = cc in omega arith
-
-    no-row : (heard : Bool) (ls : List (List ℕ)) (w : ℕ) → front n order (past heard) ls ≡ L.Row w → ⊥
-    no-row heard [] w e = let z : _≡_ {A = ℕ} 0 1 = cc in omega arith
-    no-row heard (l ∷ []) w e = let z : _≡_ {A = ℕ} 0 1 = cc in omega arith
-    no-row heard (l ∷ m ∷ ms) w e = by (fields l) e (subst (LineJudged n (partOf (past heard)) (fields l)) e (line-judged n order (past heard) (fields l)) .1)
-      where
-        by : (fs : List (List ℕ)) → lineOf n order (past heard) fs ≡ L.Row w → firstWord fs ≡ Row → ⊥
-        by [] g q = let z : _≡_ {A = ℕ} 0 1 = cc in omega arith
-        by (v ∷ fs) g q = no-row-by heard (wordOf v) fs w g q
-
-    -- the lines that are sought go by what has come, or by the first of them
-    abbrev Sought : Came → Bool → List (List ℕ) → Type 0
-    Sought Nothing heard fs = heard ≡ heardLine fs
-    Sought Blocks heard fs = heard ≡ false
-    Sought Heards heard fs = heard ≡ true
-
-    past-sought : (heard : Bool) (fs : List (List ℕ)) → Sought (past heard) heard fs
-    past-sought false fs = refl
-    past-sought true fs = refl
-
-    -- a block or heard line is one by both definitions
-    abbrev Alike : Bool → Word → List ℤ → BlockFound → Line → Type 0
-    Alike heard word vs (block us) x = (us ≡ vs) × (x ≡ L.Block) × (word ≡ wordFor heard)
-    Alike heard word vs noBlock x = x ≡ L.Block → ⊥
-
-    -- a word that is neither
-    abbrev isOther : Word → ℕ
-    isOther Cover = 1
-    isOther Row = 1
-    isOther Block = 0
-    isOther Heard = 0
-    isOther End = 1
-    isOther Other = 1
-
-    -- a line of another word is no block
-    other-word : (came : Came) (w : List ℕ) (fs : List (List ℕ)) (word : Word) → wordOf w ≡ word → isOther word ≡ 1 → lineBy n order came word fs ≡ L.Block → ⊥
-    other-word came w fs word e o g =
-        let f : lineOf n order came (w ∷ fs) ≡ L.Block = rw e g in
-        by (subst (LineJudged n (partOf came) (w ∷ fs)) f (line-judged n order came (w ∷ fs)) .1)
-      where
-        by : Received (wordOf w) → ⊥
-        by (inl b) = let z : isOther word ≡ 0 = ap isOther (sym e ∙ b) in omega arith
-        by (inr b) = let z : isOther word ≡ 0 = ap isOther (sym e ∙ b) in omega arith
-
-    never-block : (fault : Fault) → L.Bad fault ≡ L.Block → ⊥
-    never-block fault e = let z : _≡_ {A = ℕ} 0 1 = cc in omega arith
-
-    samples-alike : (heard : Bool) (vs : List ℤ) (r : Samples) → Alike heard (wordFor heard) vs (samplesFound r vs) (blockIs r)
-    samples-alike heard vs (S.Count k) = (refl, refl, refl)
-    samples-alike heard vs (S.Bad f) = never-block (F.Value f)
-
-    heard-alike : (vs : List ℤ) (fs : List (List ℕ)) → Alike true Heard vs (samplesFound (heardRest fs) vs) (heardFields fs)
-    heard-alike vs [] = never-block (F.Count 2)
-    heard-alike vs (f ∷ fs) = samples-alike true vs (heardRest (f ∷ fs))
-
-    -- by the word, which decides where nothing has come
-    by-word : (came : Came) (heard : Bool) (w : List ℕ) (fs : List (List ℕ)) (vs : List ℤ) (word : Word) → wordOf w ≡ word → Sought came heard (w ∷ fs)
-        → Alike heard word vs (samplesFound (blockBy heard word fs) vs) (lineBy n order came word fs)
-    by-word came heard w fs vs Cover e k = other-word came w fs Cover e refl
-    by-word came heard w fs vs Row e k = other-word came w fs Row e refl
-    by-word Nothing false w fs vs Block e k = samples-alike false vs (samplesOf 2 0 fs)
-    by-word Nothing true w fs vs Block e k = absurd (not-both (rw e at (sym k)) refl)
-    by-word Blocks false w fs vs Block e k = samples-alike false vs (samplesOf 2 0 fs)
-    by-word Blocks true w fs vs Block e k = absurd (not-both refl k)
-    by-word Heards false w fs vs Block e k = absurd (not-both refl (sym k))
-    by-word Heards true w fs vs Block e k = never-block F.Turn
-    by-word Nothing false w fs vs Heard e k = absurd (not-both refl (rw e at (sym k)))
-    by-word Nothing true w fs vs Heard e k = heard-alike vs fs
-    by-word Blocks false w fs vs Heard e k = never-block F.Turn
-    by-word Blocks true w fs vs Heard e k = absurd (not-both refl k)
-    by-word Heards false w fs vs Heard e k = absurd (not-both refl (sym k))
-    by-word Heards true w fs vs Heard e k = heard-alike vs fs
-    by-word came heard w fs vs End e k = other-word came w fs End e refl
-    by-word came heard w fs vs Other e k = other-word came w fs Other e refl
-
-    -- by its word
-    alike : (came : Came) (heard : Bool) (fs : List (List ℕ)) (vs : List ℤ) → Sought came heard fs
-        → Alike heard (firstWord fs) vs (samplesFound (blockLine heard fs) vs) (lineOf n order came fs)
-    alike came heard [] vs k = never-block F.Turn
-    alike came heard (w ∷ fs) vs k = by-word came heard w fs vs (wordOf w) refl k
-
     -- what has come after so many more
     abbrev cameThen : Came → Bool → ℕ → Came
     cameThen came heard zero = came
@@ -259,8 +155,8 @@ module _ (n : ℕ) where
     blocks-judged came heard [] line k r = none-judged came [] line r (never-block F.Missing)
     blocks-judged came heard (l ∷ []) line k r = none-judged came (l ∷ []) line r (never-block F.Missing)
     blocks-judged came heard (l ∷ m ∷ ms) line k r =
-        by (blocks-judged (past heard) heard (m ∷ ms) (line + 1) (past-first heard (m ∷ ms)) (no-row heard (m ∷ ms)))
-        (samplesFound (blockLine heard (fields l)) (listedIn heard (fields l))) (alike came heard (fields l) (listedIn heard (fields l)) k)
+        by (blocks-judged (past heard) heard (m ∷ ms) (line + 1) (past-first heard (m ∷ ms)) (no-row n order heard (m ∷ ms)))
+        (samplesFound (blockLine heard (fields l)) (listedIn heard (fields l))) (alike n order came heard (fields l) (listedIn heard (fields l)) k)
       where
         by : LinesJudged (partOf (past heard)) (m ∷ ms) (line + 1) (lineVerdict (length (blocksOf heard (m ∷ ms)) + (line + 1)) (blocksEnd (past heard) heard (m ∷ ms)))
             → (found : BlockFound) → Alike heard (firstWord (fields l)) (listedIn heard (fields l)) found (lineOf n order came (fields l))

@@ -24,6 +24,7 @@ pub mod Positions
 pub mod Worked
 pub mod Replies
 pub mod LineFaults
+pub mod BlocksAlike
 pub mod FirstFaults
 pub mod SheetFaults
 pub mod TurnedLists

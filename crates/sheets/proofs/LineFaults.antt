@@ -1,5 +1,5 @@
 -- The fault of one line: it is the first of all that is wrong with the line, and where there is none nothing is.
-use Prim.Native.Nat.{ℕ, zero, suc, _+_, _<_, _≤_}
+use Prim.Native.Nat.{ℕ, suc, _+_, _<_, _≤_}
 use borrow.Author.Tests.{le-ltb, lt-ltb, ne-eqb}
 use lib.Dec.{eqb}
 use lib.ListN.{length, getD}
@@ -13,7 +13,7 @@ use Rattle.sheets.specs.Words.{wordOf}
 use Rattle.sheets.specs.Numbers.{counterOf, isNumber, numberOf, sampleOf}
 use Rattle.sheets.specs.Rows.{bitsOnly, wordFrom}
 use Rattle.sheets.specs.Turning.{inOrder}
-use Rattle.sheets.specs.Blocks.{isSample, samplesOf, heardRest}
+use Rattle.sheets.specs.Blocks.{isSample, samplesOf}
 use Rattle.sheets.specs.Covers.{kindOf, orderOf, coverIs, coverFields, coverRest, coverBy, coverOf}
 use Rattle.sheets.specs.Lines.{fieldOf, rowIs, rowRest, blockIs, heardFields, endRest, lineBy, lineOf}
 use Rattle.sheets.specs.Lines as lines
@@ -24,7 +24,6 @@ use Rattle.sheets.specs.declared.number.Number.the-variants as N
 use Rattle.sheets.specs.declared.word.Word.{Word}
 use Rattle.sheets.specs.declared.word.Word.the-variants.{Cover, Row, Block, Heard, End, Other}
 use Rattle.sheets.specs.declared.row.Row.the-variants as R
-use Rattle.sheets.specs.declared.block.Samples.{Samples}
 use Rattle.sheets.specs.declared.block.Samples.the-variants as S
 use Rattle.sheets.specs.declared.line.Came.{Came}
 use Rattle.sheets.specs.declared.line.Came.the-variants.{Nothing, Blocks, Heards}
@@ -49,6 +48,23 @@ pub record Told (n : ℕ) (part : Part) (fs : List (List ℕ)) (number at : ℕ)
 -- nothing is wrong with it
 abbrev pub Right : ℕ → Part → List (List ℕ) → Type 0
 Right n part fs = (m b : ℕ) → Wrong n part fs m b → ⊥
+
+-- the fields before this one are of their form
+pub record GoodBefore (n : ℕ) (word : Word) (fs : List (List ℕ)) (at : ℕ) : Type 0 where
+  pub good : (b : ℕ) → 1 ≤ b → b < at → goodField n word b (fieldAt fs b) ≡ true
+
+module _ {n : ℕ} {word : Word} {fs : List (List ℕ)} where
+  -- there is none before the first
+  pub none-before : GoodBefore n word fs 1
+  none-before = record { good = λ b l k. absurd (omega arith) }
+
+  -- one field more
+  pub good-on : {at : ℕ} → GoodBefore n word fs at → goodField n word at (fieldAt fs at) ≡ true → GoodBefore n word fs (suc at)
+  good-on {at} before here = record { good = λ b l k. by b l k (decLt b at) }
+    where
+      by : (b : ℕ) → 1 ≤ b → b < suc at → Dec (b < at) → goodField n word b (fieldAt fs b) ≡ true
+      by b l k (yes h) = before .good b l h
+      by b l k (no h) = let e : b ≡ at = omega arith in rw e here
 
 -- the number of a field that is not of its form
 form-low : (word : Word) → 19 ≤ formNumber word
@@ -99,12 +115,12 @@ module _ (n : ℕ) (part : Part) (fs : List (List ℕ)) (word : Word) (e : first
       counted c = c (rw e d)
 
       -- the first field that is not of its form
-      pub form-told : (at : ℕ) → 1 ≤ at → at ≤ length fs → goodField n word at (fieldAt fs at) ≡ false
-          → ((b : ℕ) → 1 ≤ b → b < at → goodField n word b (fieldAt fs b) ≡ true) → Told n part fs (formNumber word) at
-      form-told at low high bad earlier = record { is = malformed low high (rw e bad) (rw e refl); first = go }
+      pub form-told : (at : ℕ) → 1 ≤ at → at ≤ length fs → goodField n word at (fieldAt fs at) ≡ false → GoodBefore n word fs at
+          → Told n part fs (formNumber word) at
+      form-told at low high bad before = record { is = malformed low high (rw e bad) (rw e refl); first = go }
         where
           least : (b : ℕ) → 1 ≤ b → goodField n word b (fieldAt fs b) ≡ false → Dec (b < at) → at ≤ b
-          least b l h (yes k) = absurd (not-both (earlier b l k) h)
+          least b l h (yes k) = absurd (not-both (before .good b l k) h)
           least b l h (no k) = omega arith
 
           go : (m b : ℕ) → Wrong n part fs m b → Before (formNumber word) at m b
@@ -113,10 +129,10 @@ module _ (n : ℕ) (part : Part) (fs : List (List ℕ)) (word : Word) (e : first
           go m b (malformed x y h i) = inr (sym (rw e at i), least b x (rw e at h) (decLt b at))
 
       -- nothing is wrong
-      pub all-right : ((b : ℕ) → 1 ≤ b → b ≤ length fs → goodField n word b (fieldAt fs b) ≡ true) → Right n part fs
-      all-right good m b (outOfTurn h i j) = in-turn h
-      all-right good m b (miscounted h i j) = counted h
-      all-right good m b (malformed x y h i) = not-both (good b x y) (rw e at h)
+      pub all-right : GoodBefore n word fs (suc (length fs)) → Right n part fs
+      all-right before m b (outOfTurn h i j) = in-turn h
+      all-right before m b (miscounted h i j) = counted h
+      all-right before m b (malformed x y h i) = not-both (before .good b x (omega arith)) (rw e at h)
 
 -- ---- a line after the cover
 
@@ -125,6 +141,12 @@ abbrev pub partOf : Came → Part
 partOf Nothing = onRows
 partOf Blocks = onBlocks
 partOf Heards = onHeard
+
+-- a cover and another word are always out of their turn, and end is always in its turn
+whatever-came : (came : Came) → (inTurn (partOf came) Cover ≡ false) × (inTurn (partOf came) Other ≡ false) × (inTurn (partOf came) End ≡ true)
+whatever-came Nothing = (refl, refl, refl)
+whatever-came Blocks = (refl, refl, refl)
+whatever-came Heards = (refl, refl, refl)
 
 -- the word of a line that is a block or heard line
 abbrev pub Received : Word → Type 0
@@ -137,33 +159,29 @@ LineJudged n part fs L.Block = Right n part fs × Received (firstWord fs)
 LineJudged n part fs L.End = Right n part fs × (firstWord fs ≡ End)
 LineJudged n part fs (L.Bad fault) = Told n part fs (lines.numberOf fault) (fieldOf fault)
 
--- samples: all are of their form, or the first that is not
-abbrev Scanned : ℕ → ℕ → List (List ℕ) → Samples → Type 0
-Scanned lead k fs (S.Count c) = (i : ℕ) → i < length fs → isSample (sampleOf (getD fs i [])) ≡ true
-Scanned lead k fs (S.Bad at) = (i : ℕ) × (at ≡ i + k + lead) × (i < length fs) × (isSample (sampleOf (getD fs i [])) ≡ false)
-    × ((j : ℕ) → j < i → isSample (sampleOf (getD fs j [])) ≡ true)
+-- a line in its turn, with the number of fields that it should have, and samples from field `lead` on
+module _ (n : ℕ) (part : Part) (gs : List (List ℕ)) (word : Word) (e : firstWord gs ≡ word) (t : inTurn part word ≡ true) (d : length gs ≡ due word (length gs))
+    (v : formNumber word ≡ 19) (received : Received (firstWord gs)) (lead : ℕ) (low : 1 ≤ lead) where
+  -- k samples and the fields before them being of their form
+  samples-judged : (k : ℕ) (fs : List (List ℕ)) → suc (length gs) ≡ length fs + (k + lead)
+      → ((i : ℕ) → goodField n word (i + (k + lead)) (fieldAt gs (i + (k + lead))) ≡ isSample (sampleOf (getD fs i [])))
+      → GoodBefore n word gs (k + lead) → LineJudged n part gs (blockIs (samplesOf lead k fs))
+  samples-judged k [] s field before = let z : k + lead ≡ suc (length gs) = omega arith in (all-right n part gs word e t d (rw z at before), received)
+  samples-judged k (f ∷ fs) s field before = by (λ g. samples-judged (k + 1) fs (omega arith) next (more g)) (isSample (sampleOf f)) refl
+    where
+      here : goodField n word (k + lead) (fieldAt gs (k + lead)) ≡ isSample (sampleOf f)
+      here = let z : 0 + (k + lead) ≡ k + lead = omega arith in rw z at (field 0)
 
--- the fields after block, so many samples standing before them
-samples-scanned : (lead k : ℕ) (fs : List (List ℕ)) → Scanned lead k fs (samplesOf lead k fs)
-samples-scanned lead k [] = λ i h. absurd (omega arith)
-samples-scanned lead k (f ∷ fs) = by (samples-scanned lead (k + 1) fs) (isSample (sampleOf f)) refl
-  where
-    on : isSample (sampleOf f) ≡ true → (r : Samples) → Scanned lead (k + 1) fs r → Scanned lead k (f ∷ fs) r
-    on e (S.Count c) h = all
-      where
-        all : (i : ℕ) → i < suc (length fs) → isSample (sampleOf (getD (f ∷ fs) i [])) ≡ true
-        all zero l = e
-        all (suc i) l = h i (omega arith)
-    on e (S.Bad at) h = (suc (h .0), omega (arith, h .1), omega (arith, h .2), h .3, before)
-      where
-        before : (j : ℕ) → j < suc (h .0) → isSample (sampleOf (getD (f ∷ fs) j [])) ≡ true
-        before zero l = e
-        before (suc j) l = h .4 j (omega arith)
+      next : (i : ℕ) → goodField n word (i + (k + 1 + lead)) (fieldAt gs (i + (k + 1 + lead))) ≡ isSample (sampleOf (getD fs i []))
+      next i = let z : suc i + (k + lead) ≡ i + (k + 1 + lead) = omega arith in rw z at (field (suc i))
 
-    by : Scanned lead (k + 1) fs (samplesOf lead (k + 1) fs) → (t : Bool) → isSample (sampleOf f) ≡ t
-        → Scanned lead k (f ∷ fs) (cond t (samplesOf lead (k + 1) fs) (S.Bad (k + lead)))
-    by h true e = on e (samplesOf lead (k + 1) fs) h
-    by h false e = (0, omega arith, omega arith, e, λ j l. absurd (omega arith))
+      more : isSample (sampleOf f) ≡ true → GoodBefore n word gs (k + 1 + lead)
+      more g = let z : suc (k + lead) ≡ k + 1 + lead = omega arith in rw z at (good-on before (here ∙ g))
+
+      by : (isSample (sampleOf f) ≡ true → LineJudged n part gs (blockIs (samplesOf lead (k + 1) fs))) → (u : Bool) → isSample (sampleOf f) ≡ u
+          → LineJudged n part gs (blockIs (cond u (samplesOf lead (k + 1) fs) (S.Bad (k + lead))))
+      by on true g = on g
+      by on false g = rw (sym v) (form-told n part gs word e t d (k + lead) (omega arith) (omega arith) (here ∙ g) before)
 
 module _ (n : ℕ) (order : Order) (w : List ℕ) where
   -- one field after row
@@ -173,98 +191,43 @@ module _ (n : ℕ) (order : Order) (w : List ℕ) where
   row-judged e (f ∷ []) = by (eqb (length f) n && bitsOnly f) refl
     where
       by : (t : Bool) → (eqb (length f) n && bitsOnly f) ≡ t → LineJudged n onRows (w ∷ f ∷ []) (rowIs (cond t (R.Is (wordFrom (inOrder order f))) R.Bad))
-      by true h = (all-right n onRows (w ∷ f ∷ []) Row e refl refl good, e)
-        where
-          good : (b : ℕ) → 1 ≤ b → b ≤ 2 → goodField n Row b (fieldAt (w ∷ f ∷ []) b) ≡ true
-          good zero l k = absurd (omega arith)
-          good (suc zero) l k = refl
-          good (suc (suc zero)) l k = h
-          good (suc (suc (suc b))) l k = absurd (omega arith)
-      by false h = form-told n onRows (w ∷ f ∷ []) Row e refl refl 2 (omega arith) (omega arith) h earlier
-        where
-          earlier : (b : ℕ) → 1 ≤ b → b < 2 → goodField n Row b (fieldAt (w ∷ f ∷ []) b) ≡ true
-          earlier zero l k = absurd (omega arith)
-          earlier (suc zero) l k = refl
-          earlier (suc (suc b)) l k = absurd (omega arith)
-
-  -- a field after block
-  sample-field : (i : ℕ) (f : List ℕ) → goodField n Block (suc (suc i)) f ≡ isSample (sampleOf f)
-  sample-field i f = rw (ne-eqb (suc (suc i)) 1 (λ q. omega arith))
+      by true h = (all-right n onRows (w ∷ f ∷ []) Row e refl refl (good-on (good-on none-before refl) h), e)
+      by false h = form-told n onRows (w ∷ f ∷ []) Row e refl refl 2 (omega arith) (omega arith) h (good-on none-before refl)
 
   -- any number of samples after block
   block-judged : (part : Part) → inTurn part Block ≡ true → wordOf w ≡ Block → (fs : List (List ℕ)) → LineJudged n part (w ∷ fs) (blockIs (samplesOf 2 0 fs))
-  block-judged part turn e fs = by (samplesOf 2 0 fs) (samples-scanned 2 0 fs)
+  block-judged part turn e fs =
+      samples-judged n part (w ∷ fs) Block e turn refl refl (inl e) 2 (omega arith) 0 fs (omega arith) field (good-on none-before refl)
     where
-      by : (r : Samples) → Scanned 2 0 fs r → LineJudged n part (w ∷ fs) (blockIs r)
-      by (S.Count c) h = (all-right n part (w ∷ fs) Block e turn refl good, inl e)
-        where
-          good : (b : ℕ) → 1 ≤ b → b ≤ suc (length fs) → goodField n Block b (fieldAt (w ∷ fs) b) ≡ true
-          good zero l k = absurd (omega arith)
-          good (suc zero) l k = refl
-          good (suc (suc i)) l k = sample-field i (getD fs i []) ∙ h i (omega arith)
-      by (S.Bad at) h =
-          let i = h .0 in
-          let q : at ≡ suc (suc i) = omega (arith, h .1) in
-          rw q (form-told n part (w ∷ fs) Block e turn refl (suc (suc i)) (omega arith) (omega (arith, h .2)) (sample-field i (getD fs i []) ∙ h .3) earlier)
-        where
-          earlier : (b : ℕ) → 1 ≤ b → b < suc (suc (h .0)) → goodField n Block b (fieldAt (w ∷ fs) b) ≡ true
-          earlier zero l k = absurd (omega arith)
-          earlier (suc zero) l k = refl
-          earlier (suc (suc j)) l k = sample-field j (getD fs j []) ∙ h .4 j (omega arith)
-
-  -- a field after the counter
-  heard-field : (i : ℕ) (f : List ℕ) → goodField n Heard (suc (suc (suc i))) f ≡ isSample (sampleOf f)
-  heard-field i f = rw (ne-eqb (suc (suc (suc i))) 1 (λ q. omega arith), ne-eqb (suc (suc (suc i))) 2 (λ q. omega arith))
-
-  -- a heard line has as many fields as it should from two on
-  heard-due : (k : ℕ) → suc (suc k) ≡ due Heard (suc (suc k))
-  heard-due k = rw (le-ltb (suc (suc k)) 2 (omega arith))
+      field : (i : ℕ) → goodField n Block (i + (0 + 2)) (fieldAt (w ∷ fs) (i + (0 + 2))) ≡ isSample (sampleOf (getD fs i []))
+      field i = let z : i + (0 + 2) ≡ suc (suc i) = omega arith in rw (z, ne-eqb (suc (suc i)) 1 (λ q. omega arith))
 
   -- a counter and any number of samples after heard
   heard-judged : (part : Part) → inTurn part Heard ≡ true → wordOf w ≡ Heard → (fs : List (List ℕ)) → LineJudged n part (w ∷ fs) (heardFields fs)
   heard-judged part turn e [] = few-told n part (w ∷ []) Heard e turn (omega arith)
-  heard-judged part turn e (f ∷ fs) = counter (isNumber (counterOf f)) refl
+  heard-judged part turn e (f ∷ fs) = by (isNumber (counterOf f)) refl
     where
-      by : isNumber (counterOf f) ≡ true → (r : Samples) → Scanned 3 0 fs r → LineJudged n part (w ∷ f ∷ fs) (blockIs r)
-      by g (S.Count c) h = (all-right n part (w ∷ f ∷ fs) Heard e turn (heard-due (length fs)) good, inr e)
-        where
-          good : (b : ℕ) → 1 ≤ b → b ≤ suc (suc (length fs)) → goodField n Heard b (fieldAt (w ∷ f ∷ fs) b) ≡ true
-          good zero l k = absurd (omega arith)
-          good (suc zero) l k = refl
-          good (suc (suc zero)) l k = g
-          good (suc (suc (suc i))) l k = heard-field i (getD fs i []) ∙ h i (omega arith)
-      by g (S.Bad at) h =
-          let i = h .0 in
-          let q : at ≡ suc (suc (suc i)) = omega (arith, h .1) in
-          rw q
-          (form-told n part (w ∷ f ∷ fs) Heard e turn (heard-due (length fs)) (suc (suc (suc i))) (omega arith) (omega (arith, h .2))
-          (heard-field i (getD fs i []) ∙ h .3) earlier)
-        where
-          earlier : (b : ℕ) → 1 ≤ b → b < suc (suc (suc (h .0))) → goodField n Heard b (fieldAt (w ∷ f ∷ fs) b) ≡ true
-          earlier zero l k = absurd (omega arith)
-          earlier (suc zero) l k = refl
-          earlier (suc (suc zero)) l k = g
-          earlier (suc (suc (suc j))) l k = heard-field j (getD fs j []) ∙ h .4 j (omega arith)
+      counted : suc (suc (length fs)) ≡ due Heard (suc (suc (length fs)))
+      counted = rw (le-ltb (suc (suc (length fs))) 2 (omega arith))
 
-      before : (b : ℕ) → 1 ≤ b → b < 2 → goodField n Heard b (fieldAt (w ∷ f ∷ fs) b) ≡ true
-      before zero l k = absurd (omega arith)
-      before (suc zero) l k = refl
-      before (suc (suc b)) l k = absurd (omega arith)
+      field : (i : ℕ) → goodField n Heard (i + (0 + 3)) (fieldAt (w ∷ f ∷ fs) (i + (0 + 3))) ≡ isSample (sampleOf (getD fs i []))
+      field i =
+          let z : i + (0 + 3) ≡ suc (suc (suc i)) = omega arith in
+          rw (z, ne-eqb (suc (suc (suc i))) 1 (λ q. omega arith), ne-eqb (suc (suc (suc i))) 2 (λ q. omega arith))
 
-      counter : (t : Bool) → isNumber (counterOf f) ≡ t → LineJudged n part (w ∷ f ∷ fs) (blockIs (cond t (samplesOf 3 0 fs) (S.Bad 2)))
-      counter true g = by g (samplesOf 3 0 fs) (samples-scanned 3 0 fs)
-      counter false g = form-told n part (w ∷ f ∷ fs) Heard e turn (heard-due (length fs)) 2 (omega arith) (omega arith) g before
+      by : (t : Bool) → isNumber (counterOf f) ≡ t → LineJudged n part (w ∷ f ∷ fs) (blockIs (cond t (samplesOf 3 0 fs) (S.Bad 2)))
+      by true g =
+          samples-judged n part (w ∷ f ∷ fs) Heard e turn counted refl (inr e) 3 (omega arith) 0 fs (omega arith) field (good-on (good-on none-before refl) g)
+      by false g = form-told n part (w ∷ f ∷ fs) Heard e turn counted 2 (omega arith) (omega arith) g (good-on none-before refl)
 
   -- nothing after end
   end-judged : (part : Part) → inTurn part End ≡ true → wordOf w ≡ End → (fs : List (List ℕ)) → LineJudged n part (w ∷ fs) (endRest fs)
-  end-judged part turn e [] = (all-right n part (w ∷ []) End e turn refl (λ b l k. refl), e)
+  end-judged part turn e [] = (all-right n part (w ∷ []) End e turn refl (good-on none-before refl), e)
   end-judged part turn e (f ∷ fs) = many-told n part (w ∷ f ∷ fs) End e turn (omega arith)
 
   -- the word decides
   by-word : (came : Came) (word : Word) → wordOf w ≡ word → (fs : List (List ℕ)) → LineJudged n (partOf came) (w ∷ fs) (lineBy n order came word fs)
-  by-word Nothing Cover e fs = turn-told n onRows (w ∷ fs) Cover e refl
-  by-word Blocks Cover e fs = turn-told n onBlocks (w ∷ fs) Cover e refl
-  by-word Heards Cover e fs = turn-told n onHeard (w ∷ fs) Cover e refl
+  by-word came Cover e fs = turn-told n (partOf came) (w ∷ fs) Cover e (whatever-came came .0)
   by-word Nothing Row e fs = row-judged e fs
   by-word Blocks Row e fs = turn-told n onBlocks (w ∷ fs) Row e refl
   by-word Heards Row e fs = turn-told n onHeard (w ∷ fs) Row e refl
@@ -274,18 +237,12 @@ module _ (n : ℕ) (order : Order) (w : List ℕ) where
   by-word Nothing Heard e fs = heard-judged onRows refl e fs
   by-word Blocks Heard e fs = turn-told n onBlocks (w ∷ fs) Heard e refl
   by-word Heards Heard e fs = heard-judged onHeard refl e fs
-  by-word Nothing End e fs = end-judged onRows refl e fs
-  by-word Blocks End e fs = end-judged onBlocks refl e fs
-  by-word Heards End e fs = end-judged onHeard refl e fs
-  by-word Nothing Other e fs = turn-told n onRows (w ∷ fs) Other e refl
-  by-word Blocks Other e fs = turn-told n onBlocks (w ∷ fs) Other e refl
-  by-word Heards Other e fs = turn-told n onHeard (w ∷ fs) Other e refl
+  by-word came End e fs = end-judged (partOf came) (whatever-came came .2) e fs
+  by-word came Other e fs = turn-told n (partOf came) (w ∷ fs) Other e (whatever-came came .1)
 
 -- each line after the cover
 pub line-judged : (n : ℕ) (order : Order) (came : Came) (fs : List (List ℕ)) → LineJudged n (partOf came) fs (lineOf n order came fs)
-line-judged n order Nothing [] = turn-told n onRows [] Other refl refl
-line-judged n order Blocks [] = turn-told n onBlocks [] Other refl refl
-line-judged n order Heards [] = turn-told n onHeard [] Other refl refl
+line-judged n order came [] = turn-told n (partOf came) [] Other refl (whatever-came came .1)
 line-judged n order came (w ∷ fs) = by-word n order w came (wordOf w) refl fs
 
 -- ---- the cover
@@ -301,31 +258,17 @@ module _ (n : ℕ) (w : List ℕ) (e : wordOf w ≡ Cover) where
   unfolding coverFields
   fields-judged f g h = by (numberOf 3 f) refl (kindOf g) refl (orderOf h) refl
     where
-      -- the fields before one are of their form
-      good : (at : ℕ) → (isNumber (numberOf 3 f) ≡ true) ⊎ (at ≤ 2) → (isKind (kindOf g) ≡ true) ⊎ (at ≤ 3) → (isOrder (orderOf h) ≡ true) ⊎ (at ≤ 4)
-          → (b : ℕ) → 1 ≤ b → b < at → b ≤ 4 → goodField n Cover b (fieldAt (w ∷ f ∷ g ∷ h ∷ []) b) ≡ true
-      good at x y z zero l k m = absurd (omega arith)
-      good at x y z (suc zero) l k m = refl
-      good at (inl x) y z (suc (suc zero)) l k m = x
-      good at (inr x) y z (suc (suc zero)) l k m = absurd (omega arith)
-      good at x (inl y) z (suc (suc (suc zero))) l k m = y
-      good at x (inr y) z (suc (suc (suc zero))) l k m = absurd (omega arith)
-      good at x y (inl z) (suc (suc (suc (suc zero)))) l k m = z
-      good at x y (inr z) (suc (suc (suc (suc zero)))) l k m = absurd (omega arith)
-      good at x y z (suc (suc (suc (suc (suc b))))) l k m = absurd (omega arith)
+      first : GoodBefore n Cover (w ∷ f ∷ g ∷ h ∷ []) 2
+      first = good-on none-before refl
 
       by : (i : Number) → numberOf 3 f ≡ i → (k : KindField) → kindOf g ≡ k → (o : OrderField) → orderOf h ≡ o → CoverJudged n (w ∷ f ∷ g ∷ h ∷ []) (coverIs i k o)
-      by N.Bad p k q o r =
-          form-told n onCover (w ∷ f ∷ g ∷ h ∷ []) Cover e refl refl 2 (omega arith) (omega arith) (ap isNumber p)
-          (λ b l m. good 2 (inr (omega arith)) (inr (omega arith)) (inr (omega arith)) b l m (omega arith))
+      by N.Bad p k q o r = form-told n onCover (w ∷ f ∷ g ∷ h ∷ []) Cover e refl refl 2 (omega arith) (omega arith) (ap isNumber p) first
       by (N.Is i) p K.Bad q o r =
-          form-told n onCover (w ∷ f ∷ g ∷ h ∷ []) Cover e refl refl 3 (omega arith) (omega arith) (ap isKind q)
-          (λ b l m. good 3 (inl (ap isNumber p)) (inr (omega arith)) (inr (omega arith)) b l m (omega arith))
+          form-told n onCover (w ∷ f ∷ g ∷ h ∷ []) Cover e refl refl 3 (omega arith) (omega arith) (ap isKind q) (good-on first (ap isNumber p))
       by (N.Is i) p (K.Is k) q O.Bad r =
-          form-told n onCover (w ∷ f ∷ g ∷ h ∷ []) Cover e refl refl 4 (omega arith) (omega arith) (ap isOrder r)
-          (λ b l m. good 4 (inl (ap isNumber p)) (inl (ap isKind q)) (inr (omega arith)) b l m (omega arith))
+          form-told n onCover (w ∷ f ∷ g ∷ h ∷ []) Cover e refl refl 4 (omega arith) (omega arith) (ap isOrder r) (good-on (good-on first (ap isNumber p)) (ap isKind q))
       by (N.Is i) p (K.Is k) q (O.Is o) r =
-          (all-right n onCover (w ∷ f ∷ g ∷ h ∷ []) Cover e refl refl (λ b l m. good 5 (inl (ap isNumber p)) (inl (ap isKind q)) (inl (ap isOrder r)) b l (omega arith) m), e)
+          (all-right n onCover (w ∷ f ∷ g ∷ h ∷ []) Cover e refl refl (good-on (good-on (good-on first (ap isNumber p)) (ap isKind q)) (ap isOrder r)), e)
 
   -- exactly three
   rest-judged : (fs : List (List ℕ)) → CoverJudged n (w ∷ fs) (coverRest fs)
