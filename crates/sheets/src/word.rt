@@ -36,50 +36,71 @@ fn three_letters(a: u8, b: u8, c: u8) -> Word
     }
 }
 
+// The word of five letters that begins with c.
+fn after_c(b: u8, c: u8, d: u8, e: u8) -> Word
+    ensures { λ r. ⌜ r ≡ wordOf (99 ∷ b ∷ c ∷ d ∷ e ∷ []) ⌝ }
+{
+    match b {
+        b'o' => match c {
+            b'v' => match d {
+                b'e' => match e {
+                    b'r' => Word::Cover,
+                    _ => Word::Other,
+                },
+                _ => Word::Other,
+            },
+            _ => Word::Other,
+        },
+        _ => Word::Other,
+    }
+}
+
+// The word of five letters that begins with b.
+fn after_b(b: u8, c: u8, d: u8, e: u8) -> Word
+    ensures { λ r. ⌜ r ≡ wordOf (98 ∷ b ∷ c ∷ d ∷ e ∷ []) ⌝ }
+{
+    match b {
+        b'l' => match c {
+            b'o' => match d {
+                b'c' => match e {
+                    b'k' => Word::Block,
+                    _ => Word::Other,
+                },
+                _ => Word::Other,
+            },
+            _ => Word::Other,
+        },
+        _ => Word::Other,
+    }
+}
+
+// The word of five letters that begins with h.
+fn after_h(b: u8, c: u8, d: u8, e: u8) -> Word
+    ensures { λ r. ⌜ r ≡ wordOf (104 ∷ b ∷ c ∷ d ∷ e ∷ []) ⌝ }
+{
+    match b {
+        b'e' => match c {
+            b'a' => match d {
+                b'r' => match e {
+                    b'd' => Word::Heard,
+                    _ => Word::Other,
+                },
+                _ => Word::Other,
+            },
+            _ => Word::Other,
+        },
+        _ => Word::Other,
+    }
+}
+
 // The word of five letters.
 fn five_letters(a: u8, b: u8, c: u8, d: u8, e: u8) -> Word
     ensures { λ r. ⌜ r ≡ wordOf (a ∷ b ∷ c ∷ d ∷ e ∷ []) ⌝ }
 {
     match a {
-        b'c' => match b {
-            b'o' => match c {
-                b'v' => match d {
-                    b'e' => match e {
-                        b'r' => Word::Cover,
-                        _ => Word::Other,
-                    },
-                    _ => Word::Other,
-                },
-                _ => Word::Other,
-            },
-            _ => Word::Other,
-        },
-        b'b' => match b {
-            b'l' => match c {
-                b'o' => match d {
-                    b'c' => match e {
-                        b'k' => Word::Block,
-                        _ => Word::Other,
-                    },
-                    _ => Word::Other,
-                },
-                _ => Word::Other,
-            },
-            _ => Word::Other,
-        },
-        b'h' => match b {
-            b'e' => match c {
-                b'a' => match d {
-                    b'r' => match e {
-                        b'd' => Word::Heard,
-                        _ => Word::Other,
-                    },
-                    _ => Word::Other,
-                },
-                _ => Word::Other,
-            },
-            _ => Word::Other,
-        },
+        b'c' => after_c(b, c, d, e),
+        b'b' => after_b(b, c, d, e),
+        b'h' => after_h(b, c, d, e),
         _ => Word::Other,
     }
 }
