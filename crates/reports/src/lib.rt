@@ -15,9 +15,11 @@ use sheets::SheetReply;
 use tally::Kept;
 use tally::Reference;
 
+mod blocks;
 mod listing;
 mod printing;
 mod stages;
+mod steps;
 mod tally;
 
 // What comes next in a report: the line of a refusal, the plate's, the profile's, those of the blocks or heard lines from a place on and
@@ -141,7 +143,7 @@ pub fn next_line(
         Stage::Refused(refusal) => stages::refusal_line(report, refusal, room),
         Stage::PlateLine => stages::plate_line(report, room),
         Stage::ProfileLine => stages::profile_line(report, room),
-        Stage::BlockLines => stages::block_line(report, input, metrics, decisions, room),
+        Stage::BlockLines => blocks::block_line(report, input, metrics, decisions, room),
         Stage::EndLine => stages::end_line(report, room),
         Stage::Done => Step {
             outcome: Outcome::Nothing,

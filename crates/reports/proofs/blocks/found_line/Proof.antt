@@ -1,8 +1,8 @@
--- `stages::found_line` meets its contract.
+-- `blocks::found_line` meets its contract.
 use mathlib.Core.Path.{refl}
 use borrow.Author.Needs.{needs}
-use Rattle.reports.proofs.stages.found_line.Statement.{statement}
-use Rattle.reports.proofs.stages.found_line.Tie as tie
+use Rattle.reports.proofs.blocks.found_line.Statement.{statement}
+use Rattle.reports.proofs.blocks.found_line.Tie as tie
 
 silent-step-requires : tie.Need-silent-step-requires
 silent-step-requires c κs = search needs

@@ -1,8 +1,8 @@
--- `stages::used` meets its contract.
+-- `blocks::used` meets its contract.
 use native.Mathlib.Omega.{arith}
 use borrow.Author.Tests.{lt-ltb, le-ltb}
-use Rattle.reports.proofs.stages.used.Statement.{statement}
-use Rattle.reports.proofs.stages.used.Tie as tie
+use Rattle.reports.proofs.blocks.used.Statement.{statement}
+use Rattle.reports.proofs.blocks.used.Tie as tie
 
 returns : tie.Need-returns
 returns c = (rw (lt-ltb 64 (c .before .args .count) (c .if1 .taken)), omega arith)

@@ -1,9 +1,9 @@
--- `reports::stages::is_of_block` meets its contract: each case by itself.
+-- `reports::blocks::is_of_block` meets its contract: each case by itself.
 use borrow.Author.Needs.{needs}
 use mathlib.Core.Path.{ap, sym}
 use Rattle.reports.specs.Steps.{ofBlock}
-use Rattle.reports.proofs.stages.is_of_block.Statement.{statement}
-use Rattle.reports.proofs.stages.is_of_block.Tie as tie
+use Rattle.reports.proofs.blocks.is_of_block.Statement.{statement}
+use Rattle.reports.proofs.blocks.is_of_block.Tie as tie
 
 enum-told : tie.Need-enum-told
 enum-told c = search needs

@@ -1,7 +1,7 @@
--- `stages::after_line` meets its contract.
+-- `steps::after_line` meets its contract.
 use borrow.Author.Needs.{needs}
-use Rattle.reports.proofs.stages.after_line.Statement.{statement}
-use Rattle.reports.proofs.stages.after_line.Tie as tie
+use Rattle.reports.proofs.steps.after_line.Statement.{statement}
+use Rattle.reports.proofs.steps.after_line.Tie as tie
 
 kept-after-requires : tie.Need-kept-after-requires
 kept-after-requires c κs = search needs

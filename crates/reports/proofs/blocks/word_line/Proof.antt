@@ -1,10 +1,10 @@
--- `stages::word_line` meets its contract.
+-- `blocks::word_line` meets its contract.
 use borrow.Author.Needs.{needs}
 use Rattle.reports.proofs.WrittenSteps.{answer-written}
 use mir.Facts.{toZ-ofZ}
 use mir.Syntax.{w32}
-use Rattle.reports.proofs.stages.word_line.Statement.{statement}
-use Rattle.reports.proofs.stages.word_line.Tie as tie
+use Rattle.reports.proofs.blocks.word_line.Statement.{statement}
+use Rattle.reports.proofs.blocks.word_line.Tie as tie
 
 printed-word-requires : tie.Need-printed-word-requires
 printed-word-requires c κs = search needs

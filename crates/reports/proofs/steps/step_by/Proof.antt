@@ -1,7 +1,7 @@
--- `stages::step_by` meets its contract.
+-- `steps::step_by` meets its contract.
 use borrow.Author.Needs.{needs}
-use Rattle.reports.proofs.stages.step_by.Statement.{statement}
-use Rattle.reports.proofs.stages.step_by.Tie as tie
+use Rattle.reports.proofs.steps.step_by.Statement.{statement}
+use Rattle.reports.proofs.steps.step_by.Tie as tie
 
 enum-known-written : tie.Need-enum-known-written
 enum-known-written c = search needs

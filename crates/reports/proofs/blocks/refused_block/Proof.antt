@@ -1,9 +1,9 @@
--- `stages::refused_block` meets its contract.
+-- `blocks::refused_block` meets its contract.
 use borrow.Author.Needs.{needs}
 use Rattle.reports.proofs.WrittenSteps.{not-printed, printed}
 use mathlib.Core.Path.{refl}
-use Rattle.reports.proofs.stages.refused_block.Statement.{statement}
-use Rattle.reports.proofs.stages.refused_block.Tie as tie
+use Rattle.reports.proofs.blocks.refused_block.Statement.{statement}
+use Rattle.reports.proofs.blocks.refused_block.Tie as tie
 
 is-of-block-requires : tie.Need-is-of-block-requires
 is-of-block-requires c κs = search needs

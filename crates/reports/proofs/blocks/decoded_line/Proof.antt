@@ -1,10 +1,10 @@
--- `stages::decoded_line` meets its contract.
+-- `blocks::decoded_line` meets its contract.
 use Rattle.reports.specs.Steps.{Printable}
 use Rattle.decoding.specs.declared.Decoded.{Decoded}
 use mathlib.Core.Path.{subst}
 use borrow.Author.Needs.{needs}
-use Rattle.reports.proofs.stages.decoded_line.Statement.{statement}
-use Rattle.reports.proofs.stages.decoded_line.Tie as tie
+use Rattle.reports.proofs.blocks.decoded_line.Statement.{statement}
+use Rattle.reports.proofs.blocks.decoded_line.Tie as tie
 
 enum-known-decoded : tie.Need-enum-known-decoded
 enum-known-decoded c = search needs

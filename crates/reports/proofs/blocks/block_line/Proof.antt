@@ -1,4 +1,4 @@
--- `stages::block_line` meets its contract.
+-- `blocks::block_line` meets its contract.
 use Rattle.sheets.specs.Blocks.{blockAt, counterAt, nextLine}
 use Rattle.reports.proofs.WrittenSteps.{only-writes}
 use Rattle.reports.proofs.BlockSteps.{block-step, end-step, places-size}
@@ -6,8 +6,8 @@ use mathlib.Core.Path.{_∙_, refl, sym}
 use lib.ListN.{replicate}
 use lib.IntN.{pos}
 use borrow.Author.Needs.{needs}
-use Rattle.reports.proofs.stages.block_line.Statement.{statement}
-use Rattle.reports.proofs.stages.block_line.Tie as tie
+use Rattle.reports.proofs.blocks.block_line.Statement.{statement}
+use Rattle.reports.proofs.blocks.block_line.Tie as tie
 
 read-block-requires : tie.Need-read-block-requires
 read-block-requires c κs = search needs

@@ -1,12 +1,12 @@
--- `stages::samples_line` meets its contract.
+-- `blocks::samples_line` meets its contract.
 use Rattle.reports.proofs.PrintedWords.{printable}
 use Rattle.reports.proofs.BlockSteps.{long-room, short-room}
 use native.Mathlib.Omega.{arith}
 use mathlib.Core.Path.{sym}
 use lib.Seq.{length-take-le}
 use borrow.Author.Needs.{needs}
-use Rattle.reports.proofs.stages.samples_line.Statement.{statement}
-use Rattle.reports.proofs.stages.samples_line.Tie as tie
+use Rattle.reports.proofs.blocks.samples_line.Statement.{statement}
+use Rattle.reports.proofs.blocks.samples_line.Tie as tie
 
 refused-step-requires : tie.Need-refused-step-requires
 refused-step-requires c κs = search needs

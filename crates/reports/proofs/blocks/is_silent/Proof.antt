@@ -1,9 +1,9 @@
--- `stages::is_silent` meets its contract.
+-- `blocks::is_silent` meets its contract.
 use Rattle.reports.specs.Tally.{isRepeat}
 use mathlib.Core.Path.{_∙_, ap}
 use borrow.Author.Needs.{needs}
-use Rattle.reports.proofs.stages.is_silent.Statement.{statement}
-use Rattle.reports.proofs.stages.is_silent.Tie as tie
+use Rattle.reports.proofs.blocks.is_silent.Statement.{statement}
+use Rattle.reports.proofs.blocks.is_silent.Tie as tie
 
 stands-requires : tie.Need-stands-requires
 stands-requires c κs = search needs

@@ -1,7 +1,7 @@
--- `stages::kept_after` meets its contract.
+-- `steps::kept_after` meets its contract.
 use borrow.Author.Needs.{needs}
-use Rattle.reports.proofs.stages.kept_after.Statement.{statement}
-use Rattle.reports.proofs.stages.kept_after.Tie as tie
+use Rattle.reports.proofs.steps.kept_after.Statement.{statement}
+use Rattle.reports.proofs.steps.kept_after.Tie as tie
 
 reference-of-requires : tie.Need-reference-of-requires
 reference-of-requires c κs = search needs
