@@ -80,11 +80,9 @@ pub fn verdicts() {
     show(b"an empty listing", judging::judge(plate, b"", &mut room));
 }
 
-// Listings that are refused.
-pub fn refusals() {
-    let plate = even_plate();
+// Listings with a faulty line: a number out of bounds or with a leading zero, a depth that goes back, an end that is missing.
+fn faulty_lines(plate: Plate) {
     let mut room = [0u64; 64];
-    let mut short = [0u64; 7];
     show(
         b"a state of 1024",
         judging::judge(
@@ -117,6 +115,11 @@ pub fn refusals() {
         b"a last line not ended",
         judging::judge(plate, b"branch\t0\t0\t0\t0\nbranch\t1\t0\t0\t0", &mut room),
     );
+}
+
+// A listing with two lines for the same depth, state and bit.
+fn repeated_branch(plate: Plate) {
+    let mut room = [0u64; 64];
     show(
         b"a branch twice",
         judging::judge(
@@ -125,12 +128,25 @@ pub fn refusals() {
             &mut room,
         ),
     );
+}
+
+// A room that is one number too short for two lines.
+fn short_room(plate: Plate) {
+    let mut room = [0u64; 7];
     show(
         b"two lines, 7 numbers",
         judging::judge(
             plate,
             b"branch\t0\t0\t0\t0\nbranch\t0\t0\t1\t1\n",
-            &mut short,
+            &mut room,
         ),
     );
+}
+
+// Listings that are refused.
+pub fn refusals() {
+    let plate = even_plate();
+    faulty_lines(plate);
+    repeated_branch(plate);
+    short_room(plate);
 }
