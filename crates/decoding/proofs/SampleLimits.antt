@@ -1,4 +1,5 @@
--- A sample is outside the limit exactly if it is above it or below its negation, and samples are not refused exactly if all are within.
+-- A sample is outside the limit exactly if it is above it or below its negation. Samples are not refused for one of them exactly if all are
+-- within, and for their number only if they are n.
 use borrow.Author.Tests.{ltb-false, ltb-true}
 use lib.IntN.{natAbs, negsuc, pos, ℤ}
 use lib.ListN.{getD, length}
@@ -7,16 +8,17 @@ use mathlib.Core.Bool.{false, false≢true, true}
 use mathlib.Core.List.{List}
 use mathlib.Core.Logic.{inl, inr, _⊎_}
 use mathlib.Core.Path.{refl, subst, sym, _≡_}
-use native.Mathlib.Decide.{decLe}
+use native.Mathlib.Decide.{decLe, ℕ-discrete}
 use native.Mathlib.Nat.{le-refl}
 use native.Mathlib.Omega.{arith}
 use Prim.Native.Nat.{_+_, _<_, suc, zero, ℕ, _≤_}
 use Rattle.decoding.proofs.MetricBounds.{Within}
-use Rattle.decoding.specs.Decode.{SampleOver}
+use Rattle.decoding.specs.Decode.{SampleOver, sampleCount}
 use Rattle.decoding.specs.Metric.{limit}
 use Rattle.decoding.specs.Searching.{IsOver}
+use Rattle.plates.specs.declared.Plate.{Plate}
 use Rattle.plates.specs.declared.Refusal.{Refusal}
-use Rattle.plates.specs.declared.Refusal.the-variants.{SampleRange}
+use Rattle.plates.specs.declared.Refusal.the-variants.{SampleCount, SampleRange}
 use Rattle.words.proofs.Span.{lt-tri}
 
 pub over-high : (y : ℤ) → ltZ (pos limit) y ≡ true → limit < natAbs y
@@ -52,3 +54,11 @@ none-over samples n i k = upto (length samples) (le-refl (length samples)) i k
     upto : (j : ℕ) → j ≤ length samples → (i : ℕ) → i < j → natAbs (getD samples i (pos 0)) ≤ limit
     upto zero h i k = absurd (omega arith)
     upto (suc j) h i k = passed samples j (upto j (omega arith)) (here j h (upto j (omega arith)) (decLe (natAbs (getD samples j (pos 0))) limit)) i (omega arith)
+
+-- samples whose number is not refused are n
+pub samples-are-n : (plate : Plate) (samples : List ℤ) → ((q : Refusal) → sampleCount plate samples q → ⊥) → length samples ≡ plate .n
+samples-are-n plate samples passes = go (ℕ-discrete (length samples) (plate .n))
+  where
+    go : Dec (length samples ≡ plate .n) → length samples ≡ plate .n
+    go (yes e) = e
+    go (no d) = absurd (passes SampleCount (d, refl))

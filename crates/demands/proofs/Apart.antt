@@ -10,6 +10,7 @@ use native.Mathlib.Omega.{arith}
 use Prim.Native.Nat.{_<_, ℕ, _≤_}
 use Rattle.decoding.proofs.ApartDetermined.{metric-determined, word-determined}
 use Rattle.decoding.proofs.ApartTogether.{decode-refusal, metric-agrees, metric-refusal, together, word-agrees}
+use Rattle.decoding.proofs.SampleLimits.{samples-are-n}
 use Rattle.decoding.specs.Apart.{Chooses, Measures, metricConditions}
 use Rattle.decoding.specs.declared.Answer.{Answer}
 use Rattle.decoding.specs.declared.apart.Chosen.{Chosen}
@@ -20,7 +21,7 @@ use Rattle.decoding.specs.Decode.{Decodes, decisionNeed, decodeConditions, metr
 use Rattle.decoding.specs.Metric.{limit, metricOf}
 use Rattle.decoding.specs.Totals.{branchTotal, enteringLessOne}
 use Rattle.demands.proofs.Demand1.{decode-numbers, its-number}
-use Rattle.demands.proofs.StepCounts.{samples-are-n, steps-additions, steps-comparisons}
+use Rattle.demands.proofs.StepCounts.{steps-additions, steps-comparisons}
 use Rattle.demands.specs.Refusing.{Numbered, RefusesExactly}
 use Rattle.plates.proofs.Refusing.{never-both}
 use Rattle.plates.specs.Code.{InCode}

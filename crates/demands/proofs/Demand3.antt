@@ -6,12 +6,13 @@ use lib.ListN.{length}
 use mathlib.Core.List.{List}
 use mathlib.Core.Path.{_≡_}
 use Prim.Native.Nat.{_+_, _<_, ℕ, _≤_}
+use Rattle.decoding.proofs.SampleLimits.{samples-are-n}
 use Rattle.decoding.specs.Backward.{counted}
 use Rattle.decoding.specs.declared.Answer.{Answer}
 use Rattle.decoding.specs.declared.Decoded.the-variants.{Found}
 use Rattle.decoding.specs.Decode.{Decodes}
 use Rattle.decoding.specs.Totals.{branchTotal, doubledTotal, enteringLessOne, stateTotal}
-use Rattle.demands.proofs.StepCounts.{samples-are-n, steps-additions, steps-additions-formula, steps-comparisons, steps-comparisons-formula}
+use Rattle.demands.proofs.StepCounts.{steps-additions, steps-additions-formula, steps-comparisons, steps-comparisons-formula}
 use Rattle.plates.specs.Code.{InCode}
 use Rattle.plates.specs.declared.Kind.{Kind}
 use Rattle.plates.specs.declared.Prepared.{Prepared}

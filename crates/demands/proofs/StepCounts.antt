@@ -2,32 +2,19 @@
 use lib.IntN.{ℤ}
 use lib.ListN.{length}
 use mathlib.Core.List.{List}
-use mathlib.Core.Path.{ap, refl, subst, sym, _∙_, _≡_}
-use native.Mathlib.Decide.{ℕ-discrete}
+use mathlib.Core.Path.{ap, subst, sym, _∙_, _≡_}
 use Prim.Native.Nat.{_+_, ℕ}
 use Rattle.decoding.proofs.BranchesCounted.{additions-are-branches, additions-formula, comparisons-are-entering-less-one, comparisons-formula}
 use Rattle.decoding.specs.Backward.{counted}
 use Rattle.decoding.specs.declared.Counts.{Counts}
-use Rattle.decoding.specs.Decode.{sampleCount}
 use Rattle.decoding.specs.Totals.{branchTotal, doubledTotal, enteringLessOne, stateTotal}
 use Rattle.plates.specs.declared.Kind.{Kind}
-use Rattle.plates.specs.declared.Plate.{Plate}
 use Rattle.plates.specs.declared.Prepared.{Prepared}
-use Rattle.plates.specs.declared.Refusal.{Refusal}
-use Rattle.plates.specs.declared.Refusal.the-variants.{SampleCount}
 use Rattle.plates.specs.declared.Verdict.the-variants.{Accepted}
 use Rattle.plates.specs.Prepare.{IsPrepared, Prepares, rowsOf}
 use Rattle.trellises.proofs.AcceptedIsPrepared.{accepted-length, accepted-prepared}
 use Rattle.trellises.specs.Branching.{trellisOf}
 use Rattle.trellises.specs.SectionOf.{sectionOf}
-
--- samples that pass refusal 6 are n
-pub samples-are-n : (plate : Plate) (samples : List ℤ) → ((q : Refusal) → sampleCount plate samples q → ⊥) → length samples ≡ plate .n
-samples-are-n plate samples passed = go (ℕ-discrete (length samples) (plate .n))
-  where
-    go : Dec (length samples ≡ plate .n) → length samples ≡ plate .n
-    go (yes x) = x
-    go (no x) = absurd (passed SampleCount (x, refl))
 
 module _ (n : ℕ) (kind : Kind) (rows : List ℕ) (r : Prepared) (p : Prepares n kind rows r) (e : r .verdict ≡ Accepted)
     (samples : List ℤ) (size : length samples ≡ r .plate .n) (k : Counts) (steps : k ≡ counted (sectionOf (rowsOf (r .plate))) samples 0) where
