@@ -35,7 +35,6 @@ use Rattle.trellises.proofs.BranchDetermined.{branch-determined}
 use Rattle.trellises.specs.Branching.{Branches}
 use Rattle.trellises.specs.declared.Next.{Next}
 use Rattle.trellises.specs.declared.Section.{Section}
-use Rattle.trellises.specs.RowsAmong.{rowsAmong}
 use Rattle.trellises.specs.SectionOf.{held, sectionOf}
 use Rattle.words.proofs.Ends.{first-one-determined, last-one-determined}
 use Rattle.words.specs.Ends.{FirstOne, LastOne}
@@ -91,11 +90,6 @@ branch = branch-determined
 -- a section of rows
 pub section-of : (rows : List ℕ) (t : ℕ) (r s : Section) → r ≡ held (sectionOf rows t) → s ≡ held (sectionOf rows t) → r ≡ s
 section-of rows t r s x y = x ∙ sym y
-
--- a section of some of them
-pub section-among : (rows : List ℕ) (which depth : ℕ) (r s : Section)
-    → r ≡ held (sectionOf (rowsAmong rows which) depth) → s ≡ held (sectionOf (rowsAmong rows which) depth) → r ≡ s
-section-among rows which depth r s x y = x ∙ sym y
 
 -- ---- coding
 

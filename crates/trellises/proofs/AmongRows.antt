@@ -2,12 +2,12 @@
 use borrow.Author.Tests.{eq-eqb, ne-eqb}
 use lib.Arith.{lt-one}
 use lib.Dec.{eqb}
-use lib.ListN.{drop, getD, length, length-drop, take}
+use lib.ListN.{drop, getD, length, take}
 use lib.Pow.{field, high, low, mod-mod-pow, pow-mono, pow-pos, shl-exact, shr-shr}
 use lib.Seq.{drop-cons, drop-drop, drop-length}
 use mathlib.Core.Bool.{Bool, cond, false, true}
 use mathlib.Core.List.{List, [], _∷_}
-use mathlib.Core.Path.{ap, ap₂, refl, subst, sym, _∙_, _≡_}
+use mathlib.Core.Path.{ap, ap₂, refl, sym, _∙_, _≡_}
 use native.Mathlib.Decide.{decLt}
 use native.Mathlib.Nat.{le-of-lt, le-refl, mod-le, mod-lt, pow-suc}
 use native.Mathlib.Numerals.{add-one, one-add}
@@ -15,10 +15,10 @@ use native.Mathlib.Omega.{arith}
 use Prim.Native.Nat.{_%_, _*_, _+_, _-_, _/_, _<_, _^_, suc, suc-le-suc, zero, zero-le, ℕ, _≤_}
 use Rattle.trellises.proofs.ActiveOnly.{active-only}
 use Rattle.trellises.proofs.Digits.{mod-digit}
-use Rattle.trellises.proofs.HeldSection.{has-room, held-row, held-whole}
+use Rattle.trellises.proofs.HeldSection.{held-row, held-whole}
 use Rattle.trellises.specs.declared.Section.{Section}
 use Rattle.trellises.specs.RowsAmong.{rowsAmong}
-use Rattle.trellises.specs.SectionOf.{HasRoom, activeRows, held, isActive, keep, quiet, sectionOf, withRow}
+use Rattle.trellises.specs.SectionOf.{activeRows, held, isActive, keep, quiet, sectionOf, withRow}
 use Rattle.words.proofs.Span.{zero-one}
 use Rattle.words.proofs.Word.{below-bits, bits-below}
 use Rattle.words.specs.Span.{Last}
@@ -51,14 +51,6 @@ among-one rows which j d h e =
     rw (drop-cons rows j 0 h, o)
     (ap (λ (l : List ℕ). getD rows j 0 ∷ l)
     (among-skip d (drop (suc j) rows) (which / 2 ^ j / 2) z ∙ ap₂ rowsAmong (drop-drop d (suc j) rows) q))
-
-among-short : (rows : List ℕ) (which : ℕ) → length (rowsAmong rows which) ≤ length rows
-among-short [] which = zero-le
-among-short (row ∷ rows) which = go (eqb (which % 2) 1) (rowsAmong rows (which / 2)) (among-short rows (which / 2))
-  where
-    go : (b : Bool) (l : List ℕ) → length l ≤ length rows → length (keep b row l) ≤ suc (length rows)
-    go true l h = suc-le-suc h
-    go false l h = omega arith
 
 among-none : (rows : List ℕ) → rowsAmong rows 0 ≡ []
 among-none [] = refl
@@ -123,12 +115,6 @@ module _ (rows : List ℕ) (which depth : ℕ) where
         go (no g) =
             let m : 64 ≤ j = omega arith in
             absurd (omega (arith, pow-mono m, at-least, t .unseen, mod-le which (2 ^ t .from)))
-
-    pub room-left : depth < 64 → length rows < 2 ^ 64 → HasRoom depth section
-    room-left h s =
-        subst (HasRoom depth) (sym (t .taken))
-        (has-room (rowsAmong (drop (t .from) rows) (which / 2 ^ t .from)) depth h
-        (omega (arith, among-short (drop (t .from) rows) (which / 2 ^ t .from), length-drop (t .from) rows, before, row-within)))
 
     pub one-taken : {next : Section} → next ≡ held (withRow depth (getD rows j 0) section) → TakenFrom rows which depth (left - 2 ^ j) next
     one-taken e = record {

@@ -1,8 +1,6 @@
 // The section of plate rows at a depth: its numbers, found in one pass over the rows.
 ghost use mathlib.Core.Bool.{cond, _||_};
 ghost use mathlib.Core.Path.{_≡_};
-ghost use Prim.Native.Nat.{_%_, _^_};
-ghost use Rattle.trellises.specs.RowsAmong.{rowsAmong};
 ghost use Rattle.trellises.specs.SectionOf.{HasRoom, held, sectionOf, withRow};
 use crate::Section;
 
@@ -62,40 +60,6 @@ pub fn section_of(rows: &[u64], t: usize) -> Section
     while 0 < j {
         j -= 1;
         section = with_row(section, rows[j], t);
-    }
-    section
-}
-
-// The lowest positions of a word, as many as are wanted.
-fn lowest(word: u64, wanted: usize) -> u64
-    ensures { λ r. ⌜ r ≡ word % 2 ^ wanted ⌝ }
-{
-    if 64 <= wanted {
-        return word;
-    }
-    word % (1 << wanted)
-}
-
-// The section at a depth of those rows whose bit in `which` is 1: as many steps as there are such rows. Bits at or beyond the number
-// of rows mean nothing.
-pub fn section_among(rows: &[u64], which: u64, depth: usize) -> Section
-    ensures { λ r. ⌜ r ≡ held (sectionOf (rowsAmong (now (rows .entry)) which) depth) ⌝ }
-{
-    let mut section = Section {
-        live: 0,
-        begins: false,
-        ends: false,
-        ending: 0,
-        column: 0,
-    };
-    if 64 <= depth {
-        return section;
-    }
-    let mut left = lowest(which, rows.len());
-    while 0 < left {
-        let j = words::last_one(left);
-        section = with_row(section, rows[j], depth);
-        left -= 1 << j;
     }
     section
 }
