@@ -12,7 +12,7 @@ use Rattle.decoding.proofs.BegunRows.{begun-row, next-only, none-begins
 use Rattle.decoding.proofs.LiveMarks.{last-active, marks-below, marks-bit, with-beginning, with-ending, without-beginning}
 use Rattle.decoding.specs.LiveRows.{BeginsHere, EndsAre, PassedTo, PlateRows, activeMarks, begunBefore, liveMarks, markOf}
 use Rattle.plates.specs.Profile.{live}
-use Rattle.trellises.proofs.AmongRows.{among-first, section-of-active, shifted-one}
+use Rattle.trellises.proofs.AmongRows.{shifted-one}
 use Rattle.trellises.proofs.OneBegins.{section-begins}
 use Rattle.trellises.specs.declared.Section.{Section}
 use Rattle.trellises.specs.RowsAmong.{rowsAmong}

@@ -1,5 +1,5 @@
 -- The laws of tallies: what is kept from line to line is what the lines add to, and no number of it goes beyond 64 bits.
-use Prim.Native.Nat.{ℕ, suc, _+_, _*_, _-_, _%_, _^_, _≤_, _<_}
+use Prim.Native.Nat.{ℕ, suc, _+_, _*_, _-_, _^_, _≤_}
 use borrow.Author.Tests.{ltb-false}
 use lib.Dec.{eqb, ltb}
 use lib.IntN.{ℤ, natAbs, pos}
@@ -8,19 +8,15 @@ use lib.Signed.{ltZ}
 use mathlib.Core.Bool.{Bool, true, false, cond}
 use mathlib.Core.List.{List, [], _∷_}
 use mathlib.Core.Path.{_≡_, refl, sym, _∙_, ap, subst}
-use native.Mathlib.Decide.{ℕ-discrete}
 use native.Mathlib.Omega.{arith}
 use Rattle.words.specs.Word.{bit}
 use Rattle.plates.specs.declared.Plate.{Plate}
-use Rattle.plates.specs.declared.Refusal.{Refusal}
-use Rattle.plates.specs.declared.Refusal.the-variants.{SampleCount}
 use Rattle.decoding.specs.declared.Answer.{Answer}
 use Rattle.decoding.specs.declared.Decoded.{Decoded}
 use Rattle.decoding.specs.declared.Decoded.the-variants as D
-use Rattle.decoding.specs.Decode.{sampleCount}
 use Rattle.decoding.specs.Metric.{limit}
 use Rattle.decoding.proofs.MetricBounds.{metric-within}
-use Rattle.decoding.proofs.SampleLimits.{none-over}
+use Rattle.decoding.proofs.SampleLimits.{none-over, samples-are-n}
 use Rattle.listings.specs.declared.Tally.{Tally}
 use Rattle.reports.specs.declared.tally.Reference.{Reference}
 use Rattle.reports.specs.declared.tally.Reference.the-variants as R
@@ -134,13 +130,6 @@ missing-small : (reference : Reference) (counter : ℕ) → MissingSmall (standi
 missing-small R.Unset counter = tt
 missing-small (R.Counter before) counter = standing-small (advance counter before)
 
-by-count : (plate : Plate) (samples : List ℤ) → ((q : Refusal) → sampleCount plate samples q → ⊥) → length samples ≡ plate .n
-by-count plate samples h = decided (ℕ-discrete (length samples) (plate .n))
-  where
-    decided : Dec (length samples ≡ plate .n) → length samples ≡ plate .n
-    decided (yes e) = e
-    decided (no n) = absurd (h SampleCount (n, refl))
-
 module _ (plate : Plate) (few : plate .n ≤ 64) (reference : Reference) (counter : ℕ) (samples : List ℤ) where
   found-small : (a : Answer) → length samples ≤ 64 → natAbs (a .metric) ≤ 131008 → (at : Standing) → MissingSmall at → Small (foundShare at samples a)
   found-small a l m S.First k = record { decoded = omega arith; refused = omega arith; repeated = omega arith; late = omega arith; missing = omega arith; opposing = omega (arith, opposing-small (a .word) 0 samples); zeros = omega (arith, zeros-small samples); above = gained-small (a .metric) 131008 m; below = lost-small (a .metric) 131008 m }
@@ -151,7 +140,7 @@ module _ (plate : Plate) (few : plate .n ≤ 64) (reference : Reference) (counte
   pub share-small : (d : Decoded) → BlockAnswer plate samples d → Small (share reference counter samples d)
   share-small (D.Refused q) x = record { decoded = omega arith; refused = omega arith; repeated = omega arith; late = omega arith; missing = omega arith; opposing = omega arith; zeros = omega arith; above = omega arith; below = omega arith }
   share-small (D.Found a) x =
-      let count = by-count plate samples (x .0 .0) in
+      let count = samples-are-n plate samples (x .0 .0) in
       let metric : natAbs (a .metric) ≤ 131008 =
       subst (λ (z : ℤ). natAbs z ≤ 131008) (sym (x .1 .metric)) (omega (arith, metric-within limit samples (none-over samples (x .0 .1 .0)) (a .word), count)) in
       found-small a (omega (arith, count)) metric (standing reference counter) (missing-small reference counter)
