@@ -1,6 +1,5 @@
 -- What preparing replies to each matrix and mask, the words of a plate, and when a plate is prepared.
 use Prim.Native.Nat.{ℕ, _^_, _≤_, _<_}
-use lib.Bits.{bitXor}
 use lib.ListN.{length, getD, take, replicate}
 use mathlib.Core.Bool.{Bool, true, false}
 use mathlib.Core.List.{List, [], _∷_}
@@ -16,7 +15,7 @@ use Rattle.plates.specs.declared.Refusal.{Refusal}
 use Rattle.plates.specs.declared.Refusal.the-variants.{Length, TooManyRows, RowBeyond, MaskBeyond, TooWide, NotPrepared}
 use Rattle.plates.specs.declared.Verdict.{Verdict}
 use Rattle.plates.specs.declared.Verdict.the-variants.{Accepted, Refused}
-use Rattle.plates.specs.Code.{InCode}
+use Rattle.plates.specs.Code.{InCode, Masked}
 use Rattle.plates.specs.Heads.{RowsOf}
 use Rattle.plates.specs.Profile.{liveAt}
 use Rattle.plates.specs.Refusals.{Refuses, Passes}
@@ -63,9 +62,9 @@ prepareConditions n kind rows mask = badLength n ∷ tooManyRows rows ∷ RowOve
 abbrev pub rowsOf : Plate → List ℕ
 rowsOf plate = take (plate .k) (plate .rows)
 
--- the words of a plate: codewords plus its mask modulo 2, so those that are a codeword once the mask is added
+-- the words of a plate: codewords plus its mask modulo 2
 abbrev pub IsWord : Plate → ℕ → Type 0
-IsWord plate w = IsSum (rowsOf plate) (bitXor w (plate .mask))
+IsWord plate = Masked (IsSum (rowsOf plate)) (plate .mask)
 
 -- the plate of the code C of length n and a mask: the mask, the code's rows, the profile, and zero in the unused places
 pub record PlateOf (C : ℕ → Type 0) (n mask : ℕ) (plate : Plate) : Type 0 where
