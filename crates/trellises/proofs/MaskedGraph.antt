@@ -128,9 +128,10 @@ module _ (mask : ℕ) (g : Graph) where
     start = s .start;
     end = s .end;
     exact = λ w. (
-      (λ c. let x = s .exact (bitXor w mask) .0 c in
-        (subst (λ (v : ℕ). v < 2 ^ n) (xor-twice w mask) (xor-lt n (bitXor w mask) mask (x .0) short),
-        subst (Path (masked mask g) n) (xor-twice w mask) (path-on (x .1)))),
+      (λ c. let x = s .exact (bitXor w mask) .0 c in (
+        subst (λ (v : ℕ). v < 2 ^ n) (xor-twice w mask) (xor-lt n (bitXor w mask) mask (x .0) short),
+        subst (Path (masked mask g) n) (xor-twice w mask) (path-on (x .1)),
+      )),
       λ x. s .exact (bitXor w mask) .1 (xor-lt n w mask (x .0) short, path-off (x .1)),
     );
   }
