@@ -33,11 +33,11 @@ words-plain plate e = fun-ext (λ w. ap (IsSum (rowsOf plate)) (ap (bitXor w) e 
 
 module _ (plate : Plate) where
   -- a word plus the rest is a codeword, and a codeword plus the rest is a word
-  pub word-code : {w : ℕ} → IsWord plate w → IsSum (rowsOf plate) (bitXor w (restOf plate))
-  word-code {w} g = subst (IsSum (rowsOf plate)) (xor-through w (plate .mask) (restOf plate)) (in-xor g (off-sum (rowsOf plate) (plate .mask)))
+  pub word-code : (w : ℕ) → IsWord plate w → IsSum (rowsOf plate) (bitXor w (restOf plate))
+  word-code w g = subst (IsSum (rowsOf plate)) (xor-through w (plate .mask) (restOf plate)) (in-xor g (off-sum (rowsOf plate) (plate .mask)))
 
-  pub code-word : {v : ℕ} → IsSum (rowsOf plate) v → IsWord plate (bitXor v (restOf plate))
-  code-word {v} g =
+  pub code-word : (v : ℕ) → IsSum (rowsOf plate) v → IsWord plate (bitXor v (restOf plate))
+  code-word v g =
       subst (IsSum (rowsOf plate)) (ap (bitXor v) (xor-comm (plate .mask) (restOf plate)) ∙ sym (xor-assoc v (restOf plate) (plate .mask)))
       (in-xor g (off-sum (rowsOf plate) (plate .mask)))
 
@@ -50,8 +50,8 @@ module _ (plate : Plate) where
         (off-cleared (rowsOf plate) (plate .mask) (sound given .reduced .spans .first) (sound given .reduced .spans .rising) (h .0) (h .1))
 
     -- so of two codewords the earlier one gives the earlier word
-    pub earlier-word : {a b : ℕ} → IsSum (rowsOf plate) a → IsSum (rowsOf plate) b → Earlier a b → Earlier (bitXor a (restOf plate)) (bitXor b (restOf plate))
-    earlier-word {a} {b} g h e = record {
+    pub earlier-word : (a b : ℕ) → IsSum (rowsOf plate) a → IsSum (rowsOf plate) b → Earlier a b → Earlier (bitXor a (restOf plate)) (bitXor b (restOf plate))
+    earlier-word a b g h e = record {
       place = e .place;
       same = λ i k. bit-xor i a (restOf plate) ∙ ap (λ (x : ℕ). differ x (bit (restOf plate) i)) (e .same i k) ∙ sym (bit-xor i b (restOf plate));
       zero-here = bit-xor (e .place) a (restOf plate) ∙ ap₂ differ (e .zero-here) clear;

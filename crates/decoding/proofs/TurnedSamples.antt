@@ -4,9 +4,13 @@ use lib.IntN.{_+ℤ_, natAbs, negℤ-negℤ, pos, ℤ}
 use lib.ListN.{getD, length}
 use mathlib.Core.List.{List, [], _∷_}
 use mathlib.Core.Path.{ap, ap₂, refl, subst, sym, _∙_, _≡_}
+use mir.Syntax.{w32}
+use mir.Val.{ofZ, toZ}
 use native.Mathlib.Omega.{arith}
-use Prim.Native.Nat.{_%_, _/_, _<_, suc, zero, ℕ, _≤_}
+use Prim.Native.Nat.{_%_, _/_, _<_, _^_, suc, zero, ℕ, _≤_}
+use Rattle.decoding.proofs.Integers.{back}
 use Rattle.decoding.proofs.MetricBounds.{Within, signed-size}
+use Rattle.decoding.proofs.Preference.{sign-copy}
 use Rattle.decoding.specs.Metric.{metricOf}
 use Rattle.decoding.specs.Taking.{signed}
 use Rattle.decoding.specs.Turning.{turnedBy}
@@ -30,8 +34,19 @@ turned-at m (y ∷ ys) (suc t) = turned-at (m / 2) ys t
 pub turned-size : (m : ℕ) (ys : List ℤ) (t : ℕ) → natAbs (getD (turnedBy m ys) t (pos 0)) ≡ natAbs (getD ys t (pos 0))
 turned-size m ys t = ap natAbs (turned-at m ys t) ∙ signed-size (bit m t) (getD ys t (pos 0))
 
-pub turned-within : {most : ℕ} {ys : List ℤ} (m : ℕ) → Within most ys → Within most (turnedBy m ys)
-turned-within {most} {ys} m h i k = omega (arith, turned-size m ys i, h i (omega (arith, k, turned-length m ys)))
+pub turned-within : (most m : ℕ) (ys : List ℤ) → Within most ys → Within most (turnedBy m ys)
+turned-within most m ys h i k = omega (arith, turned-size m ys i, h i (omega (arith, k, turned-length m ys)))
+
+-- the machine's copy of a gain, and of the gain turned
+module _ (m : ℕ) (ys : List ℤ) (t : ℕ) (small : natAbs (getD ys t (pos 0)) ≤ 2 ^ 20) {g : ℤ} (is : g ≡ getD ys t (pos 0)) where
+  gain-copy : toZ w32 (ofZ w32 g) ≡ getD ys t (pos 0)
+  gain-copy = ap (λ (x : ℤ). toZ w32 (ofZ w32 x)) is ∙ back (getD ys t (pos 0)) (omega arith)
+
+  pub gain-small : natAbs (toZ w32 (ofZ w32 g)) ≤ 2 ^ 20
+  gain-small = omega (arith, ap natAbs gain-copy)
+
+  pub gain-turned : (d : ℕ) (s : ℤ) → d ≡ bit m t → s ≡ signed d (toZ w32 (ofZ w32 g)) → toZ w32 (ofZ w32 s) ≡ getD (turnedBy m ys) t (pos 0)
+  gain-turned d s e f = sign-copy (bit m t) (getD ys t (pos 0)) s small (f ∙ ap₂ signed e gain-copy) ∙ sym (turned-at m ys t)
 
 -- turned twice
 signed-twice : (a b : ℕ) (y : ℤ) → a < 2 → b < 2 → signed a (signed b y) ≡ signed (differ a b) y

@@ -40,11 +40,10 @@ pub fn sizes_of<'a>(
     n: usize,
     k: usize,
     mask: u64,
-    rows: &'a [u64; 64],
+    rows: &'a [u64],
     profile: &'a [u8; 65],
 ) -> Sizes
-    requires { ⌜ (n ≤ 64) × ProfileFits (now profile) n ⌝ }
-    requires { ⌜ k ≤ length (now rows) ⌝ }
+    requires { ⌜ (n ≤ 64) × ProfileFits (now profile) n × (k ≤ length (now rows)) ⌝ }
     ensures { λ r. ⌜ SizesOf n k mask (now (rows .entry)) (now (profile .entry)) r ⌝ }
 {
     let rest = rest_of(&rows[..k], mask);
