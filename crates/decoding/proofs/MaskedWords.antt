@@ -32,14 +32,18 @@ pub words-plain : (plate : Plate) → plate .mask ≡ 0 → IsWord plate ≡ IsS
 words-plain plate e = fun-ext (λ w. ap (IsSum (rowsOf plate)) (ap (bitXor w) e ∙ xor-zero-r w))
 
 module _ (plate : Plate) where
+  -- what was taken off the mask is a codeword
+  rest-sum : IsSum (rowsOf plate) (bitXor (plate .mask) (restOf plate))
+  rest-sum = off-sum (rowsOf plate) (plate .mask)
+
   -- a word plus the rest is a codeword, and a codeword plus the rest is a word
   pub word-code : (w : ℕ) → IsWord plate w → IsSum (rowsOf plate) (bitXor w (restOf plate))
-  word-code w g = subst (IsSum (rowsOf plate)) (xor-through w (plate .mask) (restOf plate)) (in-xor g (off-sum (rowsOf plate) (plate .mask)))
+  word-code w g = subst (IsSum (rowsOf plate)) (xor-through w (plate .mask) (restOf plate)) (in-xor g rest-sum)
 
   pub code-word : (v : ℕ) → IsSum (rowsOf plate) v → IsWord plate (bitXor v (restOf plate))
   code-word v g =
       subst (IsSum (rowsOf plate)) (ap (bitXor v) (xor-comm (plate .mask) (restOf plate)) ∙ sym (xor-assoc v (restOf plate) (plate .mask)))
-      (in-xor g (off-sum (rowsOf plate) (plate .mask)))
+      (in-xor g rest-sum)
 
   module _ (given : IsPrepared plate) where
     -- the rest has 0 where a codeword has its first one

@@ -1,5 +1,5 @@
 -- Rows taken off a word: what was taken off is a sum of the rows, what is left has 0 at each first one, and no one beyond.
-use lib.Bits.{bitXor, differ, xor-comm, xor-zero-l}
+use lib.Bits.{bitXor, differ, xor-comm}
 use lib.ListN.{drop, getD, length}
 use mathlib.Core.List.{List, [], _∷_}
 use mathlib.Core.Path.{ap, ap₂, refl, subst, sym, _∙_, _≡_}

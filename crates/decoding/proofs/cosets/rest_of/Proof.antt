@@ -3,10 +3,10 @@
 use borrow.Author.Needs.{needs}
 use lib.ListN.{drop, drop-of-length-le, length}
 use mathlib.Core.List.{List, []}
-use mathlib.Core.Path.{_≡_, _∙_, ap, refl, subst, sym}
+use mathlib.Core.Path.{_≡_, _∙_, ap, refl, sym}
 use native.Mathlib.Numerals.{add-one}
 use native.Mathlib.Omega.{arith}
-use Prim.Native.Nat.{ℕ, _-_, _≤_}
+use Prim.Native.Nat.{ℕ, suc, _-_, _≤_}
 use Rattle.decoding.specs.Cosets.{takenOff}
 use Rattle.decoding.proofs.RestOfWords.{off-next}
 use Rattle.decoding.proofs.cosets.rest_of.Statement.{statement}
@@ -42,7 +42,7 @@ loop-again c =
     let l = c .before .before .before in (
       omega (arith, c .before .before .loop-test .taken),
       ap (λ (x : ℕ). takenOff (drop x (s .args .rows .now)) (c .less-row .result)) (add-one (l .loop .j))
-      ∙ ap (takenOff (drop _ (s .args .rows .now))) (c .less-row .ensures)
+      ∙ ap (takenOff (drop (suc (l .loop .j)) (s .args .rows .now))) (c .less-row .ensures)
       ∙ sym (off-next (s .args .rows .now) (l .loop .j) (l .loop .rest) (c .before .before .loop-test .taken)) ∙ l .loop .inv .1,
     )
 
