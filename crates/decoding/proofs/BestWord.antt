@@ -75,14 +75,16 @@ module _ (plate : Plate) (given : IsPrepared plate) (samples : List ℤ) (size :
   read = wordFrom (sectionOf (rowsOf plate)) gains 0 0
 
   word-under : (w : ℕ) → IsWord plate w → Under (best (sectionOf (rowsOf plate)) gains 0 0) read (bitXor w (restOf plate)) (metricOf samples w)
-  word-under w g = subst (Under _ _ (bitXor w (restOf plate))) (word-metric w) (under plate given gains gains-size (bitXor w (restOf plate)) (word-code plate w g))
+  word-under w g =
+      subst (Under _ _ (bitXor w (restOf plate))) (word-metric w) (under plate given gains gains-size (bitXor w (restOf plate)) (word-code plate w g))
 
   -- where it is another's or earlier, so is its word
   word-earlier : (w : ℕ) → IsWord plate w → (read ≡ bitXor w (restOf plate)) ⊎ Earlier read (bitXor w (restOf plate))
       → (bitXor read (restOf plate) ≡ w) ⊎ Earlier (bitXor read (restOf plate)) w
   word-earlier w g (inl e) = inl (ap (λ (x : ℕ). bitXor x (restOf plate)) e ∙ xor-back w (restOf plate))
   word-earlier w g (inr e) =
-      inr (subst (Earlier _) (xor-back w (restOf plate)) (earlier-word plate given read (bitXor w (restOf plate)) (read-codeword plate given gains gains-size) (word-code plate w g) e))
+      inr (subst (Earlier _) (xor-back w (restOf plate))
+      (earlier-word plate given read (bitXor w (restOf plate)) (read-codeword plate given gains gains-size) (word-code plate w g) e))
 
   pub best-word : (a : Answer) → a .word ≡ bitXor (wordFrom (sectionOf (rowsOf plate)) (turnedBy (restOf plate) samples) 0 0) (restOf plate)
       → a .metric ≡ best (sectionOf (rowsOf plate)) (turnedBy (restOf plate) samples) 0 0

@@ -49,7 +49,9 @@ module _ (plate : Plate) (given : IsPrepared plate) (samples : List ℤ) (size :
       → FlagOf (IsWord plate) samples position (record { position = position; reading = reading })
   flag-of (Fixed b) h = record {
     position-is = refl;
-    reading = λ w g. ap pos (bit-same w (restOf plate) position (never-one (plate .rows) (plate .k) position (h .1) (bitXor w (restOf plate)) (word-code plate w g)) ∙ sym (h .0));
+    reading = λ w g.
+        ap pos (bit-same w (restOf plate) position (never-one (plate .rows) (plate .k) position (h .1) (bitXor w (restOf plate)) (word-code plate w g))
+        ∙ sym (h .0));
   }
   flag-of (Open margin) h =
       let z = with-bit plate position (h .0) 0 (omega arith) in

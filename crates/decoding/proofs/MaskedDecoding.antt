@@ -89,7 +89,8 @@ module _ (plate : Plate) (samples : List ℤ) where
       there b = record {
         codeword = plain-word (a .word) (b .codeword);
         metric = b .metric ∙ sym (plain-metric (a .word));
-        greatest = λ v g. subst (λ (m : ℤ). m ≤ℤ a .metric) (sym (turned-metric (plate .mask) samples v)) (b .greatest (bitXor v (plate .mask)) (masked-word v g));
+        greatest = λ v g.
+            subst (λ (m : ℤ). m ≤ℤ a .metric) (sym (turned-metric (plate .mask) samples v)) (b .greatest (bitXor v (plate .mask)) (masked-word v g));
         earliest = λ v g t. b .earliest (bitXor v (plate .mask)) (masked-word v g) (sym (turned-metric (plate .mask) samples v) ∙ t);
         additions = b .additions ∙ same-branches;
         comparisons = b .comparisons ∙ same-entering;
@@ -101,13 +102,15 @@ module _ (plate : Plate) (samples : List ℤ) where
         metric = b .metric ∙ plain-metric (a .word);
         greatest = λ w g. subst (λ (m : ℤ). m ≤ℤ a .metric) (plain-metric w) (b .greatest (bitXor w (plate .mask)) (plain-word w g));
         earliest = λ w g t.
-            subst (λ (x : ℕ). (a .word ≡ x) ⊎ Earlier (a .word) x) (xor-back w (plate .mask)) (b .earliest (bitXor w (plate .mask)) (plain-word w g) (plain-metric w ∙ t));
+            subst (λ (x : ℕ). (a .word ≡ x) ⊎ Earlier (a .word) x) (xor-back w (plate .mask))
+            (b .earliest (bitXor w (plate .mask)) (plain-word w g) (plain-metric w ∙ t));
         additions = b .additions ∙ sym same-branches;
         comparisons = b .comparisons ∙ sym same-entering;
       }
 
   -- metric and counts are those of a plain decoding of the turned samples
-  pub metric-masked : (a b : Answer) → Best plate samples a → Best (plainOf plate) (turnedBy (plate .mask) samples) b → (a .metric ≡ b .metric) × (a .counts ≡ b .counts)
+  pub metric-masked : (a b : Answer) → Best plate samples a → Best (plainOf plate) (turnedBy (plate .mask) samples) b
+      → (a .metric ≡ b .metric) × (a .counts ≡ b .counts)
   metric-masked a b x y =
       let p : PlainlyBest (plainOf plate) (plate .mask) samples a = decode-masked a .0 x in (
         ≤ℤ-antisym (subst (λ (m : ℤ). m ≤ℤ b .metric) (sym (p .metric)) (y .greatest (bitXor (a .word) (plate .mask)) (p .codeword)))

@@ -36,13 +36,7 @@ fn widest(profile: &[u8; 65], n: usize) -> usize
 }
 
 // How large a decode of a plate is, and what is left of its mask.
-pub fn sizes_of<'a>(
-    n: usize,
-    k: usize,
-    mask: u64,
-    rows: &'a [u64],
-    profile: &'a [u8; 65],
-) -> Sizes
+pub fn sizes_of<'a>(n: usize, k: usize, mask: u64, rows: &'a [u64], profile: &'a [u8; 65]) -> Sizes
     requires { ⌜ (n ≤ 64) × ProfileFits (now profile) n × (k ≤ length (now rows)) ⌝ }
     ensures { λ r. ⌜ SizesOf n k mask (now (rows .entry)) (now (profile .entry)) r ⌝ }
 {

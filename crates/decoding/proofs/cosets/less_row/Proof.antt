@@ -21,14 +21,16 @@ returns c =
     let s = c .before .before .before in
     let b = c .before .bit-at in
     sym (xor-zero-l (s .args .word))
-    ∙ less-row (s .args .row) (s .args .word) 0 (λ h. sym (c .if1 .taken) ∙ b .ensures ∙ ap (bit (s .args .word)) (first-one-is h (s .fits .row .fits) (c .before .before .first-one .ensures)))
+    ∙ less-row (s .args .row) (s .args .word) 0 (λ h.
+    sym (c .if1 .taken) ∙ b .ensures ∙ ap (bit (s .args .word)) (first-one-is h (s .fits .row .fits) (c .before .before .first-one .ensures)))
 
 returns-2 : tie.Need-returns-2
 returns-2 c =
     let s = c .before .before .before in
     let b = c .before .bit-at in
     let one : b .result ≡ 1 = omega (arith, c .if1 .left, b .ensures, bit-lt (c .before .before .first-one .result) (s .args .word)) in
-    less-row (s .args .row) (s .args .word) 1 (λ h. sym one ∙ b .ensures ∙ ap (bit (s .args .word)) (first-one-is h (s .fits .row .fits) (c .before .before .first-one .ensures)))
+    less-row (s .args .row) (s .args .word) 1 (λ h.
+    sym one ∙ b .ensures ∙ ap (bit (s .args .word)) (first-one-is h (s .fits .row .fits) (c .before .before .first-one .ensures)))
 
 pub less-row-spec : {M : Type 1} → statement M
 less-row-spec = tie.close (tie.spec first-one-requires bit-at-requires returns returns-2)

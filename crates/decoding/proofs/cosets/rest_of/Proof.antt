@@ -42,8 +42,8 @@ loop-again c =
     let l = c .before .before .before in (
       omega (arith, c .before .before .loop-test .taken),
       ap (λ (x : ℕ). takenOff (drop x (s .args .rows .now)) (c .less-row .result)) (add-one (l .loop .j))
-      ∙ ap (takenOff (drop (suc (l .loop .j)) (s .args .rows .now))) (c .less-row .ensures)
-      ∙ sym (off-next (s .args .rows .now) (l .loop .j) (l .loop .rest) (c .before .before .loop-test .taken)) ∙ l .loop .inv .1,
+          ∙ ap (takenOff (drop (suc (l .loop .j)) (s .args .rows .now))) (c .less-row .ensures)
+          ∙ sym (off-next (s .args .rows .now) (l .loop .j) (l .loop .rest) (c .before .before .loop-test .taken)) ∙ l .loop .inv .1,
     )
 
 returns : tie.Need-returns Inv-loop μ-loop

@@ -46,9 +46,10 @@ part-step-end c = let s = c .before .before .before .before .before .before .bef
 gain-at-requires : tie.Need-gain-at-requires
 gain-at-requires c κs =
     let s = c .before .before .before .before .before .before .before .before in
-    let ys : List ℤ = forcedTo (s .args .samples .now) (s .args .forced) in
-    (omega (arith, s .pre .depth, s .pre .rooms .size, turned-length (s .args .sizes .rest) ys, length-set (s .args .samples .now) (s .args .forced .position) (s .args .forced .gain)),
-    omega (arith, s .pre .rooms .within (s .args .t) (omega (arith, s .pre .depth, s .pre .rooms .size)), turned-size (s .args .sizes .rest) ys (s .args .t)))
+    let ys : List ℤ = forcedTo (s .args .samples .now) (s .args .forced) in (
+      omega (arith, s .pre .depth, s .pre .rooms .size, turned-length (s .args .sizes .rest) ys, length-set (s .args .samples .now) (s .args .forced .position) (s .args .forced .gain)),
+      omega (arith, s .pre .rooms .within (s .args .t) (omega (arith, s .pre .depth, s .pre .rooms .size)), turned-size (s .args .sizes .rest) ys (s .args .t)),
+    )
 
 step-requires : tie.Need-step-requires
 step-requires c κs =
