@@ -1,5 +1,4 @@
 pub mod MetricSteps
-pub mod RestTaken
 pub mod Stopping
 pub mod Reasons
 pub mod Replies

@@ -4,10 +4,9 @@ use lib.IntN.{ℤ, _-ℤ_}
 use lib.Signed.{_<ℤ_}
 use mathlib.Core.List.{List}
 use mathlib.Core.Path.{_≡_}
-use Rattle.words.specs.Sum.{IsSum}
 use Rattle.words.specs.Word.{bit, Earlier}
 use Rattle.plates.specs.declared.Plate.{Plate}
-use Rattle.plates.specs.Prepare.{rowsOf}
+use Rattle.plates.specs.Prepare.{IsWord}
 use Rattle.plates.specs.Refusals.{Refuses, Passes}
 use Rattle.decoding.specs.declared.Answer.{Answer}
 use Rattle.decoding.specs.Decode.{Best, Zeroed, decodeConditions}
@@ -17,33 +16,33 @@ use Rattle.asking.specs.declared.Reason.the-variants.{Chosen, NoCodeword
 use Rattle.asking.specs.declared.Verdict.{Verdict}
 use Rattle.asking.specs.declared.Verdict.the-variants.{Explained, Refused}
 
--- ---- no codeword
+-- ---- no codeword; here and below a codeword is a word of the plate
 
--- some codeword continues the word's beginning at p: it has the word's bits at the positions 0 to p
-pub record Continued (rows : List ℕ) (w p : ℕ) : Type 0 where
+-- some of the words C continues the word's beginning at p: it has the word's bits at the positions 0 to p
+pub record Continued (C : ℕ → Type 0) (w p : ℕ) : Type 0 where
   pub by : ℕ
-  pub codeword : IsSum rows by
+  pub codeword : C by
   pub same : (i : ℕ) → i ≤ p → bit by i ≡ bit w i
 
 -- The word is no codeword, and p is the first position at which no codeword continues its beginning. Where every position below n is
 -- continued, so that the word fails only by a one at n or beyond, p is n
 pub record NoCodewordAt (plate : Plate) (w p : ℕ) : Type 0 where
-  pub none : IsSum (rowsOf plate) w → ⊥
+  pub none : IsWord plate w → ⊥
   pub within : p ≤ plate .n
-  pub sooner : (i : ℕ) → i < p → Continued (rowsOf plate) w i
-  pub stops : p < plate .n → Continued (rowsOf plate) w p → ⊥
+  pub sooner : (i : ℕ) → i < p → Continued (IsWord plate) w i
+  pub stops : p < plate .n → Continued (IsWord plate) w p → ⊥
 
 -- ---- a codeword that is not the answer
 
 -- it scores less than the answer, by the difference
 pub record Less (plate : Plate) (samples : List ℤ) (a : Answer) (w : ℕ) (difference : ℤ) : Type 0 where
-  pub codeword : IsSum (rowsOf plate) w
+  pub codeword : IsWord plate w
   pub less : metricOf samples w <ℤ a .metric
   pub by : difference ≡ a .metric -ℤ metricOf samples w
 
 -- it scores the same, and the answer is earlier, with 0 at p, the first position of difference
 pub record Loses (plate : Plate) (samples : List ℤ) (a : Answer) (w p : ℕ) : Type 0 where
-  pub codeword : IsSum (rowsOf plate) w
+  pub codeword : IsWord plate w
   pub tie : metricOf samples w ≡ a .metric
   pub loses : Earlier (a .word) w
   pub at : p ≡ loses .place

@@ -46,12 +46,15 @@ module _ (plate : Plate) where
       (in-xor g rest-sum)
 
   module _ (given : IsPrepared plate) where
-    -- the rest has 0 where a codeword has its first one
-    rest-clear : (v p : ℕ) → IsSum (rowsOf plate) v → First v p → bit (restOf plate) p ≡ 0
-    rest-clear v p g f =
+    -- what is left of a word once the rows are taken off has 0 where a codeword has its first one
+    pub off-clear : (word v p : ℕ) → IsSum (rowsOf plate) v → First v p → bit (takenOff (rowsOf plate) word) p ≡ 0
+    off-clear word v p g f =
         let h : (j : ℕ) × (j < length (rowsOf plate)) × (firsts (rowsOf plate) j ≡ p) = given .same .reply .1 .rows .heads v p g f in
-        subst (λ (q : ℕ). bit (restOf plate) q ≡ 0) (h .2)
-        (off-cleared (rowsOf plate) (plate .mask) (sound given .reduced .spans .first) (sound given .reduced .spans .rising) (h .0) (h .1))
+        subst (λ (q : ℕ). bit (takenOff (rowsOf plate) word) q ≡ 0) (h .2)
+        (off-cleared (rowsOf plate) word (sound given .reduced .spans .first) (sound given .reduced .spans .rising) (h .0) (h .1))
+
+    rest-clear : (v p : ℕ) → IsSum (rowsOf plate) v → First v p → bit (restOf plate) p ≡ 0
+    rest-clear = off-clear (plate .mask)
 
     -- so of two codewords the earlier one gives the earlier word
     pub earlier-word : (a b : ℕ) → IsSum (rowsOf plate) a → IsSum (rowsOf plate) b → Earlier a b → Earlier (bitXor a (restOf plate)) (bitXor b (restOf plate))
