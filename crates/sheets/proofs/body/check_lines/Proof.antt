@@ -1,12 +1,12 @@
--- `body::check_body` meets its contract.
+-- `body::check_lines` meets its contract.
 use borrow.Author.Needs.{needs}
 use mathlib.Core.Path.{_∙_, ap}
 use Rattle.sheets.specs.Lines.{endingOf}
 use Rattle.sheets.specs.Text.{linesFrom}
 use Rattle.sheets.specs.declared.line.Came.{Came}
 use Rattle.sheets.proofs.Bodies.{body-is}
-use Rattle.sheets.proofs.body.check_body.Statement.{statement}
-use Rattle.sheets.proofs.body.check_body.Tie as tie
+use Rattle.sheets.proofs.body.check_lines.Statement.{statement}
+use Rattle.sheets.proofs.body.check_lines.Tie as tie
 
 slice-aggregate-read-rows : tie.Need-slice-aggregate-read-rows
 slice-aggregate-read-rows c = search needs
@@ -38,8 +38,8 @@ returns c =
     c .close .ensures
     ∙ body-is (a .input .now) (a .from) (a .cover) (rows .result) (blocks .result) (c .before .read-end .result) (heard .result) (heard .ensures) (rows .ensures .passed) (blocks .ensures) (c .before .read-end .ensures ∙ ap (λ (came : Came). endingOf (a .cover .n) (a .cover .order) came (linesFrom (a .input .now) (blocks .result .next))) (c .before .before .came-after .ensures))
 
-pub check-body-spec : {M : Type 1} → statement M
-check-body-spec =
+pub check-lines-spec : {M : Type 1} → statement M
+check-lines-spec =
     tie.close
     (tie.spec
     slice-aggregate-read-rows
