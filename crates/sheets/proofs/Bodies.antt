@@ -1,4 +1,4 @@
--- The lines after the cover by what was read of them.
+-- The lines after the cover and the mask by what was read of them.
 use Prim.Native.Nat.{ℕ}
 use lib.ListN.{length, drop}
 use mathlib.Core.Bool.{Bool}
@@ -7,14 +7,14 @@ use mathlib.Core.Path.{_≡_, _∙_, ap, sym}
 use Rattle.sheets.specs.Text.{linesFrom}
 use Rattle.sheets.specs.Blocks.{blocksOf, heardFront}
 use Rattle.sheets.specs.Lines.{cameAfter, rowsOf, endingOf}
-use Rattle.sheets.specs.Sheet.{Contents, contentsOf, endingAfter}
-use Rattle.sheets.specs.Readers.{Passed, bodyOf, closed}
+use Rattle.sheets.specs.Sheet.{Contents, contentsWith, endingAfter}
+use Rattle.sheets.specs.Readers.{Passed, closed, linesReply}
 use Rattle.sheets.specs.declared.cover.Cover.{Cover}
 use Rattle.sheets.specs.declared.body.Ending.{Ending}
 use Rattle.sheets.specs.declared.body.Run.{Run}
 use Rattle.sheets.proofs.Turns.{by-position-length}
 
-module _ (s : List ℕ) (from : ℕ) (cover : Cover) (rows blocks : Run) (ending : Ending) where
+module _ (s : List ℕ) (from line : ℕ) (cover : Cover) (mask : ℕ) (rows blocks : Run) (ending : Ending) where
   abbrev ls : List (List ℕ)
   ls = linesFrom s from
 
@@ -22,13 +22,24 @@ module _ (s : List ℕ) (from : ℕ) (cover : Cover) (rows blocks : Run) (ending
   words = rowsOf (cover .n) (cover .order) ls
 
   abbrev said : Contents
-  said = contentsOf cover ls
+  said = contentsWith cover mask ls
 
   pub body-is : (heard : Bool) → heard ≡ heardFront (linesFrom s (rows .next)) → Passed words s from rows
       → Passed (blocksOf heard (linesFrom s (rows .next))) s (rows .next) blocks
       → ending ≡ endingOf (cover .n) (cover .order) (cameAfter heard (blocks .count)) (linesFrom s (blocks .next))
-      → closed (record { n = cover .n; kind = cover .kind; order = cover .order; rows = rows .count; start = rows .next; heard = heard; blocks = blocks .count }) ending
-      ≡ bodyOf from cover ls
+      → closed line
+      (record {
+        n = cover .n;
+        kind = cover .kind;
+        order = cover .order;
+        mask = mask;
+        rows = rows .count;
+        start = rows .next;
+        heard = heard;
+        blocks = blocks .count;
+      })
+      ending
+      ≡ linesReply from line cover mask ls
   body-is heard t p q e =
       let left = drop (length words) ls in
       let f : heard ≡ heardFront left = t ∙ ap heardFront (p .left) in

@@ -158,6 +158,6 @@ BodyBy (M.Is w) from cover ls table r table′ = LinesRead (from + begins ls 1) 
 BodyBy M.NoMask from cover ls table r table′ = LinesRead from 2 cover 0 ls table r table′
 BodyBy (M.Bad fault) from cover ls table r table′ = (r ≡ Refused (refusalOf 2 fault)) × (table′ ≡ table)
 
--- the lines after the cover
-pub record BodyRead (from : ℕ) (cover : Cover) (ls : List (List ℕ)) (table : List ℕ) (r : SheetReply) (table′ : List ℕ) : Type 0 where
-  pub by : BodyBy (maskFront (cover .n) (cover .order) ls) from cover ls table r table′
+-- the lines after the cover, which begin at `from`
+pub record BodyRead (s : List ℕ) (from : ℕ) (cover : Cover) (table : List ℕ) (r : SheetReply) (table′ : List ℕ) : Type 0 where
+  pub by : BodyBy (maskFront (cover .n) (cover .order) (linesFrom s from)) from cover (linesFrom s from) table r table′

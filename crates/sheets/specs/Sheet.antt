@@ -112,12 +112,6 @@ coverBad (C.Bad fault) = J.Refused (refusalOf 1 fault)
 abbrev pub lengthBad : ℕ → Verdict
 lengthBad n = cond (eqb n 0) (J.Refused Length) (cond (ltb 64 n) (J.Refused Length) J.Accepted)
 
--- 18 or 20: form of the mask, which is line 2
-abbrev pub maskBad : MaskLine → Verdict
-maskBad (M.Is w) = J.Accepted
-maskBad M.NoMask = J.Accepted
-maskBad (M.Bad fault) = J.Refused (refusalOf 2 fault)
-
 -- how the lines end that stand after the rows and blocks; a row there is late where a block has come, and a heard line, or a block after heard lines
 abbrev pub endingAfter : Contents → List (List ℕ) → Ending
 endingAfter c ls =
@@ -129,25 +123,27 @@ lineVerdict line Fine = J.Accepted
 lineVerdict line (NoEnd fault) = J.Refused (refusalOf line fault)
 lineVerdict line (After fault) = J.Refused (refusalOf (line + 1) fault)
 
--- 10, 17 to 20: the first bad line after the cover and the mask, line `line` being the first of these. They are good as far as rows and blocks go
-abbrev pub lineBad : ℕ → Contents → List (List ℕ) → Verdict
-lineBad line c ls = lineVerdict (line + length (c .rows) + length (c .blocks)) (endingAfter c ls)
+-- the first bad one of the lines after the cover and the mask, which begin with line `line`: they are good as far as rows and blocks go
+abbrev pub bodyBad : ℕ → Contents → List (List ℕ) → Verdict
+bodyBad line c ls = lineVerdict (line + length (c .rows) + length (c .blocks)) (endingAfter c ls)
+
+-- the first bad one of the lines after the cover: the mask is line 2, where there is one
+abbrev pub badBy : MaskLine → Contents → List (List ℕ) → Verdict
+badBy (M.Is w) c ls = bodyBad 3 c (drop 1 ls)
+badBy M.NoMask c ls = bodyBad 2 c ls
+badBy (M.Bad fault) c ls = J.Refused (refusalOf 2 fault)
+
+-- 10, 17 to 20: the first other bad line. The cover is line 1
+abbrev pub lineBad : Contents → List (List ℕ) → Verdict
+lineBad c ls = badBy (maskFront (c .n) (c .order) ls) c ls
 
 -- 2: more than 64 rows
 abbrev pub rowsTooMany : ℕ → Verdict
 rowsTooMany k = cond (ltb 64 k) (J.Refused TooManyRows) J.Accepted
 
--- in their order: 15; form of the cover, 10 or 17 to 20; 1; the first other bad line, 10 or 17 to 20, which may be the mask; then 2. The cover is line 1
+-- in their order: 15; form of the cover, 10 or 17 to 20; 1; the first other bad line, 10 or 17 to 20; then 2
 abbrev pub refusalsOf : List ℕ → CoverLine → Contents → List (List ℕ) → List Verdict
-refusalsOf s cover c ls =
-    let found = maskFront (c .n) (c .order) ls in
-    inputTooLong s
-    ∷ coverBad cover
-    ∷ lengthBad (c .n)
-    ∷ maskBad found
-    ∷ lineBad (masksIn found + 2) c (drop (masksIn found) ls)
-    ∷ rowsTooMany (length (c .rows))
-    ∷ []
+refusalsOf s cover c ls = inputTooLong s ∷ coverBad cover ∷ lengthBad (c .n) ∷ lineBad c ls ∷ rowsTooMany (length (c .rows)) ∷ []
 
 -- the first of some verdicts that refuses
 abbrev pub firstRefusal : List Verdict → Verdict

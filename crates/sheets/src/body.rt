@@ -261,7 +261,7 @@ pub fn read_body(input: &[u8], from: usize, cover: Cover, table: &mut [u64]) -> 
     requires { ⌜ from ≤ length (now input) ⌝ }
     requires { ⌜ length (now input) ≤ 32768 ⌝ }
     requires { ⌜ cover .n ≤ 64 ⌝ }
-    ensures { λ r. ⌜ BodyRead from cover (linesFrom (now (input .entry)) from) (now (table .entry)) r (now (table .exit)) ⌝ }
+    ensures { λ r. ⌜ BodyRead (now (input .entry)) from cover (now (table .entry)) r (now (table .exit)) ⌝ }
 {
     let n = cover.n;
     let order = cover.order;

@@ -36,7 +36,7 @@ returns c =
     let heard = c .before .before .before .before .heard-at in
     let blocks = c .before .before .before .read-blocks in
     c .close .ensures
-    ∙ body-is (a .input .now) (a .from) (a .cover) (rows .result) (blocks .result) (c .before .read-end .result) (heard .result) (heard .ensures) (rows .ensures .passed) (blocks .ensures) (c .before .read-end .ensures ∙ ap (λ (came : Came). endingOf (a .cover .n) (a .cover .order) came (linesFrom (a .input .now) (blocks .result .next))) (c .before .before .came-after .ensures))
+    ∙ body-is (a .input .now) (a .from) (a .first) (a .cover) (a .mask) (rows .result) (blocks .result) (c .before .read-end .result) (heard .result) (heard .ensures) (rows .ensures .passed) (blocks .ensures) (c .before .read-end .ensures ∙ ap (λ (came : Came). endingOf (a .cover .n) (a .cover .order) came (linesFrom (a .input .now) (blocks .result .next))) (c .before .before .came-after .ensures))
 
 pub check-lines-spec : {M : Type 1} → statement M
 check-lines-spec =
