@@ -26,7 +26,8 @@ use Rattle.sheets.specs.declared.cover.OrderField.{OrderField}
 use Rattle.sheets.specs.declared.cover.OrderField.the-variants as O
 use Rattle.sheets.specs.declared.cover.CoverLine.{CoverLine}
 use Rattle.sheets.specs.declared.cover.CoverLine.the-variants as C
-use Rattle.sheets.proofs.LineFaults.{BitsJudged, GoodBefore, Right, Told, all-right, bits-judged, few-told, form-told, good-on, many-told, none-before, turn-told}
+use Rattle.sheets.proofs.LineFaults.{BitsJudged, GoodBefore, Right, Told, all-right, few-told, form-told, good-on, many-told, none-before, turn-told}
+use Rattle.sheets.proofs.LineFaults.{bits-judged}
 
 -- ---- the cover
 
@@ -44,12 +45,14 @@ module _ (n : ℕ) (w : List ℕ) (e : wordOf w ≡ Cover) where
       first : GoodBefore n Cover (w ∷ f ∷ g ∷ h ∷ []) 2
       first = good-on none-before refl
 
-      by : (i : Number) → numberOf 3 f ≡ i → (k : KindField) → kindOf g ≡ k → (o : OrderField) → orderOf h ≡ o → CoverJudged n (w ∷ f ∷ g ∷ h ∷ []) (coverIs i k o)
+      by : (i : Number) → numberOf 3 f ≡ i → (k : KindField) → kindOf g ≡ k → (o : OrderField) → orderOf h ≡ o
+          → CoverJudged n (w ∷ f ∷ g ∷ h ∷ []) (coverIs i k o)
       by N.Bad p k q o r = form-told n onCover (w ∷ f ∷ g ∷ h ∷ []) Cover e refl refl 2 (omega arith) (omega arith) (ap isNumber p) first
       by (N.Is i) p K.Bad q o r =
           form-told n onCover (w ∷ f ∷ g ∷ h ∷ []) Cover e refl refl 3 (omega arith) (omega arith) (ap isKind q) (good-on first (ap isNumber p))
       by (N.Is i) p (K.Is k) q O.Bad r =
-          form-told n onCover (w ∷ f ∷ g ∷ h ∷ []) Cover e refl refl 4 (omega arith) (omega arith) (ap isOrder r) (good-on (good-on first (ap isNumber p)) (ap isKind q))
+          form-told n onCover (w ∷ f ∷ g ∷ h ∷ []) Cover e refl refl 4 (omega arith) (omega arith) (ap isOrder r)
+          (good-on (good-on first (ap isNumber p)) (ap isKind q))
       by (N.Is i) p (K.Is k) q (O.Is o) r =
           (all-right n onCover (w ∷ f ∷ g ∷ h ∷ []) Cover e refl refl (good-on (good-on (good-on first (ap isNumber p)) (ap isKind q)) (ap isOrder r)), e)
 

@@ -16,7 +16,8 @@ use Rattle.sheets.specs.Turning.{inOrder}
 use Rattle.sheets.specs.Blocks.{isSample, samplesOf}
 use Rattle.sheets.specs.Lines.{fieldOf, rowIs, rowRest, blockIs, heardFields, endRest, lineBy, lineOf}
 use Rattle.sheets.specs.Lines as lines
-use Rattle.sheets.specs.Faults.{Part, onMask, onRows, onBlocks, onHeard, inTurn, due, firstOff, goodField, formNumber, fieldAt, firstWord, Wrong, outOfTurn, miscounted, malformed, Before}
+use Rattle.sheets.specs.Faults.{Part, onMask, onRows, onBlocks, onHeard, inTurn, due, firstOff, goodField, formNumber, fieldAt, firstWord}
+use Rattle.sheets.specs.Faults.{Wrong, outOfTurn, miscounted, malformed, Before}
 use Rattle.sheets.specs.declared.Order.{Order}
 use Rattle.sheets.specs.declared.word.Word.{Word}
 use Rattle.sheets.specs.declared.word.Word.the-variants.{Cover, Mask, Row, Block, Heard, End, Other}

@@ -84,7 +84,9 @@ module _ (cover : Cover) where
   -- by the mask
   by-mask : (l m : List ℕ) (ms : List (List ℕ)) (found : MaskLine) → MaskJudged (cover .n) (fields l) found
       → let ls = l ∷ m ∷ ms in LinesJudged (cover .n) onMask ls 2 (badBy found (contentsWith cover (maskIn found) (drop (masksIn found) ls)) ls)
-  by-mask l m ms (M.Is w) j = on (cover .n) onMask onRows l m ms 2 (bodyBad 3 (contentsWith cover w (m ∷ ms)) (m ∷ ms)) (j .0) (ap after (j .1)) (after-mask-judged 3 w (m ∷ ms))
+  by-mask l m ms (M.Is w) j =
+      on (cover .n) onMask onRows l m ms 2 (bodyBad 3 (contentsWith cover w (m ∷ ms)) (m ∷ ms)) (j .0) (ap after (j .1))
+      (after-mask-judged 3 w (m ∷ ms))
   by-mask l m ms M.NoMask j =
       no-mask-judged (cover .n) (l ∷ m ∷ ms) j 2 (bodyBad 2 (contentsWith cover 0 (l ∷ m ∷ ms)) (l ∷ m ∷ ms)) (after-mask-judged 2 0 (l ∷ m ∷ ms))
   by-mask l m ms (M.Bad fault) j = first-here (cover .n) onMask l m ms 2 fault j

@@ -28,7 +28,8 @@ use Rattle.sheets.proofs.Parts.{after-some, from-last, from-more, parts
 use Rattle.sheets.proofs.Passing.{line-length, line-split}
 
 -- another word makes no mask line
-pub no-mask-word : (n : ℕ) (order : Order) (w : Word) (fs : List (List ℕ)) → OneOf (0 ∷ 2 ∷ 3 ∷ 4 ∷ 5 ∷ 6 ∷ []) (tagOf the-type w) → NoMask ≡ maskBy n order w fs
+pub no-mask-word : (n : ℕ) (order : Order) (w : Word) (fs : List (List ℕ)) → OneOf (0 ∷ 2 ∷ 3 ∷ 4 ∷ 5 ∷ 6 ∷ []) (tagOf the-type w)
+    → NoMask ≡ maskBy n order w fs
 no-mask-word n order W.Cover fs h = refl
 no-mask-word n order W.Mask fs h = absurd (miss (0 ∷ 2 ∷ 3 ∷ 4 ∷ 5 ∷ 6 ∷ []) 1 tt h)
 no-mask-word n order W.Row fs h = refl

@@ -15,7 +15,8 @@ use Rattle.sheets.specs.Blocks.{blocksOf, countersOf, heardFront}
 use Rattle.sheets.specs.Covers.{kindOf, orderOf, coverIs, coverFields, coverRest, coverBy, coverOf}
 use Rattle.sheets.specs.Lines.{cameAfter, rowsOf}
 use Rattle.sheets.specs.Masks.{maskFront, maskIn, masksIn}
-use Rattle.sheets.specs.Sheet.{Contents, badBy, coverFront, coverIn, contents, contentsOf, contentsWith, coverBad, endingAfter, lineBad, lineVerdict, verdict, says, reading}
+use Rattle.sheets.specs.Sheet.{Contents, coverFront, coverIn, contents, contentsOf, contentsWith, says, reading}
+use Rattle.sheets.specs.Sheet.{badBy, coverBad, endingAfter, lineBad, lineVerdict, verdict}
 use Rattle.sheets.specs.Turned.{coverTurned, restTurned, fieldsTurned, otherWord, other, underOther, LinesTurned, IsTurned}
 use Rattle.sheets.specs.declared.Order.{Order}
 use Rattle.sheets.specs.declared.Order.the-variants.{First, Last}
@@ -138,11 +139,15 @@ after-under : (c : Contents) (ls ms : List (List ℕ)) → LinesTurned ls ms →
 after-under c ls ms h e =
     let r = length (c .rows) in
     let k = length (c .blocks) in
-    fine-turned (c .n) (c .order) (cameAfter (c .heard) k) (drop k (drop r ls)) (drop k (drop r ms)) (drop-turned k (drop r ls) (drop r ms) (drop-turned r ls ms h)) e
+    let d = drop-turned k (drop r ls) (drop r ms) (drop-turned r ls ms h) in
+    fine-turned (c .n) (c .order) (cameAfter (c .heard) k) (drop k (drop r ls)) (drop k (drop r ms)) d e
 
 -- lines that end as they should are not bad, where the mask is not
-bad-under : (found : MaskLine) (c : Contents) (ls ms : List (List ℕ)) → LinesTurned ls ms → badBy found c ls ≡ J.Accepted → badBy found (underOther c) ms ≡ J.Accepted
-bad-under found c ls ms h e = by found e (after-under c (drop (masksIn found) ls) (drop (masksIn found) ms) (drop-turned (masksIn found) ls ms h) (fine-after found c ls e))
+bad-under : (found : MaskLine) (c : Contents) (ls ms : List (List ℕ)) → LinesTurned ls ms → badBy found c ls ≡ J.Accepted
+    → badBy found (underOther c) ms ≡ J.Accepted
+bad-under found c ls ms h e =
+    let k = masksIn found in
+    by found e (after-under c (drop k ls) (drop k ms) (drop-turned k ls ms h) (fine-after found c ls e))
   where
     by : (f : MaskLine) → badBy f c ls ≡ J.Accepted → endingAfter (underOther c) (drop (masksIn f) ms) ≡ Fine → badBy f (underOther c) ms ≡ J.Accepted
     by (M.Is w) g d = ap (lineVerdict (3 + length (c .rows) + length (c .blocks))) d

@@ -13,7 +13,8 @@ use Rattle.sheets.specs.Room.{laid}
 use Rattle.sheets.specs.Blocks.{samplesOf, valuesOf, blockBy, blockLine, valuesAfter, listedIn, heardRest, blocksOf, blockAt, nextLine, blockReply}
 use Rattle.sheets.specs.Lines.{rowsOf}
 use Rattle.sheets.specs.Masks.{maskFront}
-use Rattle.sheets.specs.Sheet.{coverFront, coverIn, contentsWith, refusalOf, coverBad, lengthBad, endingAfter, lineVerdict, rowsTooMany, firstRefusal, sheetAt}
+use Rattle.sheets.specs.Sheet.{coverFront, coverIn, contentsWith, sheetAt}
+use Rattle.sheets.specs.Sheet.{refusalOf, coverBad, lengthBad, endingAfter, lineVerdict, rowsTooMany, firstRefusal}
 use Rattle.sheets.specs.declared.Order.{Order}
 use Rattle.sheets.specs.declared.Order.the-variants.{First, Last}
 use Rattle.sheets.specs.declared.BlockReply.{BlockReply}
