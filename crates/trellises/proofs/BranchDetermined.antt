@@ -19,12 +19,14 @@ use Rattle.words.specs.Span.{Spans}
 use Rattle.words.specs.Word.{bit}
 
 -- from a depth, a state and a bit the next state is determined
-next-kept : (rows : List ℕ) (f l : ℕ → ℕ) → Kept rows f l → (t a b x y : ℕ) → Has (trellis rows f l) t a b x → Has (trellis rows f l) t a b y → x ≡ y
+next-kept : (rows : List ℕ) (f l : ℕ → ℕ) → Kept rows f l → (t a b x y : ℕ) → Has (trellis rows f l) t a b x → Has (trellis rows f l) t a b y
+    → x ≡ y
 next-kept rows f l s t a b x y h k =
     let e : h .place ≡ k .place = one-branch rows f l s t (h .place) (k .place) (h .there) (k .there) (h .leaves ∙ sym (k .leaves)) (h .spells ∙ sym (k .spells)) in
     sym (h .leads) ∙ ap (λ (i : ℕ). branchAt (trellis rows f l) t i .to) e ∙ k .leads
 
-pub next-determined : (rows : List ℕ) (f l : ℕ → ℕ) → Spans rows f l → (t a b x y : ℕ) → Has (trellis rows f l) t a b x → Has (trellis rows f l) t a b y → x ≡ y
+pub next-determined : (rows : List ℕ) (f l : ℕ → ℕ) → Spans rows f l → (t a b x y : ℕ) → Has (trellis rows f l) t a b x
+    → Has (trellis rows f l) t a b y → x ≡ y
 next-determined rows f l s = next-kept rows f l (spans-kept s)
 
 module _ (plate : Plate) (depth state bit : ℕ) where

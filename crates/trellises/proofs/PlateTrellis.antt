@@ -121,14 +121,16 @@ module _ (plate : Plate) (given : IsPrepared plate) where
       ap (λ (x : ℕ). 2 ^ x) (active-same (rowsOf plate) _ _ plate-spans t (λ j k e. none (record { row = j; there = k; here = e })))
 
   -- so none has fewer states than the trellis at any depth
-  pub states-least : (other : Graph) → Spells other (plate .n) (IsSum (rowsOf plate)) → (t : ℕ) → t ≤ plate .n → trellisOf plate .states t ≤ other .states t
+  pub states-least : (other : Graph) → Spells other (plate .n) (IsSum (rowsOf plate)) → (t : ℕ) → t ≤ plate .n
+      → trellisOf plate .states t ≤ other .states t
   states-least = states-minimal
 
   -- or fewer branches in any section
-  pub branches-least : (other : Graph) → Spells other (plate .n) (IsSum (rowsOf plate)) → (t : ℕ) → t < plate .n → (once : List Branch) → HasAll other t once
-      → length (trellisOf plate .branches t) ≤ length once
+  pub branches-least : (other : Graph) → Spells other (plate .n) (IsSum (rowsOf plate)) → (t : ℕ) → t < plate .n → (once : List Branch)
+      → HasAll other t once → length (trellisOf plate .branches t) ≤ length once
   branches-least other r t h once all =
-      subst (λ (x : ℕ). x ≤ length once) (sym (own-branches (plate .n) (rowsOf plate) _ _ plate-kept plate-within t)) (branches-minimal other r t h once all)
+      subst (λ (x : ℕ). x ≤ length once) (sym (own-branches (plate .n) (rowsOf plate) _ _ plate-kept plate-within t))
+      (branches-minimal other r t h once all)
 
   -- all of it
   pub plate-smallest : Smallest (trellisOf plate) (plate .n) (IsSum (rowsOf plate))

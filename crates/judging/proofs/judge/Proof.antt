@@ -57,7 +57,9 @@ first-repeating-requires : tie.Need-first-repeating-requires
 first-repeating-requires c κs = search needs
 
 add-twice : tie.Need-add-twice
-add-twice c = record { fits = omega (arith, c .before .before .before .if2 .left, c .before .before .before .before .count-lines .ensures, c .first-repeating .ensures .within) }
+add-twice c =
+    let counted = c .before .before .before .before .count-lines .ensures in
+    record { fits = omega (arith, counted, c .before .before .before .if2 .left, c .first-repeating .ensures .within) }
 
 mul-need : tie.Need-mul-need
 mul-need c = search needs

@@ -93,7 +93,9 @@ tally-requires c κs =
     (tally-fits plate given (not-64 plate (s .args .counts .now) (s .args .working .now) given (c .before .before .before .before .before .if2 .left)) h e (take (h + h) (s .args .working .now)) (length-take-le (h + h) (s .args .working .now) (omega (arith, (c .before .before .before .before .before .before .are-short .ensures .no-is (c .before .before .before .before .if3 .left) .1)))), omega (arith, (c .before .before .before .before .before .before .are-short .ensures .no-is (c .before .before .before .before .if3 .left) .0)))
 
 find-least-requires : tie.Need-find-least-requires
-find-least-requires c κs = omega (arith, c .before .before .before .before .before .before .before .before .before .before .before .before .are-short .ensures .no-is (c .before .before .before .before .before .before .before .before .before .before .if3 .left) .0, c .before .before .before .before .before .tally .ensures .0 .size)
+find-least-requires c κs =
+    let short = c .before .before .before .before .before .before .before .before .before .before in
+    omega (arith, short .before .before .are-short .ensures .no-is (short .if3 .left) .0, c .before .before .before .before .before .tally .ensures .0 .size)
 
 same-length : tie.Need-same-length
 same-length c = search needs
