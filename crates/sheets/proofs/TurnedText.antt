@@ -86,6 +86,8 @@ module _ (b : ℕ) where
 
     rest-free : (w : Word) (fs : List (List ℕ)) → AllFree b fs → AllFree b (restTurned w fs)
     rest-free W.Cover fs k = cover-free fs k
+    rest-free W.Mask [] k = k
+    rest-free W.Mask (f ∷ fs) k = (free-reverse f (k .0), k .1)
     rest-free W.Row [] k = k
     rest-free W.Row (f ∷ fs) k = (free-reverse f (k .0), k .1)
     rest-free W.Block fs k = all-reverse fs k

@@ -50,12 +50,30 @@ rowsOnly (suc k) = rowLine (49 ∷ []) ++ rowsOnly k
 
 -- ---- the paper's sheet
 
-with-first : reading (sheet first) ≡ says (record { n = 8; kind = G; order = First; rows = 15 ∷ 90 ∷ 60 ∷ 240 ∷ []; heard = false; blocks = samples ∷ []; counters = 0 ∷ [] })
+with-first : reading (sheet first) ≡ says (record {
+  n = 8;
+  kind = G;
+  order = First;
+  mask = 0;
+  rows = 15 ∷ 90 ∷ 60 ∷ 240 ∷ [];
+  heard = false;
+  blocks = samples ∷ [];
+  counters = 0 ∷ [];
+})
 unfolding verdict contents coverFields
 with-first = refl
 
 -- with last its rows are turned, and so are its samples
-with-last : reading (sheet last) ≡ says (record { n = 8; kind = G; order = Last; rows = 240 ∷ 90 ∷ 60 ∷ 15 ∷ []; heard = false; blocks = turnedSamples ∷ []; counters = 0 ∷ [] })
+with-last : reading (sheet last) ≡ says (record {
+  n = 8;
+  kind = G;
+  order = Last;
+  mask = 0;
+  rows = 240 ∷ 90 ∷ 60 ∷ 15 ∷ [];
+  heard = false;
+  blocks = turnedSamples ∷ [];
+  counters = 0 ∷ [];
+})
 unfolding verdict contents coverFields
 with-last = refl
 

@@ -1,9 +1,7 @@
 -- `coding::read_back` meets its contract: each refusal, and the information.
 use borrow.Author.Needs.{needs}
 use borrow.Author.Tests.{not-false, not-true}
-use mathlib.Core.Logic.{inl, inr}
-use mathlib.Core.Path.{_∙_, refl}
-use native.Mathlib.Omega.{arith}
+use mathlib.Core.Logic.{inl}
 use Rattle.plates.proofs.SoundIsPrepared.{sound}
 use Rattle.coding.proofs.CodingCalls.{plate-headed, read-information, read-refused, test-refuses}
 use Rattle.coding.proofs.read_back.Statement.{statement}

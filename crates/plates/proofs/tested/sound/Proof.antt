@@ -65,8 +65,8 @@ returns-7 c =
     let p = b .before .before .before .before .pre in
     alike
     (λ e. sound-parts _ _ _ _ _ (p .0) (p .1) (omega (arith, b .before .before .if1 .left)) (b .before .if2 .left) (b .if3 .left)
-      (mask-short (m .before .reaches .ensures) (m .if4 .left)) (held (u .before .used-sound .ensures) (u .if5 .left))
-      (held (c .before .before .rows-zero .ensures) (c .before .if6 .left)) e)
+    (mask-short (m .before .reaches .ensures) (m .if4 .left)) (held (u .before .used-sound .ensures) (u .if5 .left))
+    (held (c .before .before .rows-zero .ensures) (c .before .if6 .left)) e)
     (entries-part _ _ _ _ _ (p .0) (p .1)) (c .entries-zero .ensures)
 
 pub sound-spec : {M : Type 1} → statement M
