@@ -10,9 +10,9 @@
  * - Unless the reply is YENDRUFAL_DONE nothing lent changes, but for `place` beside a refusal.
  * - `place` (one cell) receives the place of a refusal, and 0 when the call is done. Calls without it
  *   refuse with place 0 only.
- * - A word has position i at the bit of weight 2^i. A positive sample favours bit 0.
  * - The words of a plate are the words of its code plus its mask, modulo 2; with mask 0 they are the code's own.
  *   Below, a codeword is a word of the plate.
+ * - A word has position i at the bit of weight 2^i. A positive sample favours bit 0.
  */
 #ifndef YENDRUFAL_INCLUDED
 #define YENDRUFAL_INCLUDED
