@@ -1,5 +1,6 @@
-/* Reads the rows of the (7,4) Hamming code from the right end and from the wrong one, and decodes the same samples with both plates.
-   Both are Hamming codes of length 7 with 16 words: nothing is refused, and the counts are the same. The profile tells them apart.
+/* Reads the rows of the (7,4) Hamming code from the left, as they are meant, and from the right, and decodes the
+   same samples with both plates. Both codes have the same n, k and m, and the same counts, and nothing is refused;
+   the profile and the word tell them apart.
 
    Build:   gcc -O2 -Iinclude examples/mirror.c target/staticlib/libexports.a -o target/mirror
    Prints:  from the left: profile 0 1 2 2 3 2 1 0, word 0111100, metric 21
