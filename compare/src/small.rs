@@ -2,6 +2,7 @@
 
 use crate::asked::{self, FIXED};
 use crate::comparison::Comparison;
+use crate::header;
 use crate::plate::Plate;
 use std::collections::HashSet;
 
@@ -38,7 +39,7 @@ fn all_questions(comparison: &mut Comparison, plate: &Plate, flat: &[u64]) {
     for word in 0..2 << n {
         comparison.agree(asked::read_back(flat, word, FIXED));
     }
-    let (metrics, decisions) = (plate.metrics_needed(), plate.decisions_needed());
+    let (metrics, decisions) = header::rooms(plate);
     for samples in all_samples(plate.n) {
         comparison.agree(asked::metric(flat, &samples, metrics, FIXED));
         comparison.agree(asked::word(flat, &samples, metrics, decisions, FIXED));
@@ -59,7 +60,7 @@ pub fn run(comparison: &mut Comparison) {
         let flat = prepared.runs[1].words().to_vec();
         let plate = Plate::from_flat(&flat).expect("no small plate is refused");
         for samples in all_samples(plate.n) {
-            let (metrics, decisions) = (plate.metrics_needed(), plate.decisions_needed());
+            let (metrics, decisions) = header::rooms(&plate);
             comparison.agree(asked::decode(&flat, &samples, metrics, decisions, FIXED));
         }
         if seen.insert(flat.clone()) {
