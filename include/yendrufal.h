@@ -17,8 +17,9 @@
  * - The library keeps nothing between calls, and has no variables, no heap and no input or output of its
  *   own. So calls may run at once, in several threads or in an interrupt, where none writes a run that
  *   another is lent; runs that are only read may be shared.
- * - Every call ends, and none calls itself. Its stack is bounded whatever the input: under 10 KiB for
- *   yendrufal_listing, under 4.25 KiB for every other call on x86-64 (docs/PERFORMANCE.md has each).
+ * - Every call ends, and no function calls itself, so the stack of a call is bounded whatever the input: on
+ *   x86-64 under 10 KiB for yendrufal_listing and about 4 KiB at most for every other call, beside what
+ *   memcpy and memset of the C library take (docs/PERFORMANCE.md has each call's bytes).
  *
  * docs/REFUSALS.md has all refusals in words: number, when, place, and which call meets them.
  */
