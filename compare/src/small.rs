@@ -59,8 +59,8 @@ pub fn run(comparison: &mut Comparison) {
         let (_, mut prepared) = comparison.agree(asked::prepare(n, kind, &rows, FIXED));
         let flat = prepared.runs[1].words().to_vec();
         let plate = Plate::from_flat(&flat).expect("no small plate is refused");
+        let (metrics, decisions) = header::rooms(&plate);
         for samples in all_samples(plate.n) {
-            let (metrics, decisions) = header::rooms(&plate);
             comparison.agree(asked::decode(&flat, &samples, metrics, decisions, FIXED));
         }
         if seen.insert(flat.clone()) {
