@@ -56,8 +56,8 @@ static uint64_t *answer(uint64_t *call) {
     size_t count = *at++;
     for (size_t i = 0; i < count; i++) {
         uint64_t width = at[0], cells = at[1];
-        runs[i].cells = (char *)(at + 2) + GUARD * width;
         runs[i].count = cells - 2 * GUARD;
+        runs[i].cells = runs[i].count == 0 ? NULL : (char *)(at + 2) + GUARD * width;
         at += 2 + (width * cells + 7) / 8;
     }
     call[0] = ask(call[0], numbers, runs);

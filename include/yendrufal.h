@@ -2,9 +2,12 @@
  * Yendrufal: plates, trellises and decoding of binary block codes of length 1 to 64.
  *
  * How the calls are alike:
- * - A run of numbers crosses as a pointer and the number of its cells. No pointer is NULL, and a run
- *   that a call may write overlaps no other run.
- * - The reply is YENDRUFAL_DONE, the number of a refusal (1 to 15, 21, 23), or one of the two codes above 99.
+ * - A run of numbers crosses as a pointer and the number of its cells. A run that a call may write
+ *   overlaps no other run. An empty run may be (NULL, 0): nothing is read or written through its
+ *   pointer. No other pointer is NULL.
+ * - The reply is YENDRUFAL_DONE, the number of a refusal, or one of the two codes above 99. Numbers that
+ *   a call may reply are 1 to 9, 11 to 14, 21 and 23, each under the calls that name it; 10, 15 and 17 to 20
+ *   stand in a listing's lines only, and the others belong to calls that this header does not have.
  * - YENDRUFAL_SHAPE comes before everything else: a run is shorter than its use fixes, or `kind` is
  *   neither G nor H. A run may be longer than its use; the cells beyond are not touched.
  * - Unless the reply is YENDRUFAL_DONE nothing lent changes, but for `place` beside a refusal.
@@ -13,6 +16,14 @@
  * - The words of a plate are the words of its code plus its mask, modulo 2; with mask 0 they are the code's own.
  *   Below, a codeword is a word of the plate.
  * - A word has position i at the bit of weight 2^i. A positive sample favours bit 0.
+ * - The library keeps nothing between calls, and has no variables, no heap and no input or output of its
+ *   own. So calls may run at once, in several threads or in an interrupt, where none writes a run that
+ *   another is lent; runs that are only read may be shared.
+ * - Every call ends, and no function calls itself, so the stack of a call is bounded whatever the input: on
+ *   x86-64 under 10 KiB for yendrufal_listing and about 4 KiB at most for every other call, beside what
+ *   memcpy and memset of the C library take (docs/PERFORMANCE.md has each call's bytes).
+ *
+ * docs/REFUSALS.md has all refusals in words: number, when, place, and which call meets them.
  */
 #ifndef YENDRUFAL_INCLUDED
 #define YENDRUFAL_INCLUDED
@@ -85,7 +96,9 @@ extern "C" {
 /* Rooms for text, in bytes. */
 #define YENDRUFAL_LINE_MOST 256    /* enough for every listing line */
 #define YENDRUFAL_SHEET_MOST 32768 /* a longer sheet is refusal 15 */
-#define YENDRUFAL_LISTING(blocks) ((size_t)YENDRUFAL_LINE_MOST * ((blocks) + 3)) /* with so many block lines */
+/* A whole listing, for a sheet with so many block or heard lines: plate, profile, tally and end besides. Whoever does
+   not count them may take the number of line feeds in the sheet. */
+#define YENDRUFAL_LISTING(lines) ((size_t)YENDRUFAL_LINE_MOST * ((size_t)(lines) + 4))
 
 /* Turns a matrix of `row_count` rows and a mask, 0 for none, into a plate. Refusals 1, 2, 3, 23, 4, in this
    order. Fixed: plate 132, place 1. */
@@ -158,7 +171,8 @@ uint64_t yendrufal_why_not(const uint64_t *plate, size_t plate_length, const int
                            uint64_t *reason, size_t reason_length, int32_t *difference,
                            size_t difference_length, uint64_t *place, size_t place_length);
 
-/* The five kinds of listing line. Each begins at the start of `line`; `written` receives its bytes,
+/* Listing lines, but for `tally`, which yendrufal_listing writes for a sheet of heard lines and no call
+   writes alone. Each begins at the start of `line`; `written` receives its bytes,
    the line feed included. Refusals 5 (where a plate is taken), 11. Fixed: plate 132, written 1.
    A refused line has number and place; the place of 10 and of 17 to 20 is a line and a field of the
    sheet, both from 1, the field 0 for 10. Of other numbers `field` is not looked at. */
@@ -176,9 +190,13 @@ uint64_t yendrufal_write_end(uint64_t count, uint8_t *line, size_t line_length, 
                              size_t written_length);
 
 /* The whole listing of a sheet, as the program `trellis` prints it: what the sheet or a block of it
-   is refused for stands in the listing, and the reply is YENDRUFAL_DONE. The working rooms must be
-   enough for every plate, and `listing` must have YENDRUFAL_LINE_MOST bytes for each line, where each
-   heard line counts as one though a repeat prints none: refusals 8, 9, 11. The working rooms are left as by decoding each block in turn. Fixed: written 1. */
+   is refused for stands in the listing, and the reply is YENDRUFAL_DONE. A sheet of heard lines has
+   before its end the line `tally` with nine numbers: lines decoded, refused, repeated, out of turn;
+   counters missing; positions where the answer opposes its sample, zero samples; the sum of metrics,
+   and the number decoded. The working rooms must be enough for every plate, and `listing` must have
+   YENDRUFAL_LINE_MOST bytes for each line, as YENDRUFAL_LISTING has, where each heard line counts as
+   one though a repeat prints none: refusals 8, 9, 11. The working rooms are left as by decoding each
+   block in turn. Fixed: written 1. */
 uint64_t yendrufal_listing(const uint8_t *sheet, size_t sheet_length, int32_t *metrics,
                            size_t metric_count, uint64_t *decisions, size_t decision_count,
                            uint8_t *listing, size_t listing_length, uint64_t *written,

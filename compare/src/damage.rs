@@ -2,6 +2,7 @@
 
 use crate::asked::{self, FIXED};
 use crate::comparison::Comparison;
+use crate::header;
 use crate::plate::{prepare, prepare_masked, Kind, Plate, PLATE_WORDS};
 use crate::random::{matrix, samples, Random};
 use crate::words::ones_before;
@@ -25,7 +26,7 @@ fn changes(random: &mut Random, old: u64) -> Vec<u64> {
 
 /// Every call that takes a plate, with arguments that are good for the plate before its damage.
 fn every_call(comparison: &mut Comparison, random: &mut Random, sound: &Plate, flat: &[u64]) {
-    let (metrics, decisions) = (sound.metrics_needed(), sound.decisions_needed());
+    let (metrics, decisions) = header::rooms(sound);
     comparison.agree(asked::branch(flat, 0, 0, random.next() % 2, FIXED));
     comparison.agree(asked::encode(flat, random.word(sound.k()), FIXED));
     comparison.agree(asked::read_back(flat, 0, FIXED));

@@ -3,11 +3,11 @@
 use crate::call::{Call, Name};
 use crate::library::*;
 
-/// A run as pointer and length, by the kind of its cells.
+/// A run as pointer and length, by the kind of its cells. An empty one is lent as NULL, which the header permits.
 macro_rules! lent {
     ($run:expr, $cells:ident) => {{
         let cells = $run.$cells();
-        (cells.as_mut_ptr(), cells.len())
+        (if cells.is_empty() { std::ptr::null_mut() } else { cells.as_mut_ptr() }, cells.len())
     }};
 }
 

@@ -4,6 +4,7 @@ use crate::asked::{self, FIXED};
 use crate::call::Call;
 use crate::coding::encode;
 use crate::comparison::Comparison;
+use crate::header;
 use crate::plate::{check_columns, profile, Kind, Plate};
 use crate::random::{matrix, samples, spoiled, Matrix, Random};
 use crate::words::ones_before;
@@ -53,7 +54,7 @@ fn named(random: &mut Random, plate: &Plate, answer: u64) -> u64 {
 
 /// Blocks of many tempers; fewer on wide plates, which cost the model most.
 fn blocks(comparison: &mut Comparison, random: &mut Random, plate: &Plate, flat: &[u64]) {
-    let (metrics, decisions) = (plate.metrics_needed(), plate.decisions_needed());
+    let (metrics, decisions) = header::rooms(plate);
     let count = match plate.widest() {
         0..=6 => 6,
         7..=9 => 3,

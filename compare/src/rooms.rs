@@ -2,13 +2,14 @@
 
 use crate::asked::{self, Rooms, FIXED};
 use crate::comparison::Comparison;
+use crate::header;
 use crate::listing::{end_line, plate_line, profile_line, refused_line, word_line};
 use crate::plate::{prepare_masked, Kind, Plate, Refusal, PLATE_WORDS};
 use crate::random::{samples, Random};
 use crate::words::ones_before;
 
 /// One plate of each width 0 to 12.
-fn plates() -> impl Iterator<Item = Plate> {
+pub fn plates() -> impl Iterator<Item = Plate> {
     let rows = |width: usize| (0..width).map(|i| 1 << i | 1 << (i + width)).collect::<Vec<u64>>();
     // those of odd width have a mask
     let mask = |width: usize| if width % 2 == 1 { 0x5_a5a5_a5a5 & ones_before(2 * width + 1) } else { 0 };
@@ -23,10 +24,10 @@ fn about(needed: usize) -> [usize; 5] {
 }
 
 fn working_rooms(comparison: &mut Comparison, random: &mut Random, plate: &Plate) {
-    let flat = plate.flat();
-    for metrics in about(plate.metrics_needed()) {
+    let (flat, needed) = (plate.flat(), header::rooms(plate));
+    for metrics in about(needed.0) {
         comparison.agree(asked::metric(&flat, &samples(random, plate.n), metrics, FIXED));
-        for decisions in about(plate.decisions_needed()) {
+        for decisions in about(needed.1) {
             let block = samples(random, plate.n);
             comparison.agree(asked::decode(&flat, &block, metrics, decisions, FIXED));
             comparison.agree(asked::word(&flat, &block, metrics, decisions, FIXED));
@@ -40,7 +41,7 @@ fn working_rooms(comparison: &mut Comparison, random: &mut Random, plate: &Plate
 /// Samples at and beyond their bounds, in number and in size, with good rooms and with none.
 fn bad_samples(comparison: &mut Comparison, random: &mut Random, plate: &Plate) {
     let flat = plate.flat();
-    let (metrics, decisions) = (plate.metrics_needed(), plate.decisions_needed());
+    let (metrics, decisions) = header::rooms(plate);
     for value in [2047, -2047, 2048, -2048, 2049, 4095, 4096, -4096, i16::MAX, i16::MIN] {
         let mut block = samples(random, plate.n);
         let place = random.below(plate.n);
@@ -74,7 +75,7 @@ fn plain_samples(comparison: &mut Comparison, plate: &Plate) {
     let flat = plate.flat();
     for count in [0, plate.n - 1, plate.n, plate.n + 1, 65, 200] {
         for value in [2047, -2047, 0, 1, -1] {
-            let (metrics, decisions) = (plate.metrics_needed(), plate.decisions_needed());
+            let (metrics, decisions) = header::rooms(plate);
             comparison.agree(asked::decode(&flat, &vec![value; count], metrics, decisions, FIXED));
             comparison.agree(asked::metric(&flat, &vec![value; count], metrics, FIXED));
             comparison.agree(asked::word(&flat, &vec![value; count], metrics, decisions, FIXED));
@@ -87,7 +88,7 @@ fn plain_samples(comparison: &mut Comparison, plate: &Plate) {
 /// Every position and some beyond, with good rooms and with none.
 fn positions(comparison: &mut Comparison, random: &mut Random, plate: &Plate) {
     let (flat, n) = (plate.flat(), plate.n as u64);
-    let (metrics, decisions) = (plate.metrics_needed(), plate.decisions_needed());
+    let (metrics, decisions) = header::rooms(plate);
     let block = samples(random, plate.n);
     for position in (0..=n + 1).chain([63, 64, 65, 1 << 32, 1 << 63, u64::MAX]) {
         comparison.agree(asked::firmness(&flat, &block, position, metrics, decisions, FIXED));
@@ -181,7 +182,7 @@ fn masks(comparison: &mut Comparison) {
 /// Every run of fixed use at lengths about its own; matrices of no kind.
 fn shapes(comparison: &mut Comparison, plate: &Plate) {
     let (flat, block) = (plate.flat(), vec![1; plate.n]);
-    let (metrics, decisions) = (plate.metrics_needed(), plate.decisions_needed());
+    let (metrics, decisions) = header::rooms(plate);
     for code in 0..5 * 3 * 4 * 3 {
         let length = [PLATE_WORDS, 0, PLATE_WORDS - 1, PLATE_WORDS + 1, 140][code % 5];
         let rooms = Rooms { plate: length, single: code / 5 % 3, counts: code / 15 % 4, place: code / 60 };

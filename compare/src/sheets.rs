@@ -2,7 +2,8 @@
 
 use crate::asked::{self, FIXED};
 use crate::comparison::Comparison;
-use crate::model::{DECISIONS_MOST, LINE_MOST, METRICS_MOST};
+use crate::header::{listing_room, rooms_most};
+use crate::model::{DONE, LINE_MOST};
 use crate::random::{matrix, samples, Random};
 use crate::sheet::SHEET_MOST;
 use crate::words::printed;
@@ -113,10 +114,11 @@ const AWKWARD: [&str; 102] = [
     "heard\t1\t5\nend\n",
 ];
 
-/// A room for three lines and one for each line of the sheet is enough.
+/// Rooms of the header's sizes are enough for every sheet.
 fn list(comparison: &mut Comparison, sheet: &[u8]) {
-    let room = LINE_MOST * (3 + sheet.iter().filter(|byte| **byte == b'\n').count());
-    comparison.agree(asked::listing(sheet, METRICS_MOST, DECISIONS_MOST, room, FIXED));
+    let (metrics, decisions) = rooms_most();
+    let call = asked::listing(sheet, metrics, decisions, listing_room(sheet), FIXED);
+    assert_eq!(comparison.agree(call).0, DONE, "{}", sheet.escape_ascii());
 }
 
 /// Short, exact and long rooms for a sheet whose listing has so many lines.

@@ -3,6 +3,7 @@
 
 use crate::asked::{self, FIXED};
 use crate::comparison::Comparison;
+use crate::header;
 use crate::plate::Plate;
 use std::collections::HashSet;
 
@@ -39,7 +40,7 @@ fn all_questions(comparison: &mut Comparison, plate: &Plate, flat: &[u64]) {
     for word in 0..2 << n {
         comparison.agree(asked::read_back(flat, word, FIXED));
     }
-    let (metrics, decisions) = (plate.metrics_needed(), plate.decisions_needed());
+    let (metrics, decisions) = header::rooms(plate);
     for samples in all_samples(plate.n) {
         comparison.agree(asked::decode(flat, &samples, metrics, decisions, FIXED));
         comparison.agree(asked::metric(flat, &samples, metrics, FIXED));
@@ -70,8 +71,8 @@ pub fn run(comparison: &mut Comparison) {
         let (_, mut prepared) = comparison.agree(asked::prepare(n, kind, &rows, FIXED));
         let flat = prepared.runs[1].words().to_vec();
         let plate = Plate::from_flat(&flat).expect("no small plate is refused");
+        let (metrics, decisions) = header::rooms(&plate);
         for samples in all_samples(plate.n) {
-            let (metrics, decisions) = (plate.metrics_needed(), plate.decisions_needed());
             comparison.agree(asked::decode(&flat, &samples, metrics, decisions, FIXED));
         }
         if seen.insert(flat.clone()) {

@@ -2,7 +2,8 @@
 
 use crate::asked::{self, FIXED};
 use crate::call::Call;
-use crate::model::{DECISIONS_MOST, LINE_MOST, METRICS_MOST, NO_BRANCH};
+use crate::header::{listing_room, rooms_most};
+use crate::model::NO_BRANCH;
 use std::fs;
 use std::path::Path;
 
@@ -45,35 +46,37 @@ impl Checked<'_> {
     }
 
     fn decodes(&mut self, plate: &[u64], samples: &[i16], answer: &str, metric: i32, counts: [u64; 2]) {
-        let call = asked::decode(plate, samples, METRICS_MOST, DECISIONS_MOST, FIXED);
+        let (metrics, decisions) = rooms_most();
+        let call = asked::decode(plate, samples, metrics, decisions, FIXED);
         let mut left = self.expect(call, 0, Some((4, 0, word(answer))));
         assert_eq!(left.runs[5].metrics(), [metric]);
         assert_eq!(left.runs[6].words(), counts);
-        let mut left = self.expect(asked::metric(plate, samples, METRICS_MOST, FIXED), 0, None);
+        let mut left = self.expect(asked::metric(plate, samples, metrics, FIXED), 0, None);
         assert_eq!((left.runs[3].metrics()[0], left.runs[4].words().to_vec()), (metric, counts.to_vec()));
-        let call = asked::word(plate, samples, METRICS_MOST, DECISIONS_MOST, FIXED);
+        let call = asked::word(plate, samples, metrics, decisions, FIXED);
         let mut left = self.expect(call, 0, Some((4, 0, word(answer))));
         assert_eq!(left.runs[5].words(), counts);
     }
 
     /// Why a word is not the answer: the number of the reason, its position, its difference.
     fn explains(&mut self, plate: &[u64], samples: &[i16], named: u64, told: [u64; 2], difference: i32) {
-        let call = asked::why_not(plate, samples, named, METRICS_MOST, DECISIONS_MOST, FIXED);
+        let (metrics, decisions) = rooms_most();
+        let call = asked::why_not(plate, samples, named, metrics, decisions, FIXED);
         let mut left = self.expect(call, 0, None);
         assert_eq!((left.runs[4].words().to_vec(), left.runs[5].metrics()[0]), (told.to_vec(), difference));
     }
 
     /// The reading of a position: whether it is fixed, and its bit or margin.
     fn reads(&mut self, plate: &[u64], samples: &[i16], position: u64, fixed: u64, value: i32) {
-        let call = asked::firmness(plate, samples, position, METRICS_MOST, DECISIONS_MOST, FIXED);
+        let (metrics, decisions) = rooms_most();
+        let call = asked::firmness(plate, samples, position, metrics, decisions, FIXED);
         let mut left = self.expect(call, 0, Some((4, 0, fixed)));
         assert_eq!(left.runs[5].metrics(), [value]);
     }
 
     fn lists(&mut self, sheet: &[u8], listing: &[u8]) {
-        // a repeated heard line takes room and prints nothing, so the sheet's lines are counted
-        let room = LINE_MOST * (3 + sheet.iter().filter(|byte| **byte == b'\n').count());
-        let call = asked::listing(sheet, METRICS_MOST, DECISIONS_MOST, room, FIXED);
+        let (metrics, decisions) = rooms_most();
+        let call = asked::listing(sheet, metrics, decisions, listing_room(sheet), FIXED);
         let mut left = self.expect(call, 0, Some((4, 0, listing.len() as u64)));
         let found = &left.runs[3].bytes()[..listing.len()];
         assert!(found == listing, "{} where {} is due", found.escape_ascii(), listing.escape_ascii());
