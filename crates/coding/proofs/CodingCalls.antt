@@ -49,10 +49,11 @@ module _ {plate : Plate} (given : IsPrepared plate) (word : ℕ) (r : Reading) (
 
       left : IsSum (rowsOf plate) (r .rest)
       left =
-          subst (IsSum (rowsOf plate)) (ap (bitXor (sumOf (rowsOf plate) (r .information))) (sym (read .together)) ∙ xor-cancel (sumOf (rowsOf plate) (r .information)) (r .rest))
-          (in-xor (record { by = r .information; sum = refl }) g)
+          let sum : ℕ = sumOf (rowsOf plate) (r .information) in
+          subst (IsSum (rowsOf plate)) (ap (bitXor sum) (sym (read .together)) ∙ xor-cancel sum (r .rest)) (in-xor (record { by = r .information; sum = refl }) g)
 
-      go : (Nothing (length (rowsOf plate)) (left .by) × (sumOf (rowsOf plate) (left .by) ≡ 0)) ⊎ Top Before (rowsOf plate) (firsts (rowsOf plate)) (left .by) → ⊥
+      go : (Nothing (length (rowsOf plate)) (left .by) × (sumOf (rowsOf plate) (left .by) ≡ 0)) ⊎ Top Before (rowsOf plate) (firsts (rowsOf plate)) (left .by)
+          → ⊥
       go (inl z) = n (sym (left .sum) ∙ z .1)
       go (inr t) =
           let k : t .0 < plate .k = omega (arith, t .1, used-rows plate (s .few) (s .table)) in

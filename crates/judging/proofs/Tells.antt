@@ -93,7 +93,7 @@ module _ (A B : Graph) where
 pub tells-flipped : (A B : Graph) (flip : ℕ) → flip < 2 → (d t u u0 u1 : ℕ) → Leads A t u (bitXor 0 flip) u0 → Leads A t u (bitXor 1 flip) u1
     → (x0 x1 x : ℕ) → Tells A B d (suc t) u0 x0 → Tells A B d (suc t) u1 x1
     → ((y : ℕ) → y ≤ B .states t → x ≡ y
-        → Leads B t y (bitXor 0 flip) x0 × Leads B t y (bitXor 1 flip) x1 × (x0 ≤ B .states (suc t)) × (x1 ≤ B .states (suc t)))
+    → Leads B t y (bitXor 0 flip) x0 × Leads B t y (bitXor 1 flip) x1 × (x0 ≤ B .states (suc t)) × (x1 ≤ B .states (suc t)))
     → ((y b : ℕ) → y ≤ B .states t → b < 2 → (z : ℕ) × Leads B t y b z × (z ≤ B .states (suc t)))
     → ((y : ℕ) → y ≤ B .states t → Leads B t y (bitXor 0 flip) x0 → Leads B t y (bitXor 1 flip) x1 → x ≡ y) → Tells A B (suc d) t u x
 tells-flipped A B zero small d t u u0 u1 a0 a1 x0 x1 x m0 m1 hits leads finds = tells-step A B d t u u0 u1 a0 a1 x0 x1 x m0 m1 hits leads finds

@@ -35,11 +35,14 @@ lead-most n room lines h j = go (decLt j lines)
 -- what looking up a line and following a branch of ours ask
 module _ {rows : List ℕ} {mask n : ℕ} {room : List ℕ} {lines t u y : ℕ} (p : Stepping rows mask n room lines t u y) where
   pub step-line : {b : ℕ} → b < 2 → (length room ≡ 4 * lines) × Within t (u - 1) b
-  step-line two = (p .asking .ready .holds .size, record {
-    depth-small = omega (arith, p .before, p .asking .ready .holds .short);
-    state-small = omega (arith, p .theirs-small);
-    bit-small = two;
-  })
+  step-line two = (
+    p .asking .ready .holds .size,
+    record {
+      depth-small = omega (arith, p .before, p .asking .ready .holds .short);
+      state-small = omega (arith, p .theirs-small);
+      bit-small = two;
+    },
+  )
 
   pub step-follow : {c : Section} → c ≡ held (sectionOf rows t) → Small c × (y ≤ 2 ^ c .live)
   step-follow {c} e =
@@ -53,7 +56,7 @@ module _ (rows : List ℕ) (mask n : ℕ) (room : List ℕ) (lines t u y : ℕ) 
   our-branch-leads : (b z : ℕ) → b < 2 → z ≡ follows c y (bitXor b (bit mask t)) → Leads (ours rows mask) t y b z × (z ≤ ours rows mask .states (suc t))
   our-branch-leads b z two e =
       let q : follows (sectionOf rows t) y (bitXor b (bit mask t)) ≡ z =
-          sym (e ∙ ap (λ (c : Section). follows c y (bitXor b (bit mask t))) (section-is (p .asking .ready .plate) t (p .before) c ec)) in (
+      sym (e ∙ ap (λ (c : Section). follows c y (bitXor b (bit mask t))) (section-is (p .asking .ready .plate) t (p .before) c ec)) in (
         subst (Leads (ours rows mask) t y b) q (leads-ours (p .asking .ready .plate) t y b (p .before) (p .ours-small) two),
         subst (λ (z : ℕ). z ≤ ours rows mask .states (suc t)) q (follows-small (p .asking .ready .plate) t y (bitXor b (bit mask t)) (p .before) (p .ours-small) (xor-lt 1 b (bit mask t) two (bit-lt t mask))),
       )

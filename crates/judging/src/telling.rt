@@ -9,7 +9,15 @@ use crate::rooms::line_from;
 use crate::rooms::told_number;
 
 // The number of ours that has the same ways as a state of theirs, where the lines of its depth are told.
-pub fn tell(rows: &[u64], mask: u64, n: usize, room: &[u64], lines: usize, t: usize, state: usize) -> usize
+pub fn tell(
+    rows: &[u64],
+    mask: u64,
+    n: usize,
+    room: &[u64],
+    lines: usize,
+    t: usize,
+    state: usize,
+) -> usize
     requires { ⌜ Asking (now rows) mask n (now room) lines t ⌝ }
     requires { ⌜ state < 1024 ⌝ }
     ensures { λ r. ⌜ Tells (theirs n lines (now (room .entry))) (ours (now (rows .entry)) mask) (n - t) t (suc state) r ⌝ }

@@ -34,3 +34,4 @@ pub mod TurnedLists
 pub mod TurnedLines
 pub mod TurnedText
 pub mod TurnedSheets
+pub mod ZeroMasks

@@ -10,9 +10,9 @@ use Rattle.plates.specs.declared.Verdict.the-variants as J
 use Rattle.sheets.specs.Text.{fields}
 use Rattle.sheets.specs.Blocks.{blocksOf, heardFront}
 use Rattle.sheets.specs.Lines.{rowsOf}
-use Rattle.sheets.specs.Masks.{maskIn, masksIn, maskOf, maskFront}
+use Rattle.sheets.specs.Masks.{maskIn, masksIn, maskOf}
 use Rattle.sheets.specs.Sheet.{contentsWith, contentsOf, bodyBad, badBy, lineBad}
-use Rattle.sheets.specs.Faults.{Part, onMask, onRows, inTurn, after, firstWord, Wrong, outOfTurn, miscounted, malformed, WrongHere, WrongAt}
+use Rattle.sheets.specs.Faults.{Part, onMask, onRows, inTurn, after, firstWord, Wrong, outOfTurn, miscounted, malformed, WrongAt}
 use Rattle.sheets.specs.declared.word.Word.{Word}
 use Rattle.sheets.specs.declared.word.Word.the-variants as W
 use Rattle.sheets.specs.declared.mask.MaskLine.{MaskLine}

@@ -1,5 +1,5 @@
 -- A sheet that is refused for a bad line is refused with its first fault, and one that is read has no fault.
-use Prim.Native.Nat.{ℕ, suc, _+_}
+use Prim.Native.Nat.{ℕ, suc}
 use lib.Dec.{eqb, ltb}
 use lib.ListN.{length, drop}
 use mathlib.Core.Bool.{Bool, true, false, cond}
@@ -15,7 +15,6 @@ use Rattle.sheets.specs.Text.{fields, lines}
 use Rattle.sheets.specs.Covers.{coverOf}
 use Rattle.sheets.specs.Sheet.{Contents, refusalOf, contentsOf, contents, coverFront, coverIn, coverBad, lineBad, inputTooLong, lengthBad, rowsTooMany, firstRefusal, verdict, says, refused, readingBy, reading}
 use Rattle.sheets.specs.Faults.{onCover, onMask, after, WrongAt, RefusedFor, tooLong, fault, badLength, manyRows}
-use Rattle.sheets.specs.declared.cover.Cover.{Cover}
 use Rattle.sheets.specs.declared.cover.CoverLine.{CoverLine}
 use Rattle.sheets.specs.declared.cover.CoverLine.the-variants as C
 use Rattle.sheets.proofs.CoverFaults.{CoverJudged, cover-judged}

@@ -12,4 +12,5 @@ pub mod Masks
 pub mod Sheet
 pub mod Faults
 pub mod Turned
+pub mod ZeroMasks
 pub mod Readers

@@ -29,9 +29,9 @@ sum-rows-requires c κs =
 
 returns-3 : tie.Need-returns-3
 returns-3 c =
-    let given = c .before .before .before .before .before .before .is-prepared .ensures .yes-is (not-false _ (c .before .before .before .before .before .if1 .left)) in
-    let short = c .before .before .before .before .reaches .ensures .no-is (c .before .before .before .if2 .left) in
-    encoded-word given short (c .sum-rows .ensures)
+    let s = c .before .before .before in
+    let given = s .before .before .before .is-prepared .ensures .yes-is (not-false _ (s .before .before .if1 .left)) in
+    encoded-word given (s .before .reaches .ensures .no-is (s .if2 .left)) (c .sum-rows .ensures)
 
 pub encode-spec : {M : Type 1} → statement M
 encode-spec =

@@ -18,13 +18,17 @@ take-rows-requires c κs = plate-headed (sound (c .before .before .before .is-pr
 
 returns-2 : tie.Need-returns-2
 returns-2 c =
-    let given = c .before .before .before .before .before .before .is-prepared .ensures .yes-is (not-false _ (c .before .before .before .before .before .if1 .left)) in
-    read-refused given (c .before .before .before .before .before .before .before .args .word) (c .before .before .take-rows .result) (c .before .before .take-rows .ensures) (c .if2 .taken)
+    let s = c .before .before .before .before .before in
+    let t = c .before .before .take-rows in
+    let given = s .before .is-prepared .ensures .yes-is (not-false _ (s .if1 .left)) in
+    read-refused given (s .before .before .args .word) (t .result) (t .ensures) (c .if2 .taken)
 
 returns-3 : tie.Need-returns-3
 returns-3 c =
-    let given = c .before .before .before .before .before .before .is-prepared .ensures .yes-is (not-false _ (c .before .before .before .before .before .if1 .left)) in
-    read-information given (c .before .before .before .before .before .before .before .args .word) (c .before .before .take-rows .result) (c .before .before .take-rows .ensures) (c .if2 .left)
+    let s = c .before .before .before .before .before in
+    let t = c .before .before .take-rows in
+    let given = s .before .is-prepared .ensures .yes-is (not-false _ (s .if1 .left)) in
+    read-information given (s .before .before .args .word) (t .result) (t .ensures) (c .if2 .left)
 
 pub read-back-spec : {M : Type 1} → statement M
 read-back-spec =

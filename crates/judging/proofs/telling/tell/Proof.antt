@@ -68,7 +68,7 @@ returns-3 c =
     let s = left .before .before .before in
     let h : s .args .t < s .args .n = omega (arith, s .pre .0 .within, left .if1 .left) in
     subst (λ (u : ℕ). Tells (theirs (s .args .n) (s .args .lines) (s .args .room .now)) (ours (s .args .rows .now) (s .args .mask)) (s .args .n - s .args .t) (s .args .t) u
-      (c .class-of .result)) (add-one (s .args .state))
+    (c .class-of .result)) (add-one (s .args .state))
     (state-told-by (s .pre .0 .ready .plate) (s .args .room .now) (s .args .lines) (s .pre .0 .ready .holds) (s .args .t) h (s .pre .0 .told h) flip
     (s .args .state + 1) _ _ _ _ (c .class-of .result) (omega (arith, s .pre .1)) (first .line-from .ensures) (second .line-from2 .ensures)
     (second .before .told-number .ensures) (c .before .told-number2 .ensures) (found .section-of .result) (found .section-of .ensures) (c .class-of .ensures))

@@ -34,8 +34,9 @@ returns c =
     let ours = c .before .before in
     let first = ours .before .before in
     let found = first .before .before in
-    step-zero _ _ _ _ _ _ _ _ (found .before .before .before .pre) (found .section-of .result) (found .section-of .ensures) (first .line-from .result)
-    (ours .follow .result) (first .line-from .ensures) (ours .follow .ensures ∙ ap (follows (found .section-of .result) _) (first .before .bit-at .ensures))
+    let s = found .before .before .before in
+    step-zero _ _ _ _ _ _ _ _ (s .pre) (found .section-of .result) (found .section-of .ensures) (first .line-from .result)
+    (ours .follow .result) (first .line-from .ensures) (ours .follow .ensures ∙ ap (follows (found .section-of .result) (s .args .y)) (first .before .bit-at .ensures))
     (λ q. c .before .if1 .taken (ours .before .told-number .ensures ∙ q)) (c .lead-number .result) (c .lead-number .ensures)
 
 line-from-requires-2 : tie.Need-line-from-requires-2
@@ -56,10 +57,11 @@ returns-2 c =
     let first = ours .before .before in
     let flip = first .before .bit-at .ensures in
     let found = first .before .before in
-    step-one _ _ _ _ _ _ _ _ (found .before .before .before .pre) (found .section-of .result) (found .section-of .ensures) (first .line-from .result)
-    (ours .follow .result) (first .line-from .ensures) (ours .follow .ensures ∙ ap (follows (found .section-of .result) _) flip)
+    let s = found .before .before .before in
+    step-one _ _ _ _ _ _ _ _ (s .pre) (found .section-of .result) (found .section-of .ensures) (first .line-from .result)
+    (ours .follow .result) (first .line-from .ensures) (ours .follow .ensures ∙ ap (follows (found .section-of .result) (s .args .y)) flip)
     (sym (ours .before .told-number .ensures) ∙ second .before .if1 .left) (second .line-from2 .result) (c .follow2 .result) (c .before .lead-number2 .result)
-    (second .line-from2 .ensures) (c .follow2 .ensures ∙ ap (λ (b : ℕ). follows (found .section-of .result) _ (bitXor 1 b)) flip) (c .before .lead-number2 .ensures)
+    (second .line-from2 .ensures) (c .follow2 .ensures ∙ ap (λ (b : ℕ). follows (found .section-of .result) (s .args .y) (bitXor 1 b)) flip) (c .before .lead-number2 .ensures)
 
 pub step-spec : {M : Type 1} → statement M
 step-spec =

@@ -1,6 +1,6 @@
 -- `mask::mask_by` meets its contract.
 use borrow.Author.Needs.{needs}
-use mathlib.Core.Path.{_∙_, ap, sym}
+use mathlib.Core.Path.{_∙_, ap}
 use Rattle.sheets.specs.Masks.{maskIs}
 use Rattle.sheets.proofs.MaskLines.{no-mask-word}
 use Rattle.sheets.proofs.mask.mask_by.Statement.{statement}
