@@ -155,15 +155,15 @@ pub fn firmness(
     if over < n {
         return Judged::Refused(Refusal::SampleRange(over));
     }
+    let sizes = sizes_of(n, plate.k, &plate.profile);
+    let metric_need = sizes.half + sizes.half;
+    let decision_need = n * sizes.words;
     if n <= position {
         return Judged::Refused(Refusal::PositionBeyond);
     }
-    let sizes = sizes_of(n, plate.k, &plate.profile);
-    let metric_need = sizes.half + sizes.half;
     if metrics.len() < metric_need {
         return Judged::Refused(Refusal::MetricRoom);
     }
-    let decision_need = n * sizes.words;
     if decisions.len() < decision_need {
         return Judged::Refused(Refusal::DecisionRoom);
     }

@@ -18,8 +18,8 @@ use Rattle.plates.specs.Prepare.{IsPrepared, Prepares, rowsOf}
 use Rattle.plates.specs.Profile.{liveAt}
 use Rattle.plates.specs.Refusals.{Passes}
 use Rattle.trellises.proofs.AcceptedIsPrepared.{accepted-code, accepted-length, accepted-prepared}
-use Rattle.trellises.proofs.PathsOnce.{nth-branch, paths-once}
-use Rattle.trellises.proofs.PlateTrellis.{plate-path-ends, plate-spans, plate-spells}
+use Rattle.trellises.proofs.PathsOnce.{kept-branch, paths-once}
+use Rattle.trellises.proofs.PlateTrellis.{plate-kept, plate-path-ends, plate-spells}
 use Rattle.trellises.specs.Branching.{Branches, branchConditions, trellisOf}
 use Rattle.trellises.specs.declared.Next.the-variants.{State}
 use Rattle.trellises.specs.Graph.{Branch, Graph, Has, Path, branchAt}
@@ -78,7 +78,7 @@ module _ (plate : Plate) (given : IsPrepared plate) (w : ℕ) where
   inside : (t a b c : ℕ) → Has (trellisOf plate) t a b c → c < 2 ^ liveAt (rowsOf plate) (suc t)
   inside t a b c h =
       subst (λ (x : ℕ). x < 2 ^ liveAt (rowsOf plate) (suc t))
-      (sym (ap (λ (b : Branch). b .to) (nth-branch (rowsOf plate) _ _ (plate-spans plate given) t (h .place) (h .there))) ∙ h .leads)
+      (sym (ap (λ (b : Branch). b .to) (kept-branch (rowsOf plate) _ _ (plate-kept plate given) t (h .place) (h .there))) ∙ h .leads)
       (gather-lt (length (rowsOf plate)) _ _)
 
   -- a run is a path through the sections that were asked for
@@ -86,14 +86,14 @@ module _ (plate : Plate) (given : IsPrepared plate) (w : ℕ) where
   run-path t s r = record { state = r .state; inside = within; branch = λ i h. r .answers i h .1 }
     where
       within : (i : ℕ) → i ≤ t → r .state i < trellisOf plate .states i
-      within zero h = omega (arith, r .begins, pow-pos (liveAt (rowsOf plate) 0))
+      within zero h = omega (arith, r .begins, plate-spells plate given .start)
       within (suc i) h = inside i _ _ _ (r .answers i h .1)
 
   -- a word's questions have one outcome
   pub runs-once : (t s s′ : ℕ) → Runs plate w t s → Runs plate w t s′ → s ≡ s′
   unfolding run-path
   runs-once t s s′ r r′ =
-      sym (r .ends) ∙ paths-once (rowsOf plate) _ _ (plate-spans plate given) t w (run-path t s r) (run-path t s′ r′) .states t (le-refl t) ∙ r′ .ends
+      sym (r .ends) ∙ paths-once (rowsOf plate) _ _ (plate-kept plate given) t w (run-path t s r) (run-path t s′ r′) .states t (le-refl t) ∙ r′ .ends
 
   -- each bit of a codeword is answered by a state, and the last by state 0
   pub codeword-runs : IsSum (rowsOf plate) w → Runs plate w (plate .n) 0
@@ -199,7 +199,7 @@ module _ (plate : Plate) (given : IsPrepared plate) (w : ℕ) where
 
       same : p .state (k .depth) ≡ k .state
       same =
-          paths-once (rowsOf plate) _ _ (plate-spans plate given) (k .depth) w part (run-path (k .depth) (k .state) (k .run)) .states (k .depth)
+          paths-once (rowsOf plate) _ _ (plate-kept plate given) (k .depth) w part (run-path (k .depth) (k .state) (k .run)) .states (k .depth)
           (le-refl (k .depth)) ∙ k .run .ends
 
 -- the same of the plate that preparing a matrix accepts: exactly the words of the matrix's code run to depth n

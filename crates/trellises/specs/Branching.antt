@@ -15,9 +15,13 @@ use Rattle.trellises.specs.declared.Next.the-variants.{State, NoBranch, 
 use Rattle.trellises.specs.Graph.{Graph, Has}
 use Rattle.trellises.specs.States.{trellis}
 
+-- the position up to which a row is kept: its last one
+abbrev pub keptTo : Plate → ℕ → ℕ
+keptTo plate j = lasts (rowsOf plate) j
+
 -- the trellis of a plate
 abbrev pub trellisOf : Plate → Graph
-trellisOf plate = trellis (rowsOf plate) (firsts (rowsOf plate)) (lasts (rowsOf plate))
+trellisOf plate = trellis (rowsOf plate) (firsts (rowsOf plate)) (keptTo plate)
 
 -- 12: the depth is n or more, the state is not present, or the bit is over 1
 abbrev pub noSuchBranch : Plate → ℕ → ℕ → ℕ → Refusal → Type 0

@@ -40,6 +40,11 @@ half-is plate given =
     (sizes-are plate given (record { n = plate .n; k = plate .k; half = 2 ^ widestEntry (plate .profile) (plate .n); words = max 1 (2 ^ widestEntry (plate .profile) (plate .n) / 64) })
     (record { n-is = refl; k-is = refl; half-is = refl; words-is = refl }))
 
+-- a room that is too short by another name of its need
+pub by-need : {A : Type 0} {a m n : ℕ} → m ≡ n → A ⊎ (a < m) → A ⊎ (a < n)
+by-need e (inl h) = inl h
+by-need e (inr h) = inr (omega arith)
+
 module _ (plate : Plate) (counts working : List ℕ) where
   pub refused-5 : (IsPrepared plate → ⊥) → CountsWeights plate counts working counts working (Refused NotPrepared)
   refused-5 n = (inl (n, refl), refl, refl)
