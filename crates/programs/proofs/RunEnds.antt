@@ -4,6 +4,8 @@ use lib.ListN.{length}
 use mathlib.Core.Bool.{Bool, true}
 use mathlib.Core.List.{List, [], _∷_}
 use mathlib.Core.Path.{_≡_, ap, refl, subst, sym, _∙_}
+use mir.Syntax.{w32}
+use mir.Val.{ofZ, toZ}
 use native.Mathlib.Omega.{arith}
 use Prim.Native.Nat.{ℕ}
 use Rattle.plates.specs.declared.Refusal.{Refusal}
@@ -36,8 +38,8 @@ status-refused h = rw h
 pub status-unwritten : {e : Ending} → e ≡ Unwritten → pos 2 ≡ statusOf e
 status-unwritten h = rw h
 
-pub status-fault : {r : ℤ} → r ≡ pos 2 → IsStatus r
-status-fault h = record { ending = Unwritten; is = h }
+pub status-fault : {r : ℤ} → r ≡ pos 2 → IsStatus (toZ w32 (ofZ w32 r))
+status-fault h = subst (λ (z : ℤ). IsStatus (toZ w32 (ofZ w32 z))) (sym h) (record { ending = Unwritten; is = refl })
 
 -- ---- the ending
 

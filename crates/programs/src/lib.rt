@@ -35,13 +35,13 @@ pub extern "C" fn plate_weights_main() -> i32
     if 1 < os::arg_count() {
         return endings::usage(b"usage: plate_weights < SHEET\n");
     }
-    let mut input = [0u8; 32769];
-    let got = streams::read_all(STDIN_FILENO, &mut input);
+    let mut sheet = [0u8; 32769];
+    let got = streams::read_all(STDIN_FILENO, &mut sheet);
     if got.failed {
         return endings::fault(b"plate_weights: standard input");
     }
     let size = got.size;
-    let ending = weighing::print_input(&input[..size]);
+    let ending = weighing::print_input(&sheet[..size]);
     endings::close(
         ending,
         b"plate_weights: ",

@@ -11,7 +11,7 @@ use Rattle.programs.proofs.trellis_main.Tie as tie
 stands : tie.Need-print-listing-requires
 stands c κs =
     let read = c .before .before .before .read-all in
-    stands-for (read .kept .1 .0 ∙ length-replicate {A = ℕ} 32769 0) (read .ensures .0 .1) (read .ensures .1) (c .before .if2 .left)
+    stands-for (read .kept .1 .0 ∙ length-replicate {A = ℕ} _ 0) (read .ensures .0 .1) (read .ensures .1) (c .before .if2 .left)
 
 pub trellis-main-spec : {M : Type 1} → statement M
 trellis-main-spec =
