@@ -182,6 +182,11 @@ impl Checked<'_> {
             let place = if reply == 7 { 5 } else { 0 };
             self.expect(asked::decode(&plate, &samples, 16, 8, FIXED), reply, Some((7, 0, place)));
         }
+        for (sample, answer) in [(2047, 0), (-2047, 15)] {
+            let mut samples = SAMPLES;
+            samples[2] = sample;
+            self.expect(asked::decode(&plate, &samples, 16, 8, FIXED), 0, Some((4, 0, answer)));
+        }
     }
 
     fn matrices_at_bounds(&mut self) {
@@ -195,6 +200,23 @@ impl Checked<'_> {
         self.expect(asked::prepare(26, 0, &pairs(13), FIXED), 4, Some((2, 0, 13)));
         self.expect(asked::prepare_masked(26, 0, &pairs(13), 1 << 26, FIXED), 23, Some((2, 0, 0)));
         self.expect(asked::prepare_masked(8, 0, &[1, 256], 256, FIXED), 3, Some((2, 0, 1)));
+        let top = [1, 1 << 63];
+        let table: [(u64, u64, &[u64], [u64; 2]); 3] =
+            [(64, 1, &[], [64, 0]), (64, 0, &[3; 64], [1, 1]), (64, 1, &top, [62, 0])];
+        for (n, kind, rows, rows_and_width) in table {
+            let plate = self.plate(n, kind, rows);
+            assert_eq!([plate[1], *plate[66..].iter().max().unwrap()], rows_and_width);
+        }
+        self.expect(asked::prepare(64, 0, &[3; 65], FIXED), 2, Some((2, 0, 0)));
+        self.expect(asked::prepare(63, 1, &top, FIXED), 3, Some((2, 0, 1)));
+    }
+
+    /// The sheet's rows as parity check, and in another order, give the same plate.
+    fn the_same_plate(&mut self) {
+        let plate = self.plate(8, 0, &ROWS.map(word));
+        let [a, b, c, d] = ROWS.map(word);
+        assert_eq!(self.plate(8, 1, &[a, b, c, d]), plate);
+        assert_eq!(self.plate(8, 0, &[c, a, d, b]), plate);
     }
 }
 
@@ -206,6 +228,7 @@ pub fn examples(answer: Answer) -> usize {
     checked.the_masked_sheet();
     checked.the_sheet_at_bounds();
     checked.matrices_at_bounds();
+    checked.the_same_plate();
     checked.count
 }
 
