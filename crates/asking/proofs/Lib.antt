@@ -5,3 +5,4 @@ pub mod Replies
 pub mod OneReason
 pub mod EveryWord
 pub mod WhyNotDetermined
+pub mod AskingUnmasked

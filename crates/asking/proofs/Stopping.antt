@@ -50,7 +50,9 @@ module _ {plate : Plate} (given : IsPrepared plate) (w rest : ℕ) (left : rest 
     -- a word of the plate that goes on with the word at q would differ there from that one, so that q were a head; nothing is left at heads
     pub not-continued : Continued (IsWord plate) w q → ⊥
     not-continued c =
-        zero-one (ap (λ (x : ℕ). bit x q) left ∙ off-clear plate given (bitXor w (plate .mask)) (bitXor (c .by) off) q (sum-of-words plate (c .by) off (c .codeword) off-word) begins)
+        zero-one
+        (ap (λ (x : ℕ). bit x q) left
+        ∙ off-clear plate given (bitXor w (plate .mask)) (bitXor (c .by) off) q (sum-of-words plate (c .by) off (c .codeword) off-word) begins)
         (f .one)
       where
         begins : First (bitXor (c .by) off) q

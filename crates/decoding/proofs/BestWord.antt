@@ -11,10 +11,10 @@ use Prim.Native.Nat.{ℕ}
 use Rattle.decoding.proofs.BestWay.{Way, attains, none-beats}
 use Rattle.decoding.proofs.BranchesCounted.{additions-are-branches, comparisons-are-entering-less-one}
 use Rattle.decoding.proofs.IntegerOrder.{<ℤ-≤ℤ}
-use Rattle.decoding.proofs.MaskedWords.{code-word, earlier-word, restOf, word-code, xor-back}
+use Rattle.decoding.proofs.MaskedWords.{code-word, earlier-word, restOf, word-code}
 use Rattle.decoding.proofs.PlateWays.{codeword-way, plate-chain, start-state, way-codeword}
 use Rattle.decoding.proofs.StateChoice.{Under}
-use Rattle.decoding.proofs.TurnedSamples.{turned-length, turned-metric}
+use Rattle.decoding.proofs.TurnedSamples.{turned-back, turned-length, turned-metric}
 use Rattle.decoding.specs.Backward.{best, counted, wordFrom}
 use Rattle.decoding.specs.declared.Answer.{Answer}
 use Rattle.decoding.specs.declared.Counts.{Counts}
@@ -23,6 +23,7 @@ use Rattle.decoding.specs.Metric.{metricOf}
 use Rattle.decoding.specs.Turning.{turnedBy}
 use Rattle.plates.specs.declared.Plate.{Plate}
 use Rattle.plates.specs.Prepare.{IsPrepared, IsWord, rowsOf}
+use Rattle.trellises.proofs.MaskedGraph.{xor-twice}
 use Rattle.trellises.specs.declared.Section.{Section}
 use Rattle.trellises.specs.SectionOf.{sectionOf}
 use Rattle.words.specs.Sum.{IsSum}
@@ -66,24 +67,21 @@ module _ (plate : Plate) (given : IsPrepared plate) (samples : List ℤ) (size :
   gains-size : length (turnedBy (restOf plate) samples) ≡ plate .n
   gains-size = turned-length (restOf plate) samples ∙ size
 
-  -- a word scores with the samples what the codeword plus rest scores with the gains
-  word-metric : (w : ℕ) → metricOf gains (bitXor w (restOf plate)) ≡ metricOf samples w
-  word-metric w = turned-metric (restOf plate) samples (bitXor w (restOf plate)) ∙ ap (metricOf samples) (xor-back w (restOf plate))
-
   -- the codeword that is read off
   abbrev read : ℕ
   read = wordFrom (sectionOf (rowsOf plate)) gains 0 0
 
   word-under : (w : ℕ) → IsWord plate w → Under (best (sectionOf (rowsOf plate)) gains 0 0) read (bitXor w (restOf plate)) (metricOf samples w)
   word-under w g =
-      subst (Under _ _ (bitXor w (restOf plate))) (word-metric w) (under plate given gains gains-size (bitXor w (restOf plate)) (word-code plate w g))
+      subst (Under _ _ (bitXor w (restOf plate))) (turned-back (restOf plate) samples w)
+      (under plate given gains gains-size (bitXor w (restOf plate)) (word-code plate w g))
 
   -- where it is another's or earlier, so is its word
   word-earlier : (w : ℕ) → IsWord plate w → (read ≡ bitXor w (restOf plate)) ⊎ Earlier read (bitXor w (restOf plate))
       → (bitXor read (restOf plate) ≡ w) ⊎ Earlier (bitXor read (restOf plate)) w
-  word-earlier w g (inl e) = inl (ap (λ (x : ℕ). bitXor x (restOf plate)) e ∙ xor-back w (restOf plate))
+  word-earlier w g (inl e) = inl (ap (λ (x : ℕ). bitXor x (restOf plate)) e ∙ xor-twice w (restOf plate))
   word-earlier w g (inr e) =
-      inr (subst (Earlier _) (xor-back w (restOf plate))
+      inr (subst (Earlier _) (xor-twice w (restOf plate))
       (earlier-word plate given read (bitXor w (restOf plate)) (read-codeword plate given gains gains-size) (word-code plate w g) e))
 
   pub best-word : (a : Answer) → a .word ≡ bitXor (wordFrom (sectionOf (rowsOf plate)) (turnedBy (restOf plate) samples) 0 0) (restOf plate)

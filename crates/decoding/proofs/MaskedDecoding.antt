@@ -9,8 +9,8 @@ use Prim.Native.Nat.{ℕ}
 use Rattle.decoding.proofs.DecodeDetermined.{counts-same}
 use Rattle.decoding.proofs.IntegerOrder.{≤ℤ-antisym}
 use Rattle.decoding.proofs.MaskedCounts.{mask-branches, mask-entering}
-use Rattle.decoding.proofs.MaskedWords.{words-plain, xor-back}
-use Rattle.decoding.proofs.TurnedSamples.{turned-metric}
+use Rattle.decoding.proofs.MaskedWords.{words-plain}
+use Rattle.decoding.proofs.TurnedSamples.{turned-back, turned-metric}
 use Rattle.decoding.specs.Apart.{BestMetric, BestMetricIn, BestSelection, BestSelectionIn}
 use Rattle.decoding.specs.declared.Answer.{Answer}
 use Rattle.decoding.specs.declared.apart.Measure.{Measure}
@@ -23,6 +23,7 @@ use Rattle.decoding.specs.Totals.{branchTotal, enteringLessOne}
 use Rattle.decoding.specs.Turning.{turnedBy}
 use Rattle.plates.specs.declared.Plate.{Plate}
 use Rattle.plates.specs.Prepare.{IsWord, rowsOf}
+use Rattle.trellises.proofs.MaskedGraph.{xor-twice}
 use Rattle.trellises.specs.Branching.{codeTrellis, trellisOf}
 use Rattle.words.specs.Sum.{IsSum}
 use Rattle.words.specs.Word.{Earlier}
@@ -68,11 +69,7 @@ module _ (plate : Plate) (samples : List ℤ) where
   plain-word w g = subst (IsSum (rowsOf plate)) (sym (xor-zero-r (bitXor w (plate .mask)))) g
 
   masked-word : (v : ℕ) → IsWord (plainOf plate) v → IsWord plate (bitXor v (plate .mask))
-  masked-word v g = subst (IsSum (rowsOf plate)) (xor-zero-r v ∙ sym (xor-back v (plate .mask))) g
-
-  -- and scores with the turned samples what the word scores with the samples
-  plain-metric : (w : ℕ) → metricOf (turnedBy (plate .mask) samples) (bitXor w (plate .mask)) ≡ metricOf samples w
-  plain-metric w = turned-metric (plate .mask) samples (bitXor w (plate .mask)) ∙ ap (metricOf samples) (xor-back w (plate .mask))
+  masked-word v g = subst (IsSum (rowsOf plate)) (xor-zero-r v ∙ sym (xor-twice v (plate .mask))) g
 
   -- both trellises have as many branches, and as many entering each state
   same-branches : branchTotal (trellisOf plate) (plate .n) ≡ branchTotal (trellisOf (plainOf plate)) (plate .n)
@@ -88,7 +85,7 @@ module _ (plate : Plate) (samples : List ℤ) where
       there : Best plate samples a → PlainlyBest (plainOf plate) (plate .mask) samples a
       there b = record {
         codeword = plain-word (a .word) (b .codeword);
-        metric = b .metric ∙ sym (plain-metric (a .word));
+        metric = b .metric ∙ sym (turned-back (plate .mask) samples (a .word));
         greatest = λ v g.
             subst (λ (m : ℤ). m ≤ℤ a .metric) (sym (turned-metric (plate .mask) samples v)) (b .greatest (bitXor v (plate .mask)) (masked-word v g));
         earliest = λ v g t. b .earliest (bitXor v (plate .mask)) (masked-word v g) (sym (turned-metric (plate .mask) samples v) ∙ t);
@@ -98,12 +95,12 @@ module _ (plate : Plate) (samples : List ℤ) where
 
       back : PlainlyBest (plainOf plate) (plate .mask) samples a → Best plate samples a
       back b = record {
-        codeword = subst (IsWord plate) (xor-back (a .word) (plate .mask)) (masked-word (bitXor (a .word) (plate .mask)) (b .codeword));
-        metric = b .metric ∙ plain-metric (a .word);
-        greatest = λ w g. subst (λ (m : ℤ). m ≤ℤ a .metric) (plain-metric w) (b .greatest (bitXor w (plate .mask)) (plain-word w g));
+        codeword = subst (IsWord plate) (xor-twice (a .word) (plate .mask)) (masked-word (bitXor (a .word) (plate .mask)) (b .codeword));
+        metric = b .metric ∙ turned-back (plate .mask) samples (a .word);
+        greatest = λ w g. subst (λ (m : ℤ). m ≤ℤ a .metric) (turned-back (plate .mask) samples w) (b .greatest (bitXor w (plate .mask)) (plain-word w g));
         earliest = λ w g t.
-            subst (λ (x : ℕ). (a .word ≡ x) ⊎ Earlier (a .word) x) (xor-back w (plate .mask))
-            (b .earliest (bitXor w (plate .mask)) (plain-word w g) (plain-metric w ∙ t));
+            subst (λ (x : ℕ). (a .word ≡ x) ⊎ Earlier (a .word) x) (xor-twice w (plate .mask))
+            (b .earliest (bitXor w (plate .mask)) (plain-word w g) (turned-back (plate .mask) samples w ∙ t));
         additions = b .additions ∙ sym same-branches;
         comparisons = b .comparisons ∙ sym same-entering;
       }

@@ -9,15 +9,11 @@ use Rattle.plates.proofs.SoundIsPrepared.{sound}
 use Rattle.plates.specs.declared.Plate.{Plate}
 use Rattle.plates.specs.Prepare.{IsPrepared, IsWord, rowsOf}
 use Rattle.words.proofs.Sums.{in-xor, in-zero}
-use Rattle.words.proofs.Word.{bit-xor, differ-self, xor-assoc, xor-cancel, xor-self}
+use Rattle.words.proofs.Word.{bit-xor, differ-self, xor-assoc, xor-self}
 use Rattle.words.specs.Ends.{firsts}
 use Rattle.words.specs.Span.{First}
 use Rattle.words.specs.Sum.{IsSum}
 use Rattle.words.specs.Word.{Earlier, bit}
-
--- added twice, a word is gone
-pub xor-back : (a b : ℕ) → bitXor (bitXor a b) b ≡ a
-xor-back a b = xor-assoc a b b ∙ ap (bitXor a) (xor-self b) ∙ xor-zero-r a
 
 -- what is left of the mask once the plate's rows are taken off it
 abbrev pub restOf : Plate → ℕ

@@ -56,7 +56,7 @@ module _ (plate : Plate) (given : IsPrepared plate) where
   abbrev pub plateSizes : Sizes
   plateSizes = record { n = plate .n; k = plate .k; half = 2 ^ widest plate; words = sectionWords plate; rest = restOf plate }
 
-  entry-widest : widestEntry (plate .profile) (plate .n) ≡ widest plate
+  pub entry-widest : widestEntry (plate .profile) (plate .n) ≡ widest plate
   entry-widest = widest-same (plate .profile) (rowsOf plate) (plate .n) (sound given .profile)
 
   pub sizes-are : (z : Sizes) → SizesOf (plate .n) (plate .k) (plate .mask) (plate .rows) (plate .profile) z → z ≡ plateSizes

@@ -4,7 +4,7 @@ use lib.ListN.{drop, getD, length}
 use mathlib.Core.List.{List, [], _∷_}
 use mathlib.Core.Path.{ap, ap₂, refl, subst, sym, _∙_, _≡_}
 use native.Mathlib.Omega.{arith}
-use Prim.Native.Nat.{_<_, _^_, suc, suc-le-suc, zero, zero-le, ℕ, _≤_}
+use Prim.Native.Nat.{_<_, _^_, suc, suc-le-suc, zero, zero-le, ℕ}
 use Rattle.decoding.specs.Cosets.{lessRow, takenOff}
 use Rattle.words.proofs.Sums.{in-cons, in-row, in-xor, in-zero}
 use Rattle.words.proofs.Word.{below-bits, bit-lt, bit-xor, bit-zero, bits-below, xor-assoc, xor-cancel, xor-self}
@@ -64,6 +64,11 @@ off-cleared (row ∷ rows) w leads rising (suc j) h =
 pub off-below : (n : ℕ) (rows : List ℕ) (w : ℕ) → ((j : ℕ) → j < length rows → getD rows j 0 < 2 ^ n) → w < 2 ^ n → takenOff rows w < 2 ^ n
 off-below n rows w below h =
     below-bits n (takenOff rows w) (λ i k. off-keeps rows w i (λ j l. bits-below n (getD rows j 0) (below j l) i k) ∙ bits-below n w h i k)
+
+-- ---- determined
+
+pub rest-determined : (rows : List ℕ) (word r s : ℕ) → r ≡ takenOff rows word → s ≡ takenOff rows word → r ≡ s
+rest-determined rows word r s x y = x ∙ sym y
 
 -- ---- as the code takes rows off
 

@@ -14,6 +14,7 @@ use Rattle.decoding.proofs.Preference.{sign-copy}
 use Rattle.decoding.specs.Metric.{metricOf}
 use Rattle.decoding.specs.Taking.{signed}
 use Rattle.decoding.specs.Turning.{turnedBy}
+use Rattle.trellises.proofs.MaskedGraph.{xor-twice}
 use Rattle.words.proofs.Word.{xor-half, xor-odd}
 use Rattle.words.specs.Word.{bit}
 
@@ -62,3 +63,7 @@ turned-metric m [] w = refl
 turned-metric m (y ∷ ys) w =
     ap₂ _+ℤ_ (signed-twice (w % 2) (m % 2) y (omega arith) (omega arith) ∙ ap (λ (d : ℕ). signed d y) (sym (xor-odd w m)))
     (turned-metric (m / 2) ys (w / 2) ∙ ap (metricOf ys) (sym (xor-half w m)))
+
+-- so the word with those positions turned scores with them what the word scores with the samples
+pub turned-back : (m : ℕ) (ys : List ℤ) (w : ℕ) → metricOf (turnedBy m ys) (bitXor w m) ≡ metricOf ys w
+turned-back m ys w = turned-metric m ys (bitXor w m) ∙ ap (metricOf ys) (xor-twice w m)
