@@ -73,8 +73,8 @@ refusal-place refusal r s x y = x ∙ sym y
 pub refusal-field : (refusal : Refusal) (r s : ℕ) → r ≡ field refusal → s ≡ field refusal → r ≡ s
 refusal-field refusal r s x y = x ∙ sym y
 
--- preparing a matrix
-pub prepare : (n : ℕ) (kind : Kind) (rows : List ℕ) (r s : Prepared) → Prepares n kind rows r → Prepares n kind rows s → r ≡ s
+-- preparing a matrix and a mask
+pub prepare : (n : ℕ) (kind : Kind) (rows : List ℕ) (mask : ℕ) (r s : Prepared) → Prepares n kind rows mask r → Prepares n kind rows mask s → r ≡ s
 prepare = prepare-determined
 
 -- the test of a plate
@@ -97,7 +97,7 @@ section-of rows t r s x y = x ∙ sym y
 pub encode : (plate : Plate) (information : ℕ) (r s : Encoded) → Encodes plate information r → Encodes plate information s → r ≡ s
 encode = encode-determined
 
--- reading a codeword back
+-- reading a word back
 pub read-back : (plate : Plate) (word : ℕ) (r s : ReadBack) → ReadsBack plate word r → ReadsBack plate word s → r ≡ s
 read-back = read-back-determined
 

@@ -21,7 +21,7 @@ use Rattle.demands.specs.Refusing.{Numbered, RefusesExactly}
 use Rattle.plates.proofs.Refusing.{never-both}
 use Rattle.plates.specs.declared.Plate.{Plate}
 use Rattle.plates.specs.declared.Refusal.{Refusal}
-use Rattle.plates.specs.Prepare.{IsPrepared}
+use Rattle.plates.specs.Prepare.{IsPrepared, IsWord}
 use Rattle.plates.specs.Refusals.{Passes, number}
 use Rattle.words.specs.Word.{bit}
 use Rattle.decoding.specs.declared.Decoded.the-variants as D
@@ -89,5 +89,5 @@ module _ (plate : Plate) (samples : List ℤ) (position : ℕ) (metrics : List �
         margin-bounds plate samples position metrics decisions metrics′ decisions′ f (subst (Judges plate samples position metrics decisions metrics′ decisions′) e p) o
 
   -- no position is both fixed and open
-  pub fixed-or-open : (b m : ℤ) → Always plate position b → Margin plate samples position m → ⊥
+  pub fixed-or-open : (b m : ℤ) → Always (IsWord plate) position b → Margin (IsWord plate) samples position m → ⊥
   fixed-or-open = not-both-readings plate samples position

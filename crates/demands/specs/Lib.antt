@@ -1,3 +1,4 @@
 pub mod Refusing
 pub mod Greatest
+pub mod Masks
 pub mod Examples
