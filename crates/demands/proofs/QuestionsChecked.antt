@@ -83,13 +83,13 @@ module _ (plate : Plate) (samples : List ℤ) (position : ℕ) where
 
 module _ (plate : Plate) (w : ℕ) where
   -- some word has its bits up to i
-  abbrev pub continued : (i : ℕ) → Check (Continued plate w i)
+  abbrev pub continued : (i : ℕ) → Check (Continued (IsWord plate) w i)
   continued i =
       by (λ s. record { by = s .0; codeword = s .1; same = λ j h. s .2 j (suc-le-suc h) })
       (somePlateWord plate (λ c. each (suc i) (λ j. equal (bit c j) (bit w j))))
 
   -- each word has another one
-  abbrev pub uncontinued : (i : ℕ) → Check (Continued plate w i → ⊥)
+  abbrev pub uncontinued : (i : ℕ) → Check (Continued (IsWord plate) w i → ⊥)
   uncontinued i =
       by (λ h c. let x = h (c .by) (c .codeword) in x .2 (c .same (x .0) (omega (arith, x .1))))
       (plateWords plate (λ c. some (suc i) (λ j. unequal (bit c j) (bit w j))))

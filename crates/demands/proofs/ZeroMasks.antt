@@ -7,20 +7,24 @@ use mathlib.Core.Logic.{inl, inr, _↔_}
 use mathlib.Core.Path.{ap, fun-ext, refl, subst, sym, _∙_, _≡_}
 use native.Mathlib.Omega.{arith}
 use Prim.Native.Nat.{_^_, ℕ, _≤_}
+use Rattle.asking.specs.Asking.{Asks, Explains}
+use Rattle.asking.specs.declared.Reason.{Reason}
 use Rattle.coding.proofs.ZeroMask.{zero-mask-encodes, zero-mask-reads-back}
 use Rattle.coding.specs.Coding.{Encodes, ReadsBack}
 use Rattle.coding.specs.declared.Encoded.{Encoded}
 use Rattle.coding.specs.declared.ReadBack.{ReadBack}
 use Rattle.coding.specs.Unmasked.{EncodesCodeword, ReadsCodeword}
 use Rattle.decoding.proofs.MaskedDecoding.{decode-unmasked, firmness-unmasked, metric-unmasked, word-unmasked}
-use Rattle.decoding.specs.Apart.{BestMetric, BestMetricIn, BestSelection, BestSelectionIn}
+use Rattle.decoding.proofs.MaskedWords.{words-plain}
+use Rattle.decoding.specs.Apart.{Chooses, Measures}
 use Rattle.decoding.specs.declared.Answer.{Answer}
-use Rattle.decoding.specs.declared.apart.Measure.{Measure}
-use Rattle.decoding.specs.declared.apart.Selection.{Selection}
-use Rattle.decoding.specs.declared.firmness.Flag.{Flag}
-use Rattle.decoding.specs.Decode.{Best, BestIn}
-use Rattle.decoding.specs.Firmness.{FlagOf}
-use Rattle.demands.specs.Masks.{BranchesIn, IsPreparedUnmasked, PreparesUnmasked, unmaskedConditions}
+use Rattle.decoding.specs.declared.apart.Chosen.{Chosen}
+use Rattle.decoding.specs.declared.apart.Measured.{Measured}
+use Rattle.decoding.specs.declared.Decoded.{Decoded}
+use Rattle.decoding.specs.declared.firmness.Judged.{Judged}
+use Rattle.decoding.specs.Decode.{Decodes}
+use Rattle.decoding.specs.Firmness.{Judges}
+use Rattle.demands.specs.Unmasked.{AsksCodeword, BranchesIn, ChoosesCodeword, DecodesCodeword, ExplainsIn, IsPreparedUnmasked, JudgesCodeword, MeasuresCodeword, PreparesUnmasked, unmaskedConditions}
 use Rattle.plates.proofs.PrepareDetermined.{prepare-determined}
 use Rattle.plates.proofs.SoundIsPrepared.{sound}
 use Rattle.plates.specs.Code.{InCode}
@@ -29,17 +33,24 @@ use Rattle.plates.specs.declared.Kind.the-variants.{G}
 use Rattle.plates.specs.declared.Plate.{Plate}
 use Rattle.plates.specs.declared.Prepared.{Prepared}
 use Rattle.plates.specs.declared.Refusal.{Refusal}
-use Rattle.plates.specs.declared.Verdict.{Verdict}
 use Rattle.plates.specs.declared.Verdict.the-variants.{Accepted, Refused}
 use Rattle.plates.specs.Prepare.{IsPrepared, IsWord, Prepares, PreparesAs, prepareConditions, rowsOf}
 use Rattle.plates.specs.Refusals.{Passes, Refuses}
 use Rattle.trellises.specs.Branching.{Branches, codeTrellis, trellisOf}
 use Rattle.trellises.specs.declared.Next.{Next}
-use Rattle.trellises.specs.declared.Next.the-variants as N
 use Rattle.trellises.specs.Graph.{Branch, Graph}
 use Rattle.trellises.specs.Masking.{masked, turnedAll}
 use Rattle.words.proofs.Word.{bit-zero}
 use Rattle.words.specs.Sum.{IsSum}
+use Rattle.asking.specs.declared.Reason.the-variants as Y
+use Rattle.asking.specs.declared.Verdict.the-variants as V
+use Rattle.asking.specs.declared.Verdict.{Verdict}
+use Rattle.decoding.specs.declared.apart.Chosen.the-variants as C
+use Rattle.decoding.specs.declared.apart.Measured.the-variants as M
+use Rattle.decoding.specs.declared.Decoded.the-variants as D
+use Rattle.decoding.specs.declared.firmness.Judged.the-variants as J
+use Rattle.plates.specs.declared.Verdict as P
+use Rattle.trellises.specs.declared.Next.the-variants as N
 
 -- ---- prepare
 
@@ -58,7 +69,7 @@ module _ (n : ℕ) (kind : Kind) (rows : List ℕ) where
   with-23 q (inr (a, inr (b, inl c))) = inr (a, inr (b, inl c))
   with-23 q (inr (a, inr (b, inr (c, d)))) = inr (a, inr (b, inr (c, inr ((λ x m. omega (arith, m .0, pow-pos n)), d))))
 
-  reply-unmasked : (v : Verdict) (plate : Plate)
+  reply-unmasked : (v : P.Verdict) (plate : Plate)
       → PreparesAs (prepareConditions n kind rows 0) (InCode kind n rows) n 0 plate v
       ↔ PreparesAs (unmaskedConditions n kind rows) (InCode kind n rows) n 0 plate v
   reply-unmasked (Refused q) plate = ((λ x. (without-23 q (x .0), x .1)), λ x. (with-23 q (x .0), x .1))
@@ -70,8 +81,8 @@ module _ (n : ℕ) (kind : Kind) (rows : List ℕ) where
       long : Passes (unmaskedConditions n kind rows) → Passes (prepareConditions n kind rows 0)
       long (a, (b, (c, d))) = (a, (b, (c, ((λ x m. omega (arith, m .0, pow-pos n)), d))))
 
-  pub prepare-unmasked : (r : Prepared) → Prepares n kind rows 0 r ↔ PreparesUnmasked n kind rows r
-  prepare-unmasked r =
+  pub prepare-zero-mask : (r : Prepared) → Prepares n kind rows 0 r ↔ PreparesUnmasked n kind rows r
+  prepare-zero-mask r =
       ((λ p. reply-unmasked (r .verdict) (r .plate) .0 (p .reply)), λ x. record { reply = reply-unmasked (r .verdict) (r .plate) .1 x })
 
 -- ---- refusal 5, and so the lines that take a plate
@@ -86,15 +97,15 @@ pub mask-beyond-not-prepared : (plate : Plate) → 2 ^ plate .n ≤ plate .mask 
 mask-beyond-not-prepared plate h p = omega (arith, h, sound p .masked)
 
 module _ (plate : Plate) (none : plate .mask ≡ 0) where
-  pub is-prepared-unmasked : IsPrepared plate ↔ IsPreparedUnmasked plate
-  is-prepared-unmasked = (
+  pub is-prepared-zero-mask : IsPrepared plate ↔ IsPreparedUnmasked plate
+  is-prepared-zero-mask = (
     (λ p. (
       p .few,
-      prepare-unmasked (plate .n) G (rowsOf plate) own .0 (subst (λ (m : ℕ). Prepares (plate .n) G (rowsOf plate) m own) none (p .same)),
+      prepare-zero-mask (plate .n) G (rowsOf plate) own .0 (subst (λ (m : ℕ). Prepares (plate .n) G (rowsOf plate) m own) none (p .same)),
     )),
     λ x. record {
       few = x .0;
-      same = subst (λ (m : ℕ). Prepares (plate .n) G (rowsOf plate) m own) (sym none) (prepare-unmasked (plate .n) G (rowsOf plate) own .1 (x .1));
+      same = subst (λ (m : ℕ). Prepares (plate .n) G (rowsOf plate) m own) (sym none) (prepare-zero-mask (plate .n) G (rowsOf plate) own .1 (x .1));
     },
   )
     where
@@ -108,42 +119,82 @@ module _ (plate : Plate) (none : plate .mask ≡ 0) where
   turned-none [] = refl
   turned-none (b ∷ bs) = ap (λ (x : List Branch). b ∷ x) (turned-none bs)
 
-  pub trellis-unmasked : trellisOf plate ≡ codeTrellis plate
-  trellis-unmasked =
+  pub trellis-zero-mask : trellisOf plate ≡ codeTrellis plate
+  trellis-zero-mask =
       ap (λ (m : ℕ). masked m (codeTrellis plate)) none
       ∙ ap (λ (f : ℕ → List Branch). record { states = codeTrellis plate .states; branches = f })
       (fun-ext (λ t. ap (λ (d : ℕ). turnedAll d (codeTrellis plate .branches t)) (bit-zero t) ∙ turned-none (codeTrellis plate .branches t)))
 
   in-code : (depth state bit : ℕ) (r : Next) → BranchesIn (trellisOf plate) plate depth state bit r ↔ BranchesIn (codeTrellis plate) plate depth state bit r
   in-code depth state bit r = (
-    subst (λ (g : Graph). BranchesIn g plate depth state bit r) trellis-unmasked,
-    subst (λ (g : Graph). BranchesIn g plate depth state bit r) (sym trellis-unmasked),
+    subst (λ (g : Graph). BranchesIn g plate depth state bit r) trellis-zero-mask,
+    subst (λ (g : Graph). BranchesIn g plate depth state bit r) (sym trellis-zero-mask),
   )
 
-  pub branch-unmasked : (depth state bit : ℕ) (r : Next) → Branches plate depth state bit r ↔ BranchesIn (codeTrellis plate) plate depth state bit r
-  branch-unmasked depth state bit (N.State next) = in-code depth state bit (N.State next)
-  branch-unmasked depth state bit N.NoBranch = in-code depth state bit N.NoBranch
-  branch-unmasked depth state bit (N.Refused q) = in-code depth state bit (N.Refused q)
+  pub branch-zero-mask : (depth state bit : ℕ) (r : Next) → Branches plate depth state bit r ↔ BranchesIn (codeTrellis plate) plate depth state bit r
+  branch-zero-mask depth state bit (N.State next) = in-code depth state bit (N.State next)
+  branch-zero-mask depth state bit N.NoBranch = in-code depth state bit N.NoBranch
+  branch-zero-mask depth state bit (N.Refused q) = in-code depth state bit (N.Refused q)
 
   -- ---- encode and read back
 
-  pub encode-unmasked : (information : ℕ) (r : Encoded) → Encodes plate information r ↔ EncodesCodeword plate information r
-  encode-unmasked = zero-mask-encodes plate none
+  pub encode-zero-mask : (information : ℕ) (r : Encoded) → Encodes plate information r ↔ EncodesCodeword plate information r
+  encode-zero-mask = zero-mask-encodes plate none
 
-  pub read-back-unmasked : (word : ℕ) (r : ReadBack) → ReadsBack plate word r ↔ ReadsCodeword plate word r
-  read-back-unmasked = zero-mask-reads-back plate none
+  pub read-back-zero-mask : (word : ℕ) (r : ReadBack) → ReadsBack plate word r ↔ ReadsCodeword plate word r
+  read-back-zero-mask = zero-mask-reads-back plate none
 
-  -- ---- decode, metric, word and firmness: over the codewords
+  -- ---- decode, metric, word, firmness: over the codewords
 
-  module _ (samples : List ℤ) where
-    pub best-unmasked : (a : Answer) → Best plate samples a ↔ BestIn (IsSum (rowsOf plate)) plate samples a
-    best-unmasked = decode-unmasked plate none samples
+  pub decode-zero-mask : (samples metrics : List ℤ) (decisions : List ℕ) (metrics′ : List ℤ) (decisions′ : List ℕ) (r : Decoded)
+      → Decodes plate samples metrics decisions metrics′ decisions′ r ↔ DecodesCodeword plate samples metrics decisions metrics′ decisions′ r
+  decode-zero-mask samples metrics decisions metrics′ decisions′ (D.Found a) =
+      let e = decode-unmasked plate none samples a in ((λ x. (x .0, e .0 (x .1), x .2)), λ x. (x .0, e .1 (x .1), x .2))
+  decode-zero-mask samples metrics decisions metrics′ decisions′ (D.Refused q) = ((λ x. x), λ x. x)
 
-    pub best-metric-unmasked : (m : Measure) → BestMetric plate samples m ↔ BestMetricIn (IsSum (rowsOf plate)) plate samples m
-    best-metric-unmasked = metric-unmasked plate none samples
+  pub metric-zero-mask : (samples metrics metrics′ : List ℤ) (r : Measured)
+      → Measures plate samples metrics metrics′ r ↔ MeasuresCodeword plate samples metrics metrics′ r
+  metric-zero-mask samples metrics metrics′ (M.Found m) =
+      let e = metric-unmasked plate none samples m in ((λ x. (x .0, e .0 (x .1), x .2)), λ x. (x .0, e .1 (x .1), x .2))
+  metric-zero-mask samples metrics metrics′ (M.Refused q) = ((λ x. x), λ x. x)
 
-    pub best-word-unmasked : (c : Selection) → BestSelection plate samples c ↔ BestSelectionIn (IsSum (rowsOf plate)) plate samples c
-    best-word-unmasked = word-unmasked plate none samples
+  pub word-zero-mask : (samples metrics : List ℤ) (decisions : List ℕ) (metrics′ : List ℤ) (decisions′ : List ℕ) (r : Chosen)
+      → Chooses plate samples metrics decisions metrics′ decisions′ r ↔ ChoosesCodeword plate samples metrics decisions metrics′ decisions′ r
+  word-zero-mask samples metrics decisions metrics′ decisions′ (C.Found c) =
+      let e = word-unmasked plate none samples c in ((λ x. (x .0, e .0 (x .1), x .2)), λ x. (x .0, e .1 (x .1), x .2))
+  word-zero-mask samples metrics decisions metrics′ decisions′ (C.Refused q) = ((λ x. x), λ x. x)
 
-    pub flag-unmasked : (position : ℕ) (flag : Flag) → FlagOf (IsWord plate) samples position flag ↔ FlagOf (IsSum (rowsOf plate)) samples position flag
-    flag-unmasked = firmness-unmasked plate none samples
+  pub firmness-zero-mask : (samples : List ℤ) (position : ℕ) (metrics : List ℤ) (decisions : List ℕ) (metrics′ : List ℤ) (decisions′ : List ℕ) (r : Judged)
+      → Judges plate samples position metrics decisions metrics′ decisions′ r ↔ JudgesCodeword plate samples position metrics decisions metrics′ decisions′ r
+  firmness-zero-mask samples position metrics decisions metrics′ decisions′ (J.Found flag) =
+      let e = firmness-unmasked plate none samples position flag in ((λ x. (x .0, e .0 (x .1), x .2)), λ x. (x .0, e .1 (x .1), x .2))
+  firmness-zero-mask samples position metrics decisions metrics′ decisions′ (J.Refused q) = ((λ x. x), λ x. x)
+
+  -- ---- why not
+
+  module _ (samples : List ℤ) (w : ℕ) where
+    -- a reason among the plate's words
+    among-words : (a : Answer) (reason : Reason) → Explains plate samples a w reason ↔ ExplainsIn (IsWord plate) (plate .n) samples a w reason
+    among-words a Y.Chosen = ((λ x. x), λ x. x)
+    among-words a (Y.NoCodeword p) =
+        ((λ x. (x .none, x .within, x .sooner, x .stops)), λ x. record { none = x .0; within = x .1; sooner = x .2; stops = x .3 })
+    among-words a (Y.ScoresLess d) = ((λ x. (x .codeword, x .less, x .by)), λ x. record { codeword = x .0; less = x .1; by = x .2 })
+    among-words a (Y.TiesAndLoses p) =
+        ((λ x. (x .codeword, x .tie, x .loses, x .at)), λ x. record { codeword = x .0; tie = x .1; loses = x .2; at = x .3 })
+
+    reason-codeword : (a : Answer) (reason : Reason) → Explains plate samples a w reason ↔ ExplainsIn (IsSum (rowsOf plate)) (plate .n) samples a w reason
+    reason-codeword a reason =
+        subst (λ (C : ℕ → Type 0). Explains plate samples a w reason ↔ ExplainsIn C (plate .n) samples a w reason) (words-plain plate none)
+        (among-words a reason)
+
+    pub why-not-zero-mask : (metrics : List ℤ) (decisions : List ℕ) (metrics′ : List ℤ) (decisions′ : List ℕ) (r : Verdict)
+        → Asks plate samples w metrics decisions metrics′ decisions′ r ↔ AsksCodeword plate samples w metrics decisions metrics′ decisions′ r
+    why-not-zero-mask metrics decisions metrics′ decisions′ (V.Explained reason) = (
+      (λ x.
+          let a = x .1 .answer in
+          (x .0, (a, decode-unmasked plate none samples a .0 (x .1 .best), reason-codeword a reason .0 (x .1 .explains)), x .2)),
+      λ x.
+          let a = x .1 .0 in
+          (x .0, record { answer = a; best = decode-unmasked plate none samples a .1 (x .1 .1); explains = reason-codeword a reason .1 (x .1 .2) }, x .2),
+    )
+    why-not-zero-mask metrics decisions metrics′ decisions′ (V.Refused q) = ((λ x. x), λ x. x)
