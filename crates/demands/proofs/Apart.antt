@@ -56,8 +56,10 @@ module _ (plate : Plate) (samples metrics : List ℤ) where
   module _ (metrics′ : List ℤ) (r : Measured) (p : Measures plate samples metrics metrics′ r) where
     -- refused exactly under them
     pub metric-refuses-exactly : RefusesExactly M.Refused (metricConditions plate samples metrics) r
-    metric-refuses-exactly q =
-        ((λ e. subst (Measures plate samples metrics metrics′) e p .0), λ h. metric-determined plate samples metrics r (M.Refused q) metrics′ metrics p (h, refl) .0)
+    metric-refuses-exactly q = (
+      (λ e. subst (Measures plate samples metrics metrics′) e p .0),
+      λ h. metric-determined plate samples metrics r (M.Refused q) metrics′ metrics p (h, refl) .0,
+    )
 
     -- where none of them holds the metric is found
     pub metric-passed-found : Passes (metricConditions plate samples metrics) → (m : Measure) × (r ≡ M.Found m)
@@ -128,7 +130,8 @@ module _ (plate : Plate) (samples : List ℤ) where
   -- the two replies make up a reply of decode, with the rooms that the word call leaves; their counts are the same
   pub both-are-decode : (room room′ metrics metrics′ : List ℤ) (decisions decisions′ : List ℕ) (m : Measure) (c : Selection)
       → Measures plate samples room room′ (M.Found m) → Chooses plate samples metrics decisions metrics′ decisions′ (C.Found c)
-      → Decodes plate samples metrics decisions metrics′ decisions′ (D.Found (record { word = c .word; metric = m .metric; counts = c .counts })) × (m .counts ≡ c .counts)
+      → Decodes plate samples metrics decisions metrics′ decisions′ (D.Found (record { word = c .word; metric = m .metric; counts = c .counts }))
+      × (m .counts ≡ c .counts)
   both-are-decode = together plate samples
 
   -- what refuses the metric call refuses decode so
@@ -143,7 +146,8 @@ module _ (plate : Plate) (samples : List ℤ) where
 
 -- ---- over the words that a mask makes of the code of a matrix, where preparing both accepts
 
-module _ (n : ℕ) (kind : Kind) (rows : List ℕ) (mask : ℕ) (r : Prepared) (p : Prepares n kind rows mask r) (e : r .verdict ≡ Accepted) (samples metrics metrics′ : List ℤ) where
+module _ (n : ℕ) (kind : Kind) (rows : List ℕ) (mask : ℕ) (r : Prepared) (p : Prepares n kind rows mask r) (e : r .verdict ≡ Accepted)
+    (samples metrics metrics′ : List ℤ) where
   module _ (m : Measure) (d : Measures (r .plate) samples metrics metrics′ (M.Found m)) where
     size : length samples ≡ r .plate .n
     size = samples-are-n (r .plate) samples (d .0 .1 .0)

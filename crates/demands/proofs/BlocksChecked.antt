@@ -110,7 +110,8 @@ module _ (plate : Plate) (samples : List ℤ) (a : Answer) where
   -- tested by computing the metric
   abbrev pub behind : (w : ℕ) → Check (Behind w)
   behind w =
-      both (atMostWhole (metricOf samples w) (a .metric)) (either (lessWhole (metricOf samples w) (a .metric)) (either (equal (a .word) w) (earlier (a .word) w)))
+      both (atMostWhole (metricOf samples w) (a .metric))
+      (either (lessWhole (metricOf samples w) (a .metric)) (either (equal (a .word) w) (earlier (a .word) w)))
 
   -- what is tested of the answer
   pub record TestedAnswer : Type 0 where
@@ -153,9 +154,9 @@ module _ (plate : Plate) (samples : List ℤ) (a : Answer) where
   abbrev pub decoded : Check (InRooms plate (Decodes plate samples) (D.Found a))
   decoded =
       by (λ p.
-          in-rooms plate (Decodes plate samples) (D.Found a) (decode-determined plate samples) (λ metrics decisions m d. (
-            decode-passes plate samples metrics decisions (p .0 .given) (p .0 .count) (p .0 .within) m d,
-            tested-best (p .0) (p .1),
-            record { metrics-zero = refl; decisions-zero = refl },
-          )))
+      in-rooms plate (Decodes plate samples) (D.Found a) (decode-determined plate samples) (λ metrics decisions m d. (
+        decode-passes plate samples metrics decisions (p .0 .given) (p .0 .count) (p .0 .within) m d,
+        tested-best (p .0) (p .1),
+        record { metrics-zero = refl; decisions-zero = refl },
+      )))
       (both (ready plate samples) tested)

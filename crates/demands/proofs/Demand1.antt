@@ -20,7 +20,8 @@ use Rattle.demands.specs.Refusing.{Numbered, RefusesExactly, WriteRefuse
 use Rattle.listings.proofs.Determined.{must-refuse}
 use Rattle.listings.specs.declared.Written.{Written}
 use Rattle.listings.specs.Lines.{endLine, plateLine, profileLine, refusedLine, wordLine}
-use Rattle.listings.specs.Writing.{Writes, WritesAs, WritesEnd, WritesLine, WritesOf, WritesPlate, WritesProfile, WritesRefused, WritesWord, entriesOf, lineRoom}
+use Rattle.listings.specs.Writing.{Writes, WritesAs, WritesEnd, WritesLine, WritesOf, WritesPlate, WritesProfile, WritesRefused, WritesWord}
+use Rattle.listings.specs.Writing.{entriesOf, lineRoom}
 use Rattle.plates.proofs.PrepareDetermined.{prepare-determined}
 use Rattle.plates.proofs.Refusing.{Single, never-both}
 use Rattle.plates.specs.Code.{InCode}

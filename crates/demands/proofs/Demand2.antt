@@ -81,9 +81,11 @@ module _ (n : ℕ) (kind : Kind) (rows : List ℕ) (mask : ℕ) (r : Prepared) (
       → ((i : ℕ) → i < length samples → natAbs (getD samples i (pos 0)) ≤ limit) → metricNeed (r .plate) ≤ length metrics
       → decisionNeed (r .plate) ≤ length decisions → (a : Answer) × (x ≡ Found a) × Greatest (Masked (InCode kind n rows) mask) samples (a .word) (a .metric)
   decode-returns-greatest samples metrics metrics′ decisions decisions′ x d size within m o =
-      let h = decode-passes (r .plate) samples metrics decisions (accepted-prepared n kind rows mask r p e) (size ∙ sym (accepted-length n kind rows mask r p e)) within m o in
+      let g = accepted-prepared n kind rows mask r p e in
+      let h = decode-passes (r .plate) samples metrics decisions g (size ∙ sym (accepted-length n kind rows mask r p e)) within m o in
       let f = decode-passed-found (r .plate) samples metrics decisions metrics′ decisions′ x d h in
-      (f .0, f .1, decode-greatest samples metrics metrics′ decisions decisions′ (f .0) (subst (Decodes (r .plate) samples metrics decisions metrics′ decisions′) (f .1) d))
+      let found = subst (Decodes (r .plate) samples metrics decisions metrics′ decisions′) (f .1) d in
+      (f .0, f .1, decode-greatest samples metrics metrics′ decisions decisions′ (f .0) found)
 
   -- ---- encode and read back
 

@@ -12,7 +12,8 @@ use Rattle.demands.proofs.PlatesChecked.{accepted}
 use Rattle.demands.proofs.QuestionsChecked.{explained, judged}
 use Rattle.demands.proofs.RefusalsChecked.{refused}
 use Rattle.demands.proofs.WordsChecked.{answered, encoded, readBack}
-use Rattle.demands.specs.Examples.{AllRight, Exactly, Example, Right, accepts, asks, decodes, encodes, end-line, examples, explains, judges, plate-line, profile-line, reads, refuses, word-line}
+use Rattle.demands.specs.Examples.{AllRight, Exactly, Example, Right, examples}
+use Rattle.demands.specs.Examples.{accepts, asks, decodes, encodes, end-line, explains, judges, plate-line, profile-line, reads, refuses, word-line}
 use Rattle.listings.specs.Decimal.{decimal, signed}
 use Rattle.listings.specs.Lines.{endLine, plateLine, profileLine, wordLine}
 use Rattle.listings.specs.Writing.{entriesOf}
@@ -31,7 +32,8 @@ exactly Promise reply determined holds r = ((λ x. determined r reply x holds), 
 abbrev pub entry : (e : Example) → Check (Right e)
 entry (accepts n kind rows mask plate) = by (exactly (Prepares n kind rows mask) _ (prepare-determined n kind rows mask)) (accepted n kind rows mask plate)
 entry (refuses n kind rows mask q) = by (exactly (Prepares n kind rows mask) _ (prepare-determined n kind rows mask)) (refused n kind rows mask q)
-entry (asks plate depth state bit r) = by (exactly (Branches plate depth state bit) r (branch-determined plate depth state bit)) (answered plate depth state bit r)
+entry (asks plate depth state bit r) =
+    by (exactly (Branches plate depth state bit) r (branch-determined plate depth state bit)) (answered plate depth state bit r)
 entry (encodes plate information r) = by (exactly (Encodes plate information) r (encode-determined plate information)) (encoded plate information r)
 entry (reads plate word r) = by (exactly (ReadsBack plate word) r (read-back-determined plate word)) (readBack plate word r)
 entry (decodes plate samples a) = decoded plate samples a

@@ -74,7 +74,8 @@ module _ (plate : Plate) where
     pub masked : plate .mask < 2 ^ plate .n
     pub table : length (plate .rows) ≡ 64
     pub entries : length (plate .profile) ≡ 65
-    pub row : (j : ℕ) → j < length (rowsOf plate) → (0 < getD (rowsOf plate) j 0) × ((getD (rowsOf plate) j 0 < 2 ^ 64) × (getD (rowsOf plate) j 0 < 2 ^ plate .n))
+    pub row : (j : ℕ) → j < length (rowsOf plate)
+        → (0 < getD (rowsOf plate) j 0) × ((getD (rowsOf plate) j 0 < 2 ^ 64) × (getD (rowsOf plate) j 0 < 2 ^ plate .n))
     pub two : (j : ℕ) → j < length (rowsOf plate) → (i : ℕ) → i < j → Apart₂ (getD (rowsOf plate) i 0) (getD (rowsOf plate) j 0)
     pub depth : (t : ℕ) → t < suc (plate .n) → (getD (plate .profile) t 0 ≡ liveAt (rowsOf plate) t) × (liveAt (rowsOf plate) t ≤ 12)
     pub no-rows : (i : ℕ) → getD (drop (plate .k) (plate .rows)) i 0 ≡ 0
@@ -161,9 +162,9 @@ abbrev pub accepted : (n : ℕ) (kind : Kind) (rows : List ℕ) (mask : ℕ) (pl
     → Check (Prepares n kind rows mask (record { verdict = Accepted; plate = plate }))
 accepted n kind rows mask plate =
     by (λ p.
-        subst (λ (x : ℕ). Prepares x kind rows mask (record { verdict = Accepted; plate = plate })) (p .0 .0)
-        (subst (λ (x : ℕ). Prepares (plate .n) kind rows x (record { verdict = Accepted; plate = plate })) (p .0 .1)
-        (accepted-with kind rows plate (p .1 .0) (p .1 .1 .0) (p .1 .1 .1 .0) (p .1 .1 .1 .1))))
+    subst (λ (x : ℕ). Prepares x kind rows mask (record { verdict = Accepted; plate = plate })) (p .0 .0)
+    (subst (λ (x : ℕ). Prepares (plate .n) kind rows x (record { verdict = Accepted; plate = plate })) (p .0 .1)
+    (accepted-with kind rows plate (p .1 .0) (p .1 .1 .0) (p .1 .1 .1 .0) (p .1 .1 .1 .1))))
     (both (both (equal (plate .n) n) (equal (plate .mask) mask))
     (both (isPrepared plate)
     (both (atMost (length rows) 64)

@@ -72,11 +72,11 @@ module _ (plate : Plate) (samples : List ℤ) (position : ℕ) where
   abbrev pub judged : (flag : Flag) → Check (InRooms plate (Judges plate samples position) (Found flag))
   judged flag =
       by (λ p.
-          in-rooms plate (Judges plate samples position) (Found flag) (firmness-determined plate samples position) (λ metrics decisions m d. (
-            firmness-passes plate samples position metrics decisions (p .0 .given) (p .0 .count) (p .0 .within) (p .1 .0) m d,
-            p .1 .1,
-            record { metrics-zero = refl; decisions-zero = refl },
-          )))
+      in-rooms plate (Judges plate samples position) (Found flag) (firmness-determined plate samples position) (λ metrics decisions m d. (
+        firmness-passes plate samples position metrics decisions (p .0 .given) (p .0 .count) (p .0 .within) (p .1 .0) m d,
+        p .1 .1,
+        record { metrics-zero = refl; decisions-zero = refl },
+      )))
       (both (ready plate samples) (both (less position (plate .n)) (flagged flag)))
 
 -- ---- why a word was not chosen
@@ -126,13 +126,13 @@ module _ (plate : Plate) (samples : List ℤ) (w : ℕ) where
   abbrev pub explained : (reason : Reason) → Check (InRooms plate (Asks plate samples w) (Explained reason))
   explained reason =
       by (λ p.
-          in-rooms plate (Asks plate samples w) (Explained reason) (why-not-determined plate samples w) (λ metrics decisions m d. (
-            decode-passes plate samples metrics decisions (p .0 .given) (p .0 .count) (p .0 .within) m d,
-            record {
-              answer = answerAt (p .1 .0);
-              best = tested-best plate samples (answerAt (p .1 .0)) (p .0) (p .1 .2 .0);
-              explains = p .1 .2 .1;
-            },
-            record { metrics-zero = refl; decisions-zero = refl },
-          )))
+      in-rooms plate (Asks plate samples w) (Explained reason) (why-not-determined plate samples w) (λ metrics decisions m d. (
+        decode-passes plate samples metrics decisions (p .0 .given) (p .0 .count) (p .0 .within) m d,
+        record {
+          answer = answerAt (p .1 .0);
+          best = tested-best plate samples (answerAt (p .1 .0)) (p .0) (p .1 .2 .0);
+          explains = p .1 .2 .1;
+        },
+        record { metrics-zero = refl; decisions-zero = refl },
+      )))
       (both (ready plate samples) (somePlateWord plate (λ v. both (tested plate samples (answerAt v)) (explaining (answerAt v) reason))))

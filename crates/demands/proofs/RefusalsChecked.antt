@@ -11,7 +11,10 @@ use Rattle.demands.proofs.Checking.{Check, atMost, both, by, each, eith
 use Rattle.plates.specs.Code.{InCode}
 use Rattle.plates.specs.declared.Kind.{Kind}
 use Rattle.plates.specs.declared.Refusal.{Refusal}
-use Rattle.plates.specs.declared.Refusal.the-variants.{AlistFault, BadSetting, DecisionRoom, FieldCount, FieldValue, FirstField, Information, InputTooLong, Length, LineRoom, MaskBeyond, MetricRoom, NoCodeword, NoSuchBranch, NotANumber, NotPrepared, PositionBeyond, RowBeyond, RowField, SampleCount, SampleRange, SheetLine, TooManyRows, TooWide, WholeSpace, BranchFault, BranchTwice, TooManyLines}
+use Rattle.plates.specs.declared.Refusal.the-variants.{AlistFault, BadSetting, BranchFault, BranchTwice, DecisionRoom, FieldCount, FieldValue, FirstField}
+use Rattle.plates.specs.declared.Refusal.the-variants.{Information, InputTooLong, Length, LineRoom, MaskBeyond, MetricRoom, NoCodeword, NoSuchBranch}
+use Rattle.plates.specs.declared.Refusal.the-variants.{NotANumber, NotPrepared, PositionBeyond, RowBeyond, RowField, SampleCount, SampleRange, SheetLine}
+use Rattle.plates.specs.declared.Refusal.the-variants.{TooManyLines, TooManyRows, TooWide, WholeSpace}
 use Rattle.plates.specs.Prepare.{Prepares, RowOver, Wide, badLength, maskBeyond}
 use Rattle.plates.specs.Refusals.{Refuses, field, number, place}
 use Rattle.plates.specs.Replying.{refusedWith}

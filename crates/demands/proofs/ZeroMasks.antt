@@ -9,6 +9,7 @@ use native.Mathlib.Omega.{arith}
 use Prim.Native.Nat.{_^_, ℕ, _≤_}
 use Rattle.asking.specs.Asking.{Asks, Explains}
 use Rattle.asking.specs.declared.Reason.{Reason}
+use Rattle.asking.specs.declared.Verdict.{Verdict}
 use Rattle.coding.proofs.ZeroMask.{zero-mask-encodes, zero-mask-reads-back}
 use Rattle.coding.specs.Coding.{Encodes, ReadsBack}
 use Rattle.coding.specs.declared.Encoded.{Encoded}
@@ -24,7 +25,8 @@ use Rattle.decoding.specs.declared.Decoded.{Decoded}
 use Rattle.decoding.specs.declared.firmness.Judged.{Judged}
 use Rattle.decoding.specs.Decode.{Decodes}
 use Rattle.decoding.specs.Firmness.{Judges}
-use Rattle.demands.specs.Unmasked.{AsksCodeword, BranchesIn, ChoosesCodeword, DecodesCodeword, ExplainsIn, IsPreparedUnmasked, JudgesCodeword, MeasuresCodeword, PreparesUnmasked, unmaskedConditions}
+use Rattle.demands.specs.Unmasked.{AsksCodeword, BranchesIn, ChoosesCodeword, DecodesCodeword, ExplainsIn, JudgesCodeword, MeasuresCodeword}
+use Rattle.demands.specs.Unmasked.{IsPreparedUnmasked, PreparesUnmasked, unmaskedConditions}
 use Rattle.plates.proofs.PrepareDetermined.{prepare-determined}
 use Rattle.plates.proofs.SoundIsPrepared.{sound}
 use Rattle.plates.specs.Code.{InCode}
@@ -43,8 +45,7 @@ use Rattle.trellises.specs.Masking.{masked, turnedAll}
 use Rattle.words.proofs.Word.{bit-zero}
 use Rattle.words.specs.Sum.{IsSum}
 use Rattle.asking.specs.declared.Reason.the-variants as Y
-use Rattle.asking.specs.declared.Verdict.the-variants as V
-use Rattle.asking.specs.declared.Verdict.{Verdict}
+use Rattle.asking.specs.declared.Verdict.the-variants as X
 use Rattle.decoding.specs.declared.apart.Chosen.the-variants as C
 use Rattle.decoding.specs.declared.apart.Measured.the-variants as M
 use Rattle.decoding.specs.declared.Decoded.the-variants as D
@@ -189,7 +190,7 @@ module _ (plate : Plate) (none : plate .mask ≡ 0) where
 
     pub why-not-zero-mask : (metrics : List ℤ) (decisions : List ℕ) (metrics′ : List ℤ) (decisions′ : List ℕ) (r : Verdict)
         → Asks plate samples w metrics decisions metrics′ decisions′ r ↔ AsksCodeword plate samples w metrics decisions metrics′ decisions′ r
-    why-not-zero-mask metrics decisions metrics′ decisions′ (V.Explained reason) = (
+    why-not-zero-mask metrics decisions metrics′ decisions′ (X.Explained reason) = (
       (λ x.
           let a = x .1 .answer in
           (x .0, (a, decode-unmasked plate none samples a .0 (x .1 .best), reason-codeword a reason .0 (x .1 .explains)), x .2)),
@@ -197,4 +198,4 @@ module _ (plate : Plate) (none : plate .mask ≡ 0) where
           let a = x .1 .0 in
           (x .0, record { answer = a; best = decode-unmasked plate none samples a .1 (x .1 .1); explains = reason-codeword a reason .1 (x .1 .2) }, x .2),
     )
-    why-not-zero-mask metrics decisions metrics′ decisions′ (V.Refused q) = ((λ x. x), λ x. x)
+    why-not-zero-mask metrics decisions metrics′ decisions′ (X.Refused q) = ((λ x. x), λ x. x)

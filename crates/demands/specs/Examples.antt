@@ -220,8 +220,8 @@ abbrev pub zeroBlock : List ℤ
 zeroBlock = replicate 8 (pos 0)
 
 -- a position and its margin
-abbrev pub open : ℕ → ℤ → Flag
-open position margin = record { position = position; reading = Open margin }
+abbrev pub openFlag : ℕ → ℤ → Flag
+openFlag position margin = record { position = position; reading = Open margin }
 
 -- the plate as G and as H; of the zero samples the earliest word 00010111, which is not the earliest codeword plus mask; word 01000010 21 44 11
 abbrev pub maskedSheet : List Example
@@ -258,7 +258,7 @@ maskedQuestions =
     ∷ explains maskedPlate sheetBlock 66 Chosen
     ∷ explains maskedPlate sheetBlock 77 (ScoresLess (pos 4))
     ∷ explains maskedPlate zeroBlock 129 (TiesAndLoses 0)
-    ∷ judges maskedPlate sheetBlock 0 (open 0 (pos 4))
+    ∷ judges maskedPlate sheetBlock 0 (openFlag 0 (pos 4))
     ∷ []
 
 -- a mask of 256 with n=8: 23; a row of 256 is told before it

@@ -33,7 +33,7 @@ use Rattle.trellises.specs.Graph.{Graph, Has}
 use Rattle.words.specs.Sum.{IsSum}
 use Rattle.words.specs.Word.{Earlier}
 use Rattle.asking.specs.declared.Reason.the-variants as Y
-use Rattle.asking.specs.declared.Verdict.the-variants as V
+use Rattle.asking.specs.declared.Verdict.the-variants as X
 use Rattle.decoding.specs.declared.apart.Chosen.the-variants as C
 use Rattle.decoding.specs.declared.apart.Measured.the-variants as M
 use Rattle.decoding.specs.declared.Decoded.the-variants as D
@@ -66,7 +66,8 @@ abbrev pub DecodesCodeword : Plate → List ℤ → List ℤ → List ℕ → Li
 DecodesCodeword plate samples metrics decisions metrics′ decisions′ (D.Refused q) =
     Refuses (decodeConditions plate samples metrics decisions) q × (metrics′ ≡ metrics) × (decisions′ ≡ decisions)
 DecodesCodeword plate samples metrics decisions metrics′ decisions′ (D.Found a) =
-    Passes (decodeConditions plate samples metrics decisions) × BestIn (IsSum (rowsOf plate)) plate samples a × Zeroed plate metrics metrics′ decisions decisions′
+    Passes (decodeConditions plate samples metrics decisions) × BestIn (IsSum (rowsOf plate)) plate samples a
+    × Zeroed plate metrics metrics′ decisions decisions′
 
 abbrev pub MeasuresCodeword : Plate → List ℤ → List ℤ → List ℤ → Measured → Type 0
 MeasuresCodeword plate samples metrics metrics′ (M.Refused q) = Refuses (metricConditions plate samples metrics) q × (metrics′ ≡ metrics)
@@ -99,9 +100,9 @@ ExplainsIn C n samples a w (Y.ScoresLess difference) = C w × (metricOf samples 
 ExplainsIn C n samples a w (Y.TiesAndLoses p) = C w × (metricOf samples w ≡ a .metric) × (loses : Earlier (a .word) w) × (p ≡ loses .place)
 
 abbrev pub AsksCodeword : Plate → List ℤ → ℕ → List ℤ → List ℕ → List ℤ → List ℕ → Verdict → Type 0
-AsksCodeword plate samples w metrics decisions metrics′ decisions′ (V.Refused q) =
+AsksCodeword plate samples w metrics decisions metrics′ decisions′ (X.Refused q) =
     Refuses (decodeConditions plate samples metrics decisions) q × (metrics′ ≡ metrics) × (decisions′ ≡ decisions)
-AsksCodeword plate samples w metrics decisions metrics′ decisions′ (V.Explained reason) =
+AsksCodeword plate samples w metrics decisions metrics′ decisions′ (X.Explained reason) =
     Passes (decodeConditions plate samples metrics decisions)
     × ((a : Answer) × BestIn (IsSum (rowsOf plate)) plate samples a × ExplainsIn (IsSum (rowsOf plate)) (plate .n) samples a w reason)
     × Zeroed plate metrics metrics′ decisions decisions′
