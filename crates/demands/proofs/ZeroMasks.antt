@@ -7,8 +7,8 @@ use mathlib.Core.Logic.{inl, inr, _↔_}
 use mathlib.Core.Path.{ap, fun-ext, refl, subst, sym, _∙_, _≡_}
 use native.Mathlib.Omega.{arith}
 use Prim.Native.Nat.{_^_, ℕ, _≤_}
-use Rattle.asking.specs.Asking.{Asks, Explains}
-use Rattle.asking.specs.declared.Reason.{Reason}
+use Rattle.asking.proofs.AskingUnmasked.{why-not-unmasked}
+use Rattle.asking.specs.Asking.{Asks}
 use Rattle.asking.specs.declared.Verdict.{Verdict}
 use Rattle.coding.proofs.ZeroMask.{zero-mask-encodes, zero-mask-reads-back}
 use Rattle.coding.specs.Coding.{Encodes, ReadsBack}
@@ -16,16 +16,14 @@ use Rattle.coding.specs.declared.Encoded.{Encoded}
 use Rattle.coding.specs.declared.ReadBack.{ReadBack}
 use Rattle.coding.specs.Unmasked.{EncodesCodeword, ReadsCodeword}
 use Rattle.decoding.proofs.MaskedDecoding.{decode-unmasked, firmness-unmasked, metric-unmasked, word-unmasked}
-use Rattle.decoding.proofs.MaskedWords.{words-plain}
 use Rattle.decoding.specs.Apart.{Chooses, Measures}
-use Rattle.decoding.specs.declared.Answer.{Answer}
 use Rattle.decoding.specs.declared.apart.Chosen.{Chosen}
 use Rattle.decoding.specs.declared.apart.Measured.{Measured}
 use Rattle.decoding.specs.declared.Decoded.{Decoded}
 use Rattle.decoding.specs.declared.firmness.Judged.{Judged}
 use Rattle.decoding.specs.Decode.{Decodes}
 use Rattle.decoding.specs.Firmness.{Judges}
-use Rattle.demands.specs.Unmasked.{AsksCodeword, BranchesIn, ChoosesCodeword, DecodesCodeword, ExplainsIn, JudgesCodeword, MeasuresCodeword}
+use Rattle.demands.specs.Unmasked.{AsksCodeword, BranchesIn, ChoosesCodeword, DecodesCodeword, JudgesCodeword, MeasuresCodeword}
 use Rattle.demands.specs.Unmasked.{IsPreparedUnmasked, PreparesUnmasked, unmaskedConditions}
 use Rattle.plates.proofs.PrepareDetermined.{prepare-determined}
 use Rattle.plates.proofs.SoundIsPrepared.{sound}
@@ -36,15 +34,13 @@ use Rattle.plates.specs.declared.Plate.{Plate}
 use Rattle.plates.specs.declared.Prepared.{Prepared}
 use Rattle.plates.specs.declared.Refusal.{Refusal}
 use Rattle.plates.specs.declared.Verdict.the-variants.{Accepted, Refused}
-use Rattle.plates.specs.Prepare.{IsPrepared, IsWord, Prepares, PreparesAs, prepareConditions, rowsOf}
+use Rattle.plates.specs.Prepare.{IsPrepared, Prepares, PreparesAs, prepareConditions, rowsOf}
 use Rattle.plates.specs.Refusals.{Passes, Refuses}
 use Rattle.trellises.specs.Branching.{Branches, codeTrellis, trellisOf}
 use Rattle.trellises.specs.declared.Next.{Next}
 use Rattle.trellises.specs.Graph.{Branch, Graph}
 use Rattle.trellises.specs.Masking.{masked, turnedAll}
 use Rattle.words.proofs.Word.{bit-zero}
-use Rattle.words.specs.Sum.{IsSum}
-use Rattle.asking.specs.declared.Reason.the-variants as Y
 use Rattle.asking.specs.declared.Verdict.the-variants as X
 use Rattle.decoding.specs.declared.apart.Chosen.the-variants as C
 use Rattle.decoding.specs.declared.apart.Measured.the-variants as M
@@ -145,7 +141,7 @@ module _ (plate : Plate) (none : plate .mask ≡ 0) where
   pub read-back-zero-mask : (word : ℕ) (r : ReadBack) → ReadsBack plate word r ↔ ReadsCodeword plate word r
   read-back-zero-mask = zero-mask-reads-back plate none
 
-  -- ---- decode, metric, word, firmness: over the codewords
+  -- ---- decode, metric, word, firmness, why not: over the codewords
 
   pub decode-zero-mask : (samples metrics : List ℤ) (decisions : List ℕ) (metrics′ : List ℤ) (decisions′ : List ℕ) (r : Decoded)
       → Decodes plate samples metrics decisions metrics′ decisions′ r ↔ DecodesCodeword plate samples metrics decisions metrics′ decisions′ r
@@ -171,31 +167,8 @@ module _ (plate : Plate) (none : plate .mask ≡ 0) where
       let e = firmness-unmasked plate none samples position flag in ((λ x. (x .0, e .0 (x .1), x .2)), λ x. (x .0, e .1 (x .1), x .2))
   firmness-zero-mask samples position metrics decisions metrics′ decisions′ (J.Refused q) = ((λ x. x), λ x. x)
 
-  -- ---- why not
-
-  module _ (samples : List ℤ) (w : ℕ) where
-    -- a reason among the plate's words
-    among-words : (a : Answer) (reason : Reason) → Explains plate samples a w reason ↔ ExplainsIn (IsWord plate) (plate .n) samples a w reason
-    among-words a Y.Chosen = ((λ x. x), λ x. x)
-    among-words a (Y.NoCodeword p) =
-        ((λ x. (x .none, x .within, x .sooner, x .stops)), λ x. record { none = x .0; within = x .1; sooner = x .2; stops = x .3 })
-    among-words a (Y.ScoresLess d) = ((λ x. (x .codeword, x .less, x .by)), λ x. record { codeword = x .0; less = x .1; by = x .2 })
-    among-words a (Y.TiesAndLoses p) =
-        ((λ x. (x .codeword, x .tie, x .loses, x .at)), λ x. record { codeword = x .0; tie = x .1; loses = x .2; at = x .3 })
-
-    reason-codeword : (a : Answer) (reason : Reason) → Explains plate samples a w reason ↔ ExplainsIn (IsSum (rowsOf plate)) (plate .n) samples a w reason
-    reason-codeword a reason =
-        subst (λ (C : ℕ → Type 0). Explains plate samples a w reason ↔ ExplainsIn C (plate .n) samples a w reason) (words-plain plate none)
-        (among-words a reason)
-
-    pub why-not-zero-mask : (metrics : List ℤ) (decisions : List ℕ) (metrics′ : List ℤ) (decisions′ : List ℕ) (r : Verdict)
-        → Asks plate samples w metrics decisions metrics′ decisions′ r ↔ AsksCodeword plate samples w metrics decisions metrics′ decisions′ r
-    why-not-zero-mask metrics decisions metrics′ decisions′ (X.Explained reason) = (
-      (λ x.
-          let a = x .1 .answer in
-          (x .0, (a, decode-unmasked plate none samples a .0 (x .1 .best), reason-codeword a reason .0 (x .1 .explains)), x .2)),
-      λ x.
-          let a = x .1 .0 in
-          (x .0, record { answer = a; best = decode-unmasked plate none samples a .1 (x .1 .1); explains = reason-codeword a reason .1 (x .1 .2) }, x .2),
-    )
-    why-not-zero-mask metrics decisions metrics′ decisions′ (X.Refused q) = ((λ x. x), λ x. x)
+  pub why-not-zero-mask : (samples : List ℤ) (w : ℕ) (metrics : List ℤ) (decisions : List ℕ) (metrics′ : List ℤ) (decisions′ : List ℕ) (r : Verdict)
+      → Asks plate samples w metrics decisions metrics′ decisions′ r ↔ AsksCodeword plate samples w metrics decisions metrics′ decisions′ r
+  why-not-zero-mask samples w metrics decisions metrics′ decisions′ (X.Explained reason) =
+      let e = why-not-unmasked plate none samples w reason in ((λ x. (x .0, e .0 (x .1), x .2)), λ x. (x .0, e .1 (x .1), x .2))
+  why-not-zero-mask samples w metrics decisions metrics′ decisions′ (X.Refused q) = ((λ x. x), λ x. x)

@@ -1,23 +1,19 @@
 -- What each call promised before plates had masks: of the matrix alone, of the codewords, and of the code's trellis. Encode and read back are in
 -- coding/specs/Unmasked; a line that takes a plate speaks of no word. With a zero mask the promises are these (proofs/ZeroMasks).
-use lib.IntN.{_-ℤ_, pos, ℤ}
+use lib.IntN.{pos, ℤ}
 use lib.ListN.{drop, replicate}
-use lib.Signed.{_<ℤ_}
 use mathlib.Core.List.{_++_, List, [], _∷_}
 use mathlib.Core.Path.{_≡_}
-use Prim.Native.Nat.{_<_, ℕ, _≤_}
-use Rattle.asking.specs.Asking.{Continued}
-use Rattle.asking.specs.declared.Reason.{Reason}
+use Prim.Native.Nat.{ℕ, _≤_}
+use Rattle.asking.specs.Asking.{ReasonedIn}
 use Rattle.asking.specs.declared.Verdict.{Verdict}
 use Rattle.decoding.specs.Apart.{BestMetricIn, BestSelectionIn, metricConditions}
-use Rattle.decoding.specs.declared.Answer.{Answer}
 use Rattle.decoding.specs.declared.apart.Chosen.{Chosen}
 use Rattle.decoding.specs.declared.apart.Measured.{Measured}
 use Rattle.decoding.specs.declared.Decoded.{Decoded}
 use Rattle.decoding.specs.declared.firmness.Judged.{Judged}
 use Rattle.decoding.specs.Decode.{BestIn, Zeroed, decodeConditions, metricNeed}
 use Rattle.decoding.specs.Firmness.{FlagOf, firmnessConditions}
-use Rattle.decoding.specs.Metric.{metricOf}
 use Rattle.plates.specs.Code.{InCode}
 use Rattle.plates.specs.declared.Kind.{Kind}
 use Rattle.plates.specs.declared.Kind.the-variants.{G}
@@ -31,8 +27,6 @@ use Rattle.trellises.specs.Branching.{branchConditions}
 use Rattle.trellises.specs.declared.Next.{Next}
 use Rattle.trellises.specs.Graph.{Graph, Has}
 use Rattle.words.specs.Sum.{IsSum}
-use Rattle.words.specs.Word.{Earlier}
-use Rattle.asking.specs.declared.Reason.the-variants as Y
 use Rattle.asking.specs.declared.Verdict.the-variants as X
 use Rattle.decoding.specs.declared.apart.Chosen.the-variants as C
 use Rattle.decoding.specs.declared.apart.Measured.the-variants as M
@@ -60,7 +54,7 @@ BranchesIn g plate depth state bit (N.State next) = Passes (branchConditions pla
 BranchesIn g plate depth state bit N.NoBranch = Passes (branchConditions plate depth state bit) × ((next : ℕ) → Has g depth state bit next → ⊥)
 BranchesIn g plate depth state bit (N.Refused q) = Refuses (branchConditions plate depth state bit) q
 
--- ---- decode, metric, word, firmness
+-- ---- decode, metric, word, firmness, why not
 
 abbrev pub DecodesCodeword : Plate → List ℤ → List ℤ → List ℕ → List ℤ → List ℕ → Decoded → Type 0
 DecodesCodeword plate samples metrics decisions metrics′ decisions′ (D.Refused q) =
@@ -89,20 +83,9 @@ JudgesCodeword plate samples position metrics decisions metrics′ decisions′ 
     Passes (firmnessConditions plate samples position metrics decisions) × FlagOf (IsSum (rowsOf plate)) samples position flag
     × Zeroed plate metrics metrics′ decisions decisions′
 
--- ---- why not
-
--- what each reason says of a word of length n among the words C, where a is the answer of decoding
-abbrev pub ExplainsIn : (ℕ → Type 0) → ℕ → List ℤ → Answer → ℕ → Reason → Type 0
-ExplainsIn C n samples a w Y.Chosen = w ≡ a .word
-ExplainsIn C n samples a w (Y.NoCodeword p) =
-    (C w → ⊥) × (p ≤ n) × ((i : ℕ) → i < p → Continued C w i) × (p < n → Continued C w p → ⊥)
-ExplainsIn C n samples a w (Y.ScoresLess difference) = C w × (metricOf samples w <ℤ a .metric) × (difference ≡ a .metric -ℤ metricOf samples w)
-ExplainsIn C n samples a w (Y.TiesAndLoses p) = C w × (metricOf samples w ≡ a .metric) × (loses : Earlier (a .word) w) × (p ≡ loses .place)
-
 abbrev pub AsksCodeword : Plate → List ℤ → ℕ → List ℤ → List ℕ → List ℤ → List ℕ → Verdict → Type 0
 AsksCodeword plate samples w metrics decisions metrics′ decisions′ (X.Refused q) =
     Refuses (decodeConditions plate samples metrics decisions) q × (metrics′ ≡ metrics) × (decisions′ ≡ decisions)
 AsksCodeword plate samples w metrics decisions metrics′ decisions′ (X.Explained reason) =
-    Passes (decodeConditions plate samples metrics decisions)
-    × ((a : Answer) × BestIn (IsSum (rowsOf plate)) plate samples a × ExplainsIn (IsSum (rowsOf plate)) (plate .n) samples a w reason)
+    Passes (decodeConditions plate samples metrics decisions) × ReasonedIn (IsSum (rowsOf plate)) plate samples w reason
     × Zeroed plate metrics metrics′ decisions decisions′
