@@ -1,6 +1,6 @@
--- Masked plates (document 02, A11). The words of a plate are codewords plus mask modulo 2 (plates/specs/Prepare: `IsWord`); the promises of
--- every call but that of the weights speak of those, and demands 2 and 3 are stated over them. Profile and counts do not change. 23 stands after 3
--- and before 4 (Demand1: `prepare-numbers`). What a zero mask gives is in ZeroMasks; the `mask` line of a sheet and its 17 in the crate sheets.
+-- Masked plates (document 02, A11), but for what a zero mask gives (ZeroMasks) and for the `mask` line of a sheet with its 17 (crate sheets). The
+-- words of a plate are codewords plus mask modulo 2 (plates/specs/Prepare: `IsWord`); the promises of all calls but the weights speak of those, and
+-- demands 2 and 3 are stated over them. 23 stands after 3 and before 4 (Demand1: `prepare-numbers`).
 use lib.Bits.{bitXor, xor-comm}
 use lib.IntN.{ℤ}
 use lib.Pow.{pow-pos}
@@ -20,15 +20,17 @@ use Rattle.decoding.specs.Turning.{turnedBy}
 use Rattle.demands.proofs.Demand1.{prepare-refuses-exactly}
 use Rattle.demands.specs.Masks.{AlikeButMask, withMask}
 use Rattle.plates.proofs.PrepareDetermined.{prepare-determined}
+use Rattle.plates.proofs.SoundIsPrepared.{prepared, sound}
 use Rattle.plates.specs.Code.{InCode, Masked}
 use Rattle.plates.specs.declared.Kind.{Kind}
+use Rattle.plates.specs.declared.Kind.the-variants.{G}
 use Rattle.plates.specs.declared.Plate.{Plate}
 use Rattle.plates.specs.declared.Prepared.{Prepared}
 use Rattle.plates.specs.declared.Refusal.{Refusal}
 use Rattle.plates.specs.declared.Refusal.the-variants.{MaskBeyond}
 use Rattle.plates.specs.declared.Verdict.{Verdict}
 use Rattle.plates.specs.declared.Verdict.the-variants.{Accepted, Refused}
-use Rattle.plates.specs.Prepare.{IsWord, PlateOf, Prepares, PreparesAs, RowOver, badLength, prepareConditions, tooManyRows}
+use Rattle.plates.specs.Prepare.{IsPrepared, IsWord, PlateOf, Prepares, PreparesAs, RowOver, badLength, prepareConditions, rowsOf, tooManyRows}
 use Rattle.plates.specs.Refusals.{Passes, Refuses, number, place}
 use Rattle.plates.specs.Replying.{refusedWith}
 use Rattle.trellises.proofs.AcceptedIsPrepared.{accepted, accepted-mask}
@@ -64,7 +66,7 @@ module _ (C : ℕ → Type 0) (zero-in : C 0) (closed : (a b : ℕ) → C a → 
       back : (w : ℕ) → bitXor (bitXor w m′) (bitXor m m′) ≡ bitXor w m
       back w = xor-assoc w m′ (bitXor m m′) ∙ ap (bitXor w) (ap (bitXor m′) (xor-comm m m′) ∙ xor-cancel m′ m)
 
--- ---- preparing: 23, and another mask
+-- ---- preparing: 23
 
 module _ (n : ℕ) (kind : Kind) (rows : List ℕ) (mask : ℕ) (r : Prepared) (p : Prepares n kind rows mask r) where
   -- 23 is replied exactly where 1 to 3 are not and the mask has a one at n or beyond
@@ -89,6 +91,37 @@ module _ (n : ℕ) (kind : Kind) (rows : List ℕ) (mask : ℕ) (r : Prepared) (
 -- its number is 23, and its place 0
 pub mask-number : (number MaskBeyond ≡ 23) × (place MaskBeyond ≡ 0)
 mask-number = (refl, refl)
+
+-- ---- refusal 5: the plate's own rows and mask
+
+-- any reply to a prepared plate's own first k rows as G and its own mask is the plate itself
+pub prepared-is-own : (plate : Plate) → IsPrepared plate → (r : Prepared) → Prepares (plate .n) G (rowsOf plate) (plate .mask) r
+    → r ≡ record { verdict = Accepted; plate = plate }
+prepared-is-own plate p r x = prepare-determined (plate .n) G (rowsOf plate) (plate .mask) r (record { verdict = Accepted; plate = plate }) x (p .same)
+
+-- with another mask it is prepared exactly if that one has no one at n or beyond
+pub remasked-prepared : (plate : Plate) → IsPrepared plate → (mask : ℕ) → IsPrepared (withMask mask plate) ↔ (mask < 2 ^ plate .n)
+remasked-prepared plate given mask = (
+  (λ p. sound p .masked),
+  λ h.
+      let s = sound given in
+      prepared (record {
+        positive = s .positive;
+        short = s .short;
+        few = s .few;
+        masked = h;
+        table = s .table;
+        below = s .below;
+        reduced = s .reduced;
+        unused-rows = s .unused-rows;
+        entries = s .entries;
+        profile = s .profile;
+        unused-entries = s .unused-entries;
+        narrow = s .narrow;
+      }),
+)
+
+-- ---- profile and counts
 
 -- a plate with another mask: all else, its states, its branches and its counts are as they were
 pub alike : (mask : ℕ) (plate : Plate) → AlikeButMask plate (withMask mask plate)

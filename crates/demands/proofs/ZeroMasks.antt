@@ -1,12 +1,11 @@
--- A zero mask gives all earlier replies (document 02, A11): the promise of each call is the one that it was before plates had masks. And refusal 5
--- compares with preparing the plate's own rows and mask.
+-- A zero mask gives all earlier replies (document 02, A11): the promise of each call is the one that it was before plates had masks.
 use lib.IntN.{ℤ}
 use lib.Pow.{pow-pos}
 use mathlib.Core.List.{List, [], _∷_}
 use mathlib.Core.Logic.{inl, inr, _↔_}
 use mathlib.Core.Path.{ap, fun-ext, refl, subst, sym, _∙_, _≡_}
 use native.Mathlib.Omega.{arith}
-use Prim.Native.Nat.{_^_, ℕ, _≤_}
+use Prim.Native.Nat.{ℕ}
 use Rattle.asking.proofs.AskingUnmasked.{why-not-unmasked}
 use Rattle.asking.specs.Asking.{Asks}
 use Rattle.asking.specs.declared.Verdict.{Verdict}
@@ -25,8 +24,6 @@ use Rattle.decoding.specs.Decode.{Decodes}
 use Rattle.decoding.specs.Firmness.{Judges}
 use Rattle.demands.specs.Unmasked.{AsksCodeword, BranchesIn, ChoosesCodeword, DecodesCodeword, JudgesCodeword, MeasuresCodeword}
 use Rattle.demands.specs.Unmasked.{IsPreparedUnmasked, PreparesUnmasked, unmaskedConditions}
-use Rattle.plates.proofs.PrepareDetermined.{prepare-determined}
-use Rattle.plates.proofs.SoundIsPrepared.{sound}
 use Rattle.plates.specs.Code.{InCode}
 use Rattle.plates.specs.declared.Kind.{Kind}
 use Rattle.plates.specs.declared.Kind.the-variants.{G}
@@ -82,16 +79,7 @@ module _ (n : ℕ) (kind : Kind) (rows : List ℕ) where
   prepare-zero-mask r =
       ((λ p. reply-unmasked (r .verdict) (r .plate) .0 (p .reply)), λ x. record { reply = reply-unmasked (r .verdict) (r .plate) .1 x })
 
--- ---- refusal 5, and so the lines that take a plate
-
--- any reply to the plate's own first k rows as G and its own mask is the plate itself
-pub prepared-is-own : (plate : Plate) → IsPrepared plate → (r : Prepared) → Prepares (plate .n) G (rowsOf plate) (plate .mask) r
-    → r ≡ record { verdict = Accepted; plate = plate }
-prepared-is-own plate p r x = prepare-determined (plate .n) G (rowsOf plate) (plate .mask) r (record { verdict = Accepted; plate = plate }) x (p .same)
-
--- a plate whose mask has a one at n or beyond is refused with 5, all else as prepared
-pub mask-beyond-not-prepared : (plate : Plate) → 2 ^ plate .n ≤ plate .mask → IsPrepared plate → ⊥
-mask-beyond-not-prepared plate h p = omega (arith, h, sound p .masked)
+-- ---- refusal 5, and with it the lines that take a plate
 
 module _ (plate : Plate) (none : plate .mask ≡ 0) where
   pub is-prepared-zero-mask : IsPrepared plate ↔ IsPreparedUnmasked plate
