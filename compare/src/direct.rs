@@ -3,11 +3,11 @@
 use crate::call::{Call, Name};
 use crate::library::*;
 
-/// A run as pointer and length, by the kind of its cells.
+/// A run as pointer and length, by the kind of its cells. An empty one is lent as NULL, which the header permits.
 macro_rules! lent {
     ($run:expr, $cells:ident) => {{
         let cells = $run.$cells();
-        (cells.as_mut_ptr(), cells.len())
+        (if cells.is_empty() { std::ptr::null_mut() } else { cells.as_mut_ptr() }, cells.len())
     }};
 }
 
@@ -19,7 +19,7 @@ pub fn answer(call: &mut Call) -> u64 {
         Name::Prepare => {
             let ((rows, a), (plate, b), (place, c)) =
                 (lent!(r[0], words), lent!(r[1], words), lent!(r[2], words));
-            unsafe { yendrufal_prepare(n[0], n[1], rows, a, plate, b, place, c) }
+            unsafe { yendrufal_prepare(n[0], n[1], rows, a, n[2], plate, b, place, c) }
         }
         Name::Branch | Name::Encode | Name::ReadBack => {
             let ((plate, a), (cell, b)) = (lent!(r[0], words), lent!(r[1], words));
@@ -37,7 +37,9 @@ pub fn answer(call: &mut Call) -> u64 {
         Name::WriteRefused | Name::WriteEnd => {
             let ((line, a), (written, b)) = (lent!(r[0], bytes), lent!(r[1], words));
             match call.name {
-                Name::WriteRefused => unsafe { yendrufal_write_refused(n[0], n[1], n[2], line, a, written, b) },
+                Name::WriteRefused => unsafe {
+                    yendrufal_write_refused(n[0], n[1], n[2], line, a, written, b)
+                },
                 _ => unsafe { yendrufal_write_end(n[0], line, a, written, b) },
             }
         }

@@ -14,11 +14,13 @@ mod decoding;
 #[cfg(linked)]
 mod direct;
 mod firmness;
+mod header;
 mod itself;
 #[cfg(linked)]
 mod library;
 mod linear;
 mod listing;
+mod macros;
 mod matrices;
 mod model;
 mod plate;
@@ -38,7 +40,9 @@ use random::Random;
 use std::path::{Path, PathBuf};
 use std::process::exit;
 
-const USAGE: &str = "usage: compare [--self] [--sheets FOLDER] [--times N] [--seed N] [--through COMMAND ..]
+const USAGE: &str =
+    "usage: compare --macros FILE [--self] [--sheets FOLDER] [--times N] [--seed N] [--through COMMAND ..]
+  --macros FILE     what compare/macros printed of the header
   --self            hold the model to the definitions and worked examples; asks no library
   --sheets FOLDER   also every NAME.sheet of a folder against its NAME.listing
   --times N         N times as many random inputs; with 0 neither these nor every small matrix
@@ -46,6 +50,7 @@ const USAGE: &str = "usage: compare [--self] [--sheets FOLDER] [--times N] [--se
   --through ..      ask the library through a bridge that this command starts (last on the line)";
 
 struct Wanted {
+    macros: Option<PathBuf>,
     itself: bool,
     sheets: Option<PathBuf>,
     times: usize,
@@ -59,10 +64,12 @@ fn usage() -> ! {
 }
 
 fn wanted() -> Wanted {
-    let mut wanted = Wanted { itself: false, sheets: None, times: 1, seed: 1, through: Vec::new() };
+    let mut wanted =
+        Wanted { macros: None, itself: false, sheets: None, times: 1, seed: 1, through: Vec::new() };
     let mut words = std::env::args().skip(1);
     while let Some(word) = words.next() {
         match word.as_str() {
+            "--macros" => wanted.macros = Some(words.next().unwrap_or_else(|| usage()).into()),
             "--self" => wanted.itself = true,
             "--sheets" => wanted.sheets = Some(words.next().unwrap_or_else(|| usage()).into()),
             "--times" => wanted.times = words.next().and_then(|n| n.parse().ok()).unwrap_or_else(|| usage()),
@@ -97,6 +104,7 @@ fn compare(library: Library, sheets: Option<&Path>, times: usize, seed: u64) {
         comparison.begin("outside sheets");
         worked::outside_sheets(folder, &mut |call| comparison.agree(call));
     }
+    macros::run(&mut comparison);
     rooms::run(&mut comparison, &mut random);
     if times > 0 {
         small::run(&mut comparison);
@@ -109,6 +117,8 @@ fn compare(library: Library, sheets: Option<&Path>, times: usize, seed: u64) {
 
 fn main() {
     let wanted = wanted();
+    let macros = wanted.macros.unwrap_or_else(|| usage());
+    header::load(&std::fs::read_to_string(macros).expect("the macros are there"));
     if wanted.itself {
         itself::run(wanted.sheets.as_deref());
     } else {

@@ -1,8 +1,10 @@
 //! Random matrices up to n = 64, and each call on the plates that they give.
 
 use crate::asked::{self, FIXED};
+use crate::call::Call;
 use crate::coding::encode;
 use crate::comparison::Comparison;
+use crate::header;
 use crate::plate::{check_columns, profile, Kind, Plate};
 use crate::random::{matrix, samples, spoiled, Matrix, Random};
 use crate::words::ones_before;
@@ -41,7 +43,7 @@ fn codings(comparison: &mut Comparison, random: &mut Random, plate: &Plate, flat
     }
 }
 
-/// A word to ask about: the answer, another codeword, one with another digit, one with ones beyond n, or any word.
+/// A word to ask about: the answer, another word of the plate, one with another digit, one with ones beyond n, or any word.
 fn named(random: &mut Random, plate: &Plate, answer: u64) -> u64 {
     let other = encode(plate, random.word(plate.k())).unwrap();
     let digit = 1 << random.below(plate.n);
@@ -52,7 +54,7 @@ fn named(random: &mut Random, plate: &Plate, answer: u64) -> u64 {
 
 /// Blocks of many tempers; fewer on wide plates, which cost the model most.
 fn blocks(comparison: &mut Comparison, random: &mut Random, plate: &Plate, flat: &[u64]) {
-    let (metrics, decisions) = (plate.metrics_needed(), plate.decisions_needed());
+    let (metrics, decisions) = header::rooms(plate);
     let count = match plate.widest() {
         0..=6 => 6,
         7..=9 => 3,
@@ -85,20 +87,24 @@ fn questions(comparison: &mut Comparison, random: &mut Random, flat: &[u64]) {
     comparison.agree(asked::write_word(flat, values, 256, FIXED));
 }
 
-/// Matrices in order, and one in eight with the faults of refusals 1 to 3.
+fn prepare(matrix: &Matrix) -> Call {
+    asked::prepare_masked(matrix.n, matrix.kind, &matrix.rows, matrix.mask, FIXED)
+}
+
+/// Matrices in order, and one in eight with the faults of refusals 1 to 3 and 23.
 pub fn run(comparison: &mut Comparison, random: &mut Random, count: usize) {
     comparison.begin("random matrices");
     let mut widths = [0usize; 15];
     for _ in 0..count {
         let matrix = matrix(random);
         widths[width(&matrix).min(14)] += 1;
-        let (reply, mut call) = comparison.agree(asked::prepare(matrix.n, matrix.kind, &matrix.rows, FIXED));
+        let (reply, mut call) = comparison.agree(prepare(&matrix));
         if reply == 0 {
             questions(comparison, random, &call.runs[1].words().to_vec());
         }
         if random.one_in(8) {
             let bad = spoiled(random, matrix);
-            comparison.agree(asked::prepare(bad.n, bad.kind, &bad.rows, FIXED));
+            comparison.agree(prepare(&bad));
         }
     }
     println!("random matrices by widest profile entry, 0 to 13 and wider: {widths:?}");

@@ -2,15 +2,20 @@
 
 use crate::asked::{self, Rooms, FIXED};
 use crate::comparison::Comparison;
+use crate::header;
 use crate::listing::{end_line, plate_line, profile_line, refused_line, word_line};
-use crate::plate::{prepare, Kind, Plate, Refusal};
+use crate::plate::{prepare_masked, Kind, Plate, Refusal, PLATE_WORDS};
 use crate::random::{samples, Random};
 use crate::words::ones_before;
 
 /// One plate of each width 0 to 12.
-fn plates() -> impl Iterator<Item = Plate> {
+pub fn plates() -> impl Iterator<Item = Plate> {
     let rows = |width: usize| (0..width).map(|i| 1 << i | 1 << (i + width)).collect::<Vec<u64>>();
-    (0..=12).map(move |width| prepare(2 * width as u64 + 1, Kind::G, &rows(width)).unwrap())
+    // those of odd width have a mask
+    let mask = |width: usize| if width % 2 == 1 { 0x5_a5a5_a5a5 & ones_before(2 * width + 1) } else { 0 };
+    let plate =
+        move |width| prepare_masked(2 * width as u64 + 1, Kind::G, &rows(width), mask(width)).unwrap();
+    (0..=12).map(plate)
 }
 
 /// Lengths about the one that is needed.
@@ -19,10 +24,10 @@ fn about(needed: usize) -> [usize; 5] {
 }
 
 fn working_rooms(comparison: &mut Comparison, random: &mut Random, plate: &Plate) {
-    let flat = plate.flat();
-    for metrics in about(plate.metrics_needed()) {
+    let (flat, needed) = (plate.flat(), header::rooms(plate));
+    for metrics in about(needed.0) {
         comparison.agree(asked::metric(&flat, &samples(random, plate.n), metrics, FIXED));
-        for decisions in about(plate.decisions_needed()) {
+        for decisions in about(needed.1) {
             let block = samples(random, plate.n);
             comparison.agree(asked::decode(&flat, &block, metrics, decisions, FIXED));
             comparison.agree(asked::word(&flat, &block, metrics, decisions, FIXED));
@@ -36,7 +41,7 @@ fn working_rooms(comparison: &mut Comparison, random: &mut Random, plate: &Plate
 /// Samples at and beyond their bounds, in number and in size, with good rooms and with none.
 fn bad_samples(comparison: &mut Comparison, random: &mut Random, plate: &Plate) {
     let flat = plate.flat();
-    let (metrics, decisions) = (plate.metrics_needed(), plate.decisions_needed());
+    let (metrics, decisions) = header::rooms(plate);
     for value in [2047, -2047, 2048, -2048, 2049, 4095, 4096, -4096, i16::MAX, i16::MIN] {
         let mut block = samples(random, plate.n);
         let place = random.below(plate.n);
@@ -70,11 +75,11 @@ fn plain_samples(comparison: &mut Comparison, plate: &Plate) {
     let flat = plate.flat();
     for count in [0, plate.n - 1, plate.n, plate.n + 1, 65, 200] {
         for value in [2047, -2047, 0, 1, -1] {
-            let (metrics, decisions) = (plate.metrics_needed(), plate.decisions_needed());
+            let (metrics, decisions) = header::rooms(plate);
             comparison.agree(asked::decode(&flat, &vec![value; count], metrics, decisions, FIXED));
             comparison.agree(asked::metric(&flat, &vec![value; count], metrics, FIXED));
             comparison.agree(asked::word(&flat, &vec![value; count], metrics, decisions, FIXED));
-            let sum = plate.rows.iter().fold(0, |sum, row| sum ^ row);
+            let sum = plate.rows.iter().fold(plate.mask, |sum, row| sum ^ row);
             comparison.agree(asked::why_not(&flat, &vec![value; count], sum, metrics, decisions, FIXED));
         }
     }
@@ -83,7 +88,7 @@ fn plain_samples(comparison: &mut Comparison, plate: &Plate) {
 /// Every position and some beyond, with good rooms and with none.
 fn positions(comparison: &mut Comparison, random: &mut Random, plate: &Plate) {
     let (flat, n) = (plate.flat(), plate.n as u64);
-    let (metrics, decisions) = (plate.metrics_needed(), plate.decisions_needed());
+    let (metrics, decisions) = header::rooms(plate);
     let block = samples(random, plate.n);
     for position in (0..=n + 1).chain([63, 64, 65, 1 << 32, 1 << 63, u64::MAX]) {
         comparison.agree(asked::firmness(&flat, &block, position, metrics, decisions, FIXED));
@@ -110,7 +115,9 @@ fn bad_arguments(comparison: &mut Comparison, plate: &Plate) {
     for position in 0..64 {
         comparison.agree(asked::encode(&flat, 1 << position, FIXED));
         comparison.agree(asked::read_back(&flat, 1 << position, FIXED));
-        comparison.agree(asked::read_back(&flat, plate.rows.first().unwrap_or(&0) ^ 1 << position, FIXED));
+        let word = plate.mask ^ plate.rows.first().unwrap_or(&0);
+        comparison.agree(asked::read_back(&flat, word, FIXED));
+        comparison.agree(asked::read_back(&flat, word ^ 1 << position, FIXED));
     }
     for ones in [ones_before(k), u64::MAX, !ones_before(k)] {
         comparison.agree(asked::encode(&flat, ones, FIXED));
@@ -146,7 +153,8 @@ fn plain_lines(comparison: &mut Comparison) {
         for room in 0..end_line(value).len() + 4 {
             comparison.agree(asked::write_end(value, room, FIXED));
         }
-        let numbers = [(value, 0, 0), (0, value, 0), (value, u64::MAX - value, value), (10, value, 0), (18, 1, value)];
+        let numbers =
+            [(value, 0, 0), (0, value, 0), (value, u64::MAX - value, value), (10, value, 0), (18, 1, value)];
         for (number, place, field) in numbers {
             let refusal = Refusal { number, place, field };
             for room in 0..refused_line(refusal).len() + 4 {
@@ -156,12 +164,27 @@ fn plain_lines(comparison: &mut Comparison) {
     }
 }
 
+/// The mask at its bounds: 23 after 3 and before 4, wherever the one beyond n stands.
+fn masks(comparison: &mut Comparison) {
+    let pairs = (0..13).map(|i| 1 << i | 1 << (i + 13)).collect::<Vec<u64>>();
+    let beyond = (pairs.iter().copied().chain([1 << 26])).collect::<Vec<u64>>();
+    for n in [1, 2, 26, 63, 64u64] {
+        for position in 0..64 {
+            for rows in [&[][..], &[1], &pairs, &beyond, &[0; 65]] {
+                comparison.agree(asked::prepare_masked(n, 0, rows, 1 << position, FIXED));
+            }
+            comparison.agree(asked::prepare_masked(n, 1, &[], 1 << position | 1, FIXED));
+        }
+        comparison.agree(asked::prepare_masked(n, 0, &[1], u64::MAX, FIXED));
+    }
+}
+
 /// Every run of fixed use at lengths about its own; matrices of no kind.
 fn shapes(comparison: &mut Comparison, plate: &Plate) {
     let (flat, block) = (plate.flat(), vec![1; plate.n]);
-    let (metrics, decisions) = (plate.metrics_needed(), plate.decisions_needed());
+    let (metrics, decisions) = header::rooms(plate);
     for code in 0..5 * 3 * 4 * 3 {
-        let length = [131, 0, 130, 132, 140][code % 5];
+        let length = [PLATE_WORDS, 0, PLATE_WORDS - 1, PLATE_WORDS + 1, 140][code % 5];
         let rooms = Rooms { plate: length, single: code / 5 % 3, counts: code / 15 % 4, place: code / 60 };
         comparison.agree(asked::branch(&flat, 0, 0, 0, rooms));
         comparison.agree(asked::encode(&flat, 1, rooms));
@@ -181,15 +204,16 @@ fn shapes(comparison: &mut Comparison, plate: &Plate) {
         comparison.agree(asked::write_word(&flat, (0, 0, 0, 0), 256, rooms));
         comparison.agree(asked::write_refused(Refusal { number: 1, place: 0, field: 0 }, 256, rooms));
         comparison.agree(asked::write_end(1, 256, rooms));
-        for (n, kind, rows) in [
-            (8, 0, &[3, 5][..]),
-            (8, 1, &[3, 5]),
-            (8, 2, &[]),
-            (0, u64::MAX, &[]),
-            (0, 0, &[]),
-            (8, 1, &[1, 256]),
+        for (n, kind, rows, mask) in [
+            (8, 0, &[3, 5][..], 0),
+            (8, 1, &[3, 5], 129),
+            (8, 1, &[3, 5], 256),
+            (8, 2, &[], 256),
+            (0, u64::MAX, &[], 0),
+            (0, 0, &[], 1),
+            (8, 1, &[1, 256], 256),
         ] {
-            comparison.agree(asked::prepare(n, kind, rows, rooms));
+            comparison.agree(asked::prepare_masked(n, kind, rows, mask, rooms));
         }
     }
 }
@@ -197,6 +221,7 @@ fn shapes(comparison: &mut Comparison, plate: &Plate) {
 pub fn run(comparison: &mut Comparison, random: &mut Random) {
     comparison.begin("rooms, samples and arguments at their bounds");
     plain_lines(comparison);
+    masks(comparison);
     for plate in plates() {
         working_rooms(comparison, random, &plate);
         bad_samples(comparison, random, &plate);

@@ -1,7 +1,9 @@
-//! Every small matrix: n up to 4, up to 3 rows, with all samples of -1, 0 and 1.
+//! Every small matrix: n up to 4, up to 3 rows, with all samples of -1, 0 and 1. Every small plate besides with masks: all masks where
+//! n is up to 3, else one, each in its turn.
 
 use crate::asked::{self, FIXED};
 use crate::comparison::Comparison;
+use crate::header;
 use crate::plate::Plate;
 use std::collections::HashSet;
 
@@ -38,8 +40,9 @@ fn all_questions(comparison: &mut Comparison, plate: &Plate, flat: &[u64]) {
     for word in 0..2 << n {
         comparison.agree(asked::read_back(flat, word, FIXED));
     }
-    let (metrics, decisions) = (plate.metrics_needed(), plate.decisions_needed());
+    let (metrics, decisions) = header::rooms(plate);
     for samples in all_samples(plate.n) {
+        comparison.agree(asked::decode(flat, &samples, metrics, decisions, FIXED));
         comparison.agree(asked::metric(flat, &samples, metrics, FIXED));
         comparison.agree(asked::word(flat, &samples, metrics, decisions, FIXED));
         for position in 0..=n {
@@ -51,6 +54,16 @@ fn all_questions(comparison: &mut Comparison, plate: &Plate, flat: &[u64]) {
     }
 }
 
+/// The masks that a small plate is tried with, `turn` plates having come before it.
+fn masks(n: usize, turn: usize) -> Vec<u64> {
+    let all = 1 << n;
+    if n < 4 {
+        (1..all).collect()
+    } else {
+        vec![1 + turn as u64 % (all - 1)]
+    }
+}
+
 pub fn run(comparison: &mut Comparison) {
     comparison.begin("every small matrix");
     let mut seen = HashSet::new();
@@ -58,12 +71,21 @@ pub fn run(comparison: &mut Comparison) {
         let (_, mut prepared) = comparison.agree(asked::prepare(n, kind, &rows, FIXED));
         let flat = prepared.runs[1].words().to_vec();
         let plate = Plate::from_flat(&flat).expect("no small plate is refused");
+        let (metrics, decisions) = header::rooms(&plate);
         for samples in all_samples(plate.n) {
-            let (metrics, decisions) = (plate.metrics_needed(), plate.decisions_needed());
             comparison.agree(asked::decode(&flat, &samples, metrics, decisions, FIXED));
         }
         if seen.insert(flat.clone()) {
             all_questions(comparison, &plate, &flat);
+            for mask in masks(plate.n, seen.len()) {
+                let (_, mut prepared) = comparison.agree(asked::prepare_masked(n, kind, &rows, mask, FIXED));
+                let flat = prepared.runs[1].words().to_vec();
+                all_questions(
+                    comparison,
+                    &Plate::from_flat(&flat).expect("no small plate is refused"),
+                    &flat,
+                );
+            }
         }
     }
 }

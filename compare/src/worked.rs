@@ -2,7 +2,8 @@
 
 use crate::asked::{self, FIXED};
 use crate::call::Call;
-use crate::model::{DECISIONS_MOST, LINE_MOST, METRICS_MOST, NO_BRANCH};
+use crate::header::{listing_room, rooms_most};
+use crate::model::NO_BRANCH;
 use std::fs;
 use std::path::Path;
 
@@ -45,35 +46,37 @@ impl Checked<'_> {
     }
 
     fn decodes(&mut self, plate: &[u64], samples: &[i16], answer: &str, metric: i32, counts: [u64; 2]) {
-        let call = asked::decode(plate, samples, METRICS_MOST, DECISIONS_MOST, FIXED);
+        let (metrics, decisions) = rooms_most();
+        let call = asked::decode(plate, samples, metrics, decisions, FIXED);
         let mut left = self.expect(call, 0, Some((4, 0, word(answer))));
         assert_eq!(left.runs[5].metrics(), [metric]);
         assert_eq!(left.runs[6].words(), counts);
-        let mut left = self.expect(asked::metric(plate, samples, METRICS_MOST, FIXED), 0, None);
+        let mut left = self.expect(asked::metric(plate, samples, metrics, FIXED), 0, None);
         assert_eq!((left.runs[3].metrics()[0], left.runs[4].words().to_vec()), (metric, counts.to_vec()));
-        let call = asked::word(plate, samples, METRICS_MOST, DECISIONS_MOST, FIXED);
+        let call = asked::word(plate, samples, metrics, decisions, FIXED);
         let mut left = self.expect(call, 0, Some((4, 0, word(answer))));
         assert_eq!(left.runs[5].words(), counts);
     }
 
     /// Why a word is not the answer: the number of the reason, its position, its difference.
     fn explains(&mut self, plate: &[u64], samples: &[i16], named: u64, told: [u64; 2], difference: i32) {
-        let call = asked::why_not(plate, samples, named, METRICS_MOST, DECISIONS_MOST, FIXED);
+        let (metrics, decisions) = rooms_most();
+        let call = asked::why_not(plate, samples, named, metrics, decisions, FIXED);
         let mut left = self.expect(call, 0, None);
         assert_eq!((left.runs[4].words().to_vec(), left.runs[5].metrics()[0]), (told.to_vec(), difference));
     }
 
     /// The reading of a position: whether it is fixed, and its bit or margin.
     fn reads(&mut self, plate: &[u64], samples: &[i16], position: u64, fixed: u64, value: i32) {
-        let call = asked::firmness(plate, samples, position, METRICS_MOST, DECISIONS_MOST, FIXED);
+        let (metrics, decisions) = rooms_most();
+        let call = asked::firmness(plate, samples, position, metrics, decisions, FIXED);
         let mut left = self.expect(call, 0, Some((4, 0, fixed)));
         assert_eq!(left.runs[5].metrics(), [value]);
     }
 
     fn lists(&mut self, sheet: &[u8], listing: &[u8]) {
-        // a repeated heard line takes room and prints nothing, so the sheet's lines are counted
-        let room = LINE_MOST * (3 + sheet.iter().filter(|byte| **byte == b'\n').count());
-        let call = asked::listing(sheet, METRICS_MOST, DECISIONS_MOST, room, FIXED);
+        let (metrics, decisions) = rooms_most();
+        let call = asked::listing(sheet, metrics, decisions, listing_room(sheet), FIXED);
         let mut left = self.expect(call, 0, Some((4, 0, listing.len() as u64)));
         let found = &left.runs[3].bytes()[..listing.len()];
         assert!(found == listing, "{} where {} is due", found.escape_ascii(), listing.escape_ascii());
@@ -125,6 +128,42 @@ impl Checked<'_> {
         self.expect(asked::read_back(&plate, word("11010010"), FIXED), 14, None);
     }
 
+    /// The sheet with the mask 10000001.
+    fn the_masked_sheet(&mut self) {
+        let sheet = SHEET.replacen("first\n", "first\nmask\t10000001\n", 1);
+        self.lists(sheet.as_bytes(), LISTING.replace("11110000\t19", "01000010\t21").as_bytes());
+        let call = asked::prepare_masked(8, 0, &ROWS.map(word), word("10000001"), FIXED);
+        let plate = self.expect(call, 0, Some((2, 0, 0))).runs[1].words().to_vec();
+        let plain = self.plate(8, 0, &ROWS.map(word));
+        assert_eq!((&plate[..131], plate[131]), (&plain[..131], 129));
+        self.decodes(&plate, &SAMPLES, "01000010", 21, [44, 11]);
+        self.decodes(&plate, &[0; 8], "00010111", 0, [44, 11]);
+        for (position, margin) in [4, -4, 4, 4, 14, 6, -6, 14].into_iter().enumerate() {
+            self.reads(&plate, &SAMPLES, position as u64, 0, margin);
+        }
+        for (depth, state, bit, next) in
+            [(0, 0, 0, 1), (0, 0, 1, 0), (4, 1, 0, 5), (7, 0, 1, 0), (7, 1, 0, 0)]
+        {
+            self.expect(asked::branch(&plate, depth, state, bit, FIXED), 0, Some((1, 0, next)));
+        }
+        for (state, bit) in [(0, 0), (1, 1)] {
+            self.expect(asked::branch(&plate, 7, state, bit, FIXED), NO_BRANCH, None);
+        }
+        self.expect(asked::encode(&plate, 0, FIXED), 0, Some((1, 0, word("10000001"))));
+        self.expect(asked::encode(&plate, 9, FIXED), 0, Some((1, 0, word("01111110"))));
+        self.expect(asked::read_back(&plate, word("01111110"), FIXED), 0, Some((1, 0, 9)));
+        self.expect(asked::read_back(&plate, word("11111111"), FIXED), 14, None);
+        for (named, told, difference) in [
+            ("11110000", [1, 3], 0),
+            ("01000010", [0, 0], 0),
+            ("10110010", [2, 0], 4),
+            ("010000101", [1, 8], 0),
+        ] {
+            self.explains(&plate, &SAMPLES, word(named), told, difference);
+        }
+        self.explains(&plate, &[0; 8], word("10000001"), [3, 0], 0);
+    }
+
     /// The sheet's code with rooms and samples at their bounds.
     fn the_sheet_at_bounds(&mut self) {
         let plate = self.plate(8, 0, &ROWS.map(word));
@@ -143,16 +182,41 @@ impl Checked<'_> {
             let place = if reply == 7 { 5 } else { 0 };
             self.expect(asked::decode(&plate, &samples, 16, 8, FIXED), reply, Some((7, 0, place)));
         }
+        for (sample, answer) in [(2047, 0), (-2047, 15)] {
+            let mut samples = SAMPLES;
+            samples[2] = sample;
+            self.expect(asked::decode(&plate, &samples, 16, 8, FIXED), 0, Some((4, 0, answer)));
+        }
     }
 
     fn matrices_at_bounds(&mut self) {
         self.expect(asked::prepare(8, 0, &[256], FIXED), 3, Some((2, 0, 0)));
         self.expect(asked::prepare(0, 0, &[], FIXED), 1, Some((2, 0, 0)));
         self.expect(asked::prepare(65, 0, &[], FIXED), 1, Some((2, 0, 0)));
+        self.expect(asked::prepare_masked(8, 0, &[255], 256, FIXED), 23, Some((2, 0, 0)));
         let pairs = |count: u64| (0..count).map(|i| 1 << i | 1 << (i + count)).collect::<Vec<u64>>();
         let widest = self.plate(24, 0, &pairs(12));
         assert_eq!(widest[66..].iter().max(), Some(&12));
         self.expect(asked::prepare(26, 0, &pairs(13), FIXED), 4, Some((2, 0, 13)));
+        self.expect(asked::prepare_masked(26, 0, &pairs(13), 1 << 26, FIXED), 23, Some((2, 0, 0)));
+        self.expect(asked::prepare_masked(8, 0, &[1, 256], 256, FIXED), 3, Some((2, 0, 1)));
+        let top = [1, 1 << 63];
+        let table: [(u64, u64, &[u64], [u64; 2]); 3] =
+            [(64, 1, &[], [64, 0]), (64, 0, &[3; 64], [1, 1]), (64, 1, &top, [62, 0])];
+        for (n, kind, rows, rows_and_width) in table {
+            let plate = self.plate(n, kind, rows);
+            assert_eq!([plate[1], *plate[66..].iter().max().unwrap()], rows_and_width);
+        }
+        self.expect(asked::prepare(64, 0, &[3; 65], FIXED), 2, Some((2, 0, 0)));
+        self.expect(asked::prepare(63, 1, &top, FIXED), 3, Some((2, 0, 1)));
+    }
+
+    /// The sheet's rows as parity check, and in another order, give the same plate.
+    fn the_same_plate(&mut self) {
+        let plate = self.plate(8, 0, &ROWS.map(word));
+        let [a, b, c, d] = ROWS.map(word);
+        assert_eq!(self.plate(8, 1, &[a, b, c, d]), plate);
+        assert_eq!(self.plate(8, 0, &[c, a, d, b]), plate);
     }
 }
 
@@ -161,8 +225,10 @@ pub fn examples(answer: Answer) -> usize {
     let mut checked = Checked { answer, count: 0 };
     checked.small_codes();
     checked.the_sheet();
+    checked.the_masked_sheet();
     checked.the_sheet_at_bounds();
     checked.matrices_at_bounds();
+    checked.the_same_plate();
     checked.count
 }
 

@@ -40,11 +40,11 @@ pub fn write(n: usize, rows: &[u64], room: &mut [u8]) -> Written
     if beyond < rows.len() {
         return Written::Refused(Refusal::RowBeyond(beyond));
     }
+    let mut scratch = [0u8; 1];
+    let size = pieces::put_text(n, rows, &mut scratch);
     if rows.len() == 0 {
         return Written::Refused(Refusal::AlistFault(0));
     }
-    let mut scratch = [0u8; 1];
-    let size = pieces::put_text(n, rows, &mut scratch);
     if room.len() < size {
         return Written::Refused(Refusal::LineRoom);
     }

@@ -50,10 +50,11 @@ pub fn judge(plate: Plate, text: &[u8], room: &mut [u64]) -> Judgement
         return without_surplus(Judged::Refused(Refusal::BranchFault(faulty + 1)));
     }
     let repeated = first_repeating(text, n);
-    if repeated < count {
-        return without_surplus(Judged::Refused(Refusal::BranchTwice(repeated + 1)));
-    }
+    let twice = repeated + 1;
     let need = 4 * count;
+    if repeated < count {
+        return without_surplus(Judged::Refused(Refusal::BranchTwice(twice)));
+    }
     if room.len() < need {
         return without_surplus(Judged::Refused(Refusal::MetricRoom));
     }

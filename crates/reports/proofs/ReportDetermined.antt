@@ -142,7 +142,7 @@ plate-determined plate Rest once [] b x y = absurd x
 plate-determined plate Rest once (k ∷ ks) [] x y = absurd y
 plate-determined plate Rest once (k ∷ ks) (l ∷ ls) x y = both (x .0 ∙ sym (y .0)) (profile-determined plate Rest once ks ls (x .1) (y .1))
 
-module _ (sheet : Contents) (r : Prepared) (p : Prepares (sheet .n) (sheet .kind) (sheet .rows) r) where
+module _ (sheet : Contents) (r : Prepared) (p : Prepares (sheet .n) (sheet .kind) (sheet .rows) (sheet .mask) r) where
   prepared-determined : (v : Verdict) → r .verdict ≡ v → (a b : List (List ℕ)) → PreparedReports v (r .plate) sheet a → PreparedReports v (r .plate) sheet b → a ≡ b
   prepared-determined (J.Refused q) e a b x y = x ∙ sym y
   prepared-determined J.Accepted e a b x y =

@@ -46,7 +46,7 @@ maskIn (Is w) = w
 maskIn NoMask = 0
 maskIn (Bad fault) = 0
 
--- how many lines the mask takes
+-- how many lines the mask takes, be it of its form or not
 abbrev pub masksIn : MaskLine → ℕ
 masksIn (Is w) = 1
 masksIn NoMask = 0

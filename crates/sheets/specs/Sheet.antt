@@ -190,7 +190,7 @@ sheetAt start c = record {
 abbrev pub masksOf : List ℕ → Contents → ℕ
 masksOf s c = masksIn (maskFront (c .n) (c .order) (drop 1 (lines s)))
 
--- where they begin: at the line after the cover, the mask and the rows, which is the first block or heard line, or end where there is none
+-- where its block or heard lines begin: at the line after the cover, the mask and the rows, which is the first of them, or end where there is none
 abbrev pub startOf : List ℕ → Contents → ℕ
 startOf s c = begins (lines s) (suc (masksOf s c + length (c .rows)))
 

@@ -19,8 +19,8 @@ use Rattle.plates.specs.Profile.{liveAt}
 use Rattle.plates.specs.Refusals.{Passes}
 use Rattle.trellises.proofs.AcceptedIsPrepared.{accepted-length, accepted-prepared}
 use Rattle.trellises.proofs.MaskedGraph.{has-off}
-use Rattle.trellises.proofs.PathsOnce.{nth-branch}
-use Rattle.trellises.proofs.PlateTrellis.{plate-spans}
+use Rattle.trellises.proofs.PathsOnce.{kept-branch}
+use Rattle.trellises.proofs.PlateTrellis.{plate-kept}
 use Rattle.trellises.proofs.WordsTrellis.{accepted-words, words-once, words-path-ends, words-spelled}
 use Rattle.trellises.specs.Branching.{Branches, branchConditions, codeTrellis, trellisOf}
 use Rattle.trellises.specs.declared.Next.the-variants.{State}
@@ -80,7 +80,7 @@ module _ (plate : Plate) (given : IsPrepared plate) (w : ℕ) where
   inside : (t a b c : ℕ) → Has (trellisOf plate) t a b c → c < 2 ^ liveAt (rowsOf plate) (suc t)
   inside t a b c h =
       subst (λ (x : ℕ). x < 2 ^ liveAt (rowsOf plate) (suc t))
-      (sym (ap (λ (b : Branch). b .to) (nth-branch (rowsOf plate) _ _ (plate-spans plate given) t (own .place) (own .there))) ∙ own .leads)
+      (sym (ap (λ (b : Branch). b .to) (kept-branch (rowsOf plate) _ _ (plate-kept plate given) t (own .place) (own .there))) ∙ own .leads)
       (gather-lt (length (rowsOf plate)) _ _)
     where
       -- the code's branch
@@ -92,7 +92,7 @@ module _ (plate : Plate) (given : IsPrepared plate) (w : ℕ) where
   run-path t s r = record { state = r .state; inside = within; branch = λ i h. r .answers i h .1 }
     where
       within : (i : ℕ) → i ≤ t → r .state i < trellisOf plate .states i
-      within zero h = omega (arith, r .begins, pow-pos (liveAt (rowsOf plate) 0))
+      within zero h = omega (arith, r .begins, words-spelled plate given .start)
       within (suc i) h = inside i _ _ _ (r .answers i h .1)
 
   -- a word's questions have one outcome

@@ -13,7 +13,7 @@ use Rattle.plates.proofs.Live.{is-live, live-is}
 use Rattle.plates.proofs.OneCheck.{pow-here, pow-other}
 use Rattle.plates.specs.Profile.{live}
 use Rattle.trellises.proofs.Active.{active-is}
-use Rattle.trellises.proofs.TrellisSpells.{table-at, table-length, trellis-spells}
+use Rattle.trellises.proofs.TrellisSpells.{Kept, spans-kept, table-at, table-length, trellis-spells}
 use Rattle.trellises.specs.Graph.{Branch, Has, Path, branchAt}
 use Rattle.trellises.specs.Smallest.{Different, SamePath}
 use Rattle.trellises.specs.States.{active, branchOf, stateOf, trellis}
@@ -60,7 +60,7 @@ one-left rows p j u v one others e = go (bit-cases (bitXor u v) j)
         absurd (zero-one even
         (sum-agree rows p (bitXor u v) (2 ^ j) (λ i k. side o i k (ℕ-discrete i j)) ∙ ap (λ (x : ℕ). bit x p) (sum-one rows j) ∙ one))
 
-module _ (rows : List ℕ) (f l : ℕ → ℕ) (s : Spans rows f l) where
+module _ (rows : List ℕ) (f l : ℕ → ℕ) (s : Kept rows f l) where
   -- a state and a bit decide which of the active rows are taken: those live by the state, and one that begins by the bit
   pub decided : (t x y : ℕ) → stateOf rows f l t x ≡ stateOf rows f l t y → bit (sumOf rows x) t ≡ bit (sumOf rows y) t
       → (j : ℕ) → j < length rows → f j ≤ t → t ≤ l j → bit x j ≡ bit y j
@@ -71,7 +71,7 @@ module _ (rows : List ℕ) (f l : ℕ → ℕ) (s : Spans rows f l) where
 
       others : t ≡ f j → (i : ℕ) → i < length rows → i ≢ j → (f i < t) ⊎ ((f i ≡ t) ⊎ (t < f i)) → Dec (l i < t)
           → (bit (getD rows i 0) t ≡ 0) ⊎ (bit x i ≡ bit y i)
-      others e i m d (inl c) (yes z) = inl (s .last i m .zeros t z)
+      others e i m d (inl c) (yes z) = inl (s .behind i m t z)
       others e i m d (inl c) (no z) = inr (lives i m c (omega arith))
       others e i m d (inr (inl q)) z = absurd (d (rising-apart (length rows) f (s .rising) i j m k (q ∙ e)))
       others e i m d (inr (inr c)) z = inl (s .first i m .zeros t c)
@@ -88,9 +88,9 @@ module _ (rows : List ℕ) (f l : ℕ → ℕ) (s : Spans rows f l) where
   size t = table-length (2 ^ count (length rows) (active f l t)) (λ v. branchOf rows f l t (spread (length rows) (active f l t) v))
 
   -- branch v of section t takes the active rows that the digits of v say
-  pub nth-branch : (t v : ℕ) → v < length (trellis rows f l .branches t)
+  pub kept-branch : (t v : ℕ) → v < length (trellis rows f l .branches t)
       → branchAt (trellis rows f l) t v ≡ branchOf rows f l t (spread (length rows) (active f l t) v)
-  nth-branch t v h =
+  kept-branch t v h =
       table-at (2 ^ count (length rows) (active f l t)) (λ v. branchOf rows f l t (spread (length rows) (active f l t) v)) v
       (subst (λ (z : ℕ). v < z) (size t) h)
 
@@ -100,8 +100,8 @@ module _ (rows : List ℕ) (f l : ℕ → ℕ) (s : Spans rows f l) where
       → branchAt (trellis rows f l) t i .out ≡ branchAt (trellis rows f l) t j .out → i ≡ j
   one-branch t i j hi hj from out =
       spread-injective (length rows) (active f l t) i j (subst (λ (z : ℕ). i < z) (size t) hi) (subst (λ (z : ℕ). j < z) (size t) hj)
-      (λ m k a. decided t _ _ (sym (ap (λ (b : Branch). b .from) (nth-branch t i hi)) ∙ from ∙ ap (λ (b : Branch). b .from) (nth-branch t j hj))
-      (sym (ap (λ (b : Branch). b .out) (nth-branch t i hi)) ∙ out ∙ ap (λ (b : Branch). b .out) (nth-branch t j hj)) m k
+      (λ m k a. decided t _ _ (sym (ap (λ (b : Branch). b .from) (kept-branch t i hi)) ∙ from ∙ ap (λ (b : Branch). b .from) (kept-branch t j hj))
+      (sym (ap (λ (b : Branch). b .out) (kept-branch t i hi)) ∙ out ∙ ap (λ (b : Branch). b .out) (kept-branch t j hj)) m k
       (active-is f l t m a .0) (active-is f l t m a .1))
 
   -- the branches of a section are all different
@@ -146,7 +146,7 @@ module _ (rows : List ℕ) (f l : ℕ → ℕ) (s : Spans rows f l) where
       x = spread (length rows) (active f l t) (b .place)
 
       mine : branchAt (trellis rows f l) t (b .place) ≡ branchOf rows f l t x
-      mine = nth-branch t (b .place) (b .there)
+      mine = kept-branch t (b .place) (b .there)
 
       alike : (j : ℕ) → j < length rows → T (live f l (suc t) j) → bit x j ≡ bit u j
       alike j k a =
@@ -155,6 +155,15 @@ module _ (rows : List ℕ) (f l : ℕ → ℕ) (s : Spans rows f l) where
           (omega arith) (omega arith)
 
   -- the path of a codeword stands at depth t in the state of the live rows that it takes
+  pub kept-state : (n u : ℕ) (p : Path (trellis rows f l) n (sumOf rows u)) (t : ℕ) → t ≤ n → p .state t ≡ stateOf rows f l t u
+  kept-state n u p zero h = omega (arith, nothing-live, start-zero n (sumOf rows u) p, gather-lt (length rows) (live f l 0) u)
+  kept-state n u p (suc t) h = follows t u (p .state t) (p .state (suc t)) (p .branch t h) (kept-state n u p t (omega arith))
+
+-- the same of rows that are kept to their last ones
+module _ (rows : List ℕ) (f l : ℕ → ℕ) (s : Spans rows f l) where
+  pub nth-branch : (t v : ℕ) → v < length (trellis rows f l .branches t)
+      → branchAt (trellis rows f l) t v ≡ branchOf rows f l t (spread (length rows) (active f l t) v)
+  nth-branch = kept-branch rows f l (spans-kept s)
+
   pub path-state : (n u : ℕ) (p : Path (trellis rows f l) n (sumOf rows u)) (t : ℕ) → t ≤ n → p .state t ≡ stateOf rows f l t u
-  path-state n u p zero h = omega (arith, nothing-live, start-zero n (sumOf rows u) p, gather-lt (length rows) (live f l 0) u)
-  path-state n u p (suc t) h = follows t u (p .state t) (p .state (suc t)) (p .branch t h) (path-state n u p t (omega arith))
+  path-state = kept-state rows f l (spans-kept s)

@@ -14,8 +14,8 @@ use Rattle.plates.specs.Profile.{liveAt}
 use Rattle.trellises.proofs.ActiveNumber.{active-more, active-same}
 use Rattle.trellises.proofs.NoneSmaller.{branches-bound, states-bound}
 use Rattle.trellises.proofs.PathsOnce.{branches-differ, paths-once, spelled-once}
-use Rattle.trellises.proofs.TrellisSpells.{own-branches, trellis-spells}
-use Rattle.trellises.specs.Branching.{codeTrellis}
+use Rattle.trellises.proofs.TrellisSpells.{Kept, own-branches, trellis-spells}
+use Rattle.trellises.specs.Branching.{codeTrellis, keptTo}
 use Rattle.trellises.specs.Graph.{Branch, Graph, Path, Spells}
 use Rattle.trellises.specs.Smallest.{Begins, Different, HasAll, SamePath, Smallest, activeAt}
 use Rattle.words.proofs.Span.{zero-one}
@@ -45,14 +45,25 @@ module _ (plate : Plate) (given : IsPrepared plate) where
       go (yes a) = a
       go (no a) = absurd (zero-one (bits-below (plate .n) (getD (rowsOf plate) j 0) row (lasts (rowsOf plate) j) (omega arith)) (plate-spans .last j k .one))
 
+  -- so no row has a one behind the position up to which it is kept, which is below n
+  pub plate-kept : Kept (rowsOf plate) (firsts (rowsOf plate)) (keptTo plate)
+  plate-kept = record {
+    first = plate-spans .first;
+    rising = plate-spans .rising;
+    behind = λ j k i b. plate-spans .last j k .zeros i (omega (arith, plate-fits j k, b));
+  }
+
+  pub plate-within : (j : ℕ) → j < length (rowsOf plate) → keptTo plate j < plate .n
+  plate-within j k = omega (arith, plate-fits j k)
+
   -- full paths spell exactly the codewords
   pub plate-spells : Spells (codeTrellis plate) (plate .n) (IsSum (rowsOf plate))
-  plate-spells = trellis-spells (plate .n) (rowsOf plate) _ _ plate-spans plate-fits
+  plate-spells = trellis-spells (plate .n) (rowsOf plate) _ _ plate-kept plate-within
 
   -- each by exactly one path
   pub plate-spelled-once : (w : ℕ) → IsSum (rowsOf plate) w
       → (p : Path (codeTrellis plate) (plate .n) w) × ((q : Path (codeTrellis plate) (plate .n) w) → SamePath (codeTrellis plate) (plate .n) w p q)
-  plate-spelled-once = spelled-once (rowsOf plate) _ _ plate-spans (plate .n) plate-fits
+  plate-spelled-once = spelled-once (rowsOf plate) _ _ plate-kept (plate .n) plate-within
 
   -- which begins and ends in state 0
   pub plate-path-ends : (w : ℕ) (p : Path (codeTrellis plate) (plate .n) w) → (p .state 0 ≡ 0) × (p .state (plate .n) ≡ 0)
@@ -68,11 +79,11 @@ module _ (plate : Plate) (given : IsPrepared plate) where
 
   -- section t has a branch for each choice among the active rows
   pub branches-number : (t : ℕ) → length (codeTrellis plate .branches t) ≡ 2 ^ activeAt (rowsOf plate) t
-  branches-number = own-branches (plate .n) (rowsOf plate) _ _ plate-spans plate-fits
+  branches-number = own-branches (plate .n) (rowsOf plate) _ _ plate-kept plate-within
 
   -- all different
   pub branches-different : (t : ℕ) → Different (codeTrellis plate) t
-  branches-different = branches-differ (rowsOf plate) _ _ plate-spans
+  branches-different = branches-differ (rowsOf plate) _ _ plate-kept
 
   -- and no graph for the code has fewer there, counting each once
   pub branches-minimal : (g : Graph) → Spells g (plate .n) (IsSum (rowsOf plate)) → (t : ℕ) → t < plate .n → (once : List Branch) → HasAll g t once
@@ -89,12 +100,24 @@ module _ (plate : Plate) (given : IsPrepared plate) where
   branches-single t none =
       ap (λ (x : ℕ). 2 ^ x) (active-same (rowsOf plate) _ _ plate-spans t (λ j k e. none (record { row = j; there = k; here = e })))
 
+  -- so none has fewer states than the trellis at any depth
+  pub states-least : (other : Graph) → Spells other (plate .n) (IsSum (rowsOf plate)) → (t : ℕ) → t ≤ plate .n
+      → codeTrellis plate .states t ≤ other .states t
+  states-least = states-minimal
+
+  -- or fewer branches in any section
+  pub branches-least : (other : Graph) → Spells other (plate .n) (IsSum (rowsOf plate)) → (t : ℕ) → t < plate .n → (once : List Branch)
+      → HasAll other t once → length (codeTrellis plate .branches t) ≤ length once
+  branches-least other r t h once all =
+      subst (λ (x : ℕ). x ≤ length once) (sym (own-branches (plate .n) (rowsOf plate) _ _ plate-kept plate-within t))
+      (branches-minimal other r t h once all)
+
   -- all of it
   pub plate-smallest : Smallest (codeTrellis plate) (plate .n) (IsSum (rowsOf plate))
   plate-smallest = record {
     spells = plate-spells;
-    once = paths-once (rowsOf plate) _ _ plate-spans (plate .n);
+    once = paths-once (rowsOf plate) _ _ plate-kept (plate .n);
     different = branches-different;
-    states-least = states-minimal;
-    branches-least = λ g r t h once all. subst (λ (x : ℕ). x ≤ length once) (sym (branches-number t)) (branches-minimal g r t h once all);
+    states-least = states-least;
+    branches-least = branches-least;
   }

@@ -1,4 +1,5 @@
--- The trellis of plate rows spells exactly the sums of the rows.
+-- The trellis of plate rows spells exactly the sums of the rows. This asks nothing of where the rows' last ones are, but that they are kept
+-- so long.
 use lib.Dec.{T, ltb, ltb→lt, lt→ltb}
 use lib.ListN.{getD, length}
 use mathlib.Core.Bool.{Bool, false, true}
@@ -18,7 +19,7 @@ use Rattle.words.proofs.Choice.{count-none, gather-lt, gather-same, gather-show
 use Rattle.words.proofs.Sums.{all-zero, sum-agree}
 use Rattle.words.proofs.Word.{below-bits, below-ext, half}
 use Rattle.words.specs.Choice.{count, gather, spread}
-use Rattle.words.specs.Span.{Spans}
+use Rattle.words.specs.Span.{Before, Leads, Spans}
 use Rattle.words.specs.Sum.{IsSum, sumOf}
 use Rattle.words.specs.Word.{bit}
 
@@ -69,21 +70,27 @@ sel-false a b x y h = go (ltb a b) (λ t. omega (arith, ltb→lt a b t))
     go true n = absurd (n tt)
     go false n = refl
 
-module _ (n : ℕ) (rows : List ℕ) (f l : ℕ → ℕ) (s : Spans rows f l) (fit : (j : ℕ) → j < length rows → l j < n) where
-  K : ℕ
-  K = length rows
+-- rows that are kept from their first ones, at f, to l: they are zero behind it, whether or not they have their last ones there
+pub record Kept (rows : List ℕ) (f l : ℕ → ℕ) : Type 0 where
+  pub first : Leads Before rows f
+  pub rising : (i j : ℕ) → i < j → j < length rows → f i < f j
+  pub behind : (j : ℕ) → j < length rows → (i : ℕ) → l j < i → bit (getD rows j 0) i ≡ 0
 
+pub spans-kept : {rows : List ℕ} {f l : ℕ → ℕ} → Spans rows f l → Kept rows f l
+spans-kept s = record { first = s .first; rising = s .rising; behind = λ j k. s .last j k .zeros }
+
+module _ (n : ℕ) (rows : List ℕ) (f l : ℕ → ℕ) (s : Kept rows f l) (fit : (j : ℕ) → j < length rows → l j < n) where
   -- a row has 0 in a section where it is not active
   asleep : (t j : ℕ) → j < length rows → {A : Type 0} → (f j ≤ t → t ≤ l j → A) → (bit (getD rows j 0) t ≡ 0) ⊎ A
   asleep t j k {A} yes-then = go (decLt t (f j)) (decLt (l j) t)
     where
       go : Dec (t < f j) → Dec (l j < t) → (bit (getD rows j 0) t ≡ 0) ⊎ A
       go (yes a) b = inl (s .first j k .zeros t a)
-      go (no a) (yes b) = inl (s .last j k .zeros t b)
+      go (no a) (yes b) = inl (s .behind j k t b)
       go (no a) (no b) = inr (yes-then (omega arith) (omega arith))
 
   below : (u : ℕ) → sumOf rows u < 2 ^ n
-  below u = below-bits n (sumOf rows u) (λ i h. all-zero rows i (λ j k. s .last j k .zeros i (omega (arith, fit j k))) u)
+  below u = below-bits n (sumOf rows u) (λ i h. all-zero rows i (λ j k. s .behind j k i (omega (arith, fit j k))) u)
 
   -- the rows that branch v of section t takes
   abbrev X : ℕ → ℕ → ℕ

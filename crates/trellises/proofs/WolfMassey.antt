@@ -22,11 +22,11 @@ use Rattle.plates.specs.Profile.{live}
 use Rattle.trellises.proofs.AcceptedIsPrepared.{accepted-code, accepted-length, accepted-prepared}
 use Rattle.trellises.proofs.Gluing.{splice, splice-below, splice-high, splice-low}
 use Rattle.trellises.proofs.MaskedGraph.{path-off, xor-twice}
-use Rattle.trellises.proofs.PathsOnce.{path-state}
-use Rattle.trellises.proofs.PlateTrellis.{plate-spans}
+use Rattle.trellises.proofs.PathsOnce.{kept-state}
+use Rattle.trellises.proofs.PlateTrellis.{plate-kept, plate-spans}
 use Rattle.trellises.proofs.WordsTrellis.{accepted-words}
 use Rattle.trellises.specs.Beginnings.{SameSyndrome, beginning, syndrome}
-use Rattle.trellises.specs.Branching.{codeTrellis, trellisOf}
+use Rattle.trellises.specs.Branching.{codeTrellis, keptTo, trellisOf}
 use Rattle.trellises.specs.Graph.{Path}
 use Rattle.trellises.specs.States.{stateOf}
 use Rattle.words.proofs.Choice.{gather-same, gather-shows, spread-gather, spread-zero}
@@ -35,7 +35,7 @@ use Rattle.words.proofs.Span.{cut}
 use Rattle.words.proofs.Sums.{in-xor, sum-agree, sum-xor, sum-zero}
 use Rattle.words.proofs.Word.{bit-ext, bit-xor, bit-zero, differ-eq, differ-self, xor-cancel, xor-self}
 use Rattle.words.specs.Choice.{gather, spread}
-use Rattle.words.specs.Ends.{firsts, lasts}
+use Rattle.words.specs.Ends.{firsts}
 use Rattle.words.specs.Parity.{parity}
 use Rattle.words.specs.Span.{Spans}
 use Rattle.words.specs.Sum.{IsSum, sumOf}
@@ -170,7 +170,7 @@ module _ (rows : List ℕ) (f l : ℕ → ℕ) (s : Spans rows f l) (t : ℕ) wh
 
 -- the state at depth t of the rows that u takes
 abbrev reached : Plate → ℕ → ℕ → ℕ
-reached plate t u = stateOf (rowsOf plate) (firsts (rowsOf plate)) (lasts (rowsOf plate)) t u
+reached plate t u = stateOf (rowsOf plate) (firsts (rowsOf plate)) (keptTo plate) t u
 
 -- a word plus mask is spliced of the beginning and the continuation, each plus mask
 splice-masked : (t a c mask : ℕ) → bitXor (splice t a c) mask ≡ splice t (bitXor a mask) (bitXor c mask)
@@ -219,7 +219,7 @@ module _ (plate : Plate) (given : IsPrepared plate) (a b : ℕ) (x : IsWord plat
   stands : (w : ℕ) (g : IsWord plate w) (r : Path (trellisOf plate) (plate .n) w) → r .state t ≡ reached plate t (g .by)
   stands w g r =
       subst (λ (v : ℕ). (r : Path (codeTrellis plate) (plate .n) v) → r .state t ≡ reached plate t (g .by)) (g .sum)
-      (λ r. path-state (rowsOf plate) _ _ (plate-spans plate given) (plate .n) (g .by) r t h) (path-off (plate .mask) (codeTrellis plate) r)
+      (λ r. kept-state (rowsOf plate) _ _ (plate-kept plate given) (plate .n) (g .by) r t h) (path-off (plate .mask) (codeTrellis plate) r)
 
   -- so what says when two choices of rows reach the same state says when the two paths meet
   meet : (R : ℕ → ℕ → Type 0) → ((reached plate t (x .by) ≡ reached plate t (y .by)) ↔ R (sumOf (rowsOf plate) (x .by)) (sumOf (rowsOf plate) (y .by)))

@@ -17,7 +17,7 @@ use Rattle.plates.specs.Profile.{liveAt}
 use Rattle.trellises.proofs.AcceptedIsPrepared.{accepted-code, accepted-length, accepted-mask, accepted-prepared}
 use Rattle.trellises.proofs.MaskedGraph.{masked-branches, once-masked, proper-masked, smallest-masked}
 use Rattle.trellises.proofs.PathsOnce.{paths-once}
-use Rattle.trellises.proofs.PlateTrellis.{branches-number, full-path-ends, plate-smallest, plate-spans}
+use Rattle.trellises.proofs.PlateTrellis.{branches-number, full-path-ends, plate-kept, plate-smallest}
 use Rattle.trellises.proofs.ProperTrellis.{plate-proper}
 use Rattle.trellises.specs.Branching.{codeTrellis, trellisOf}
 use Rattle.trellises.specs.Graph.{Graph, Path, Spells}
@@ -54,7 +54,7 @@ module _ (plate : Plate) (given : IsPrepared plate) where
   -- a word has one path through the first t sections
   pub words-once : (t w : ℕ) (p q : Path (trellisOf plate) t w) → SamePath (trellisOf plate) t w p q
   words-once t w =
-      once-masked (plate .mask) (codeTrellis plate) (paths-once (rowsOf plate) _ _ (plate-spans plate given) t (bitXor w (plate .mask)))
+      once-masked (plate .mask) (codeTrellis plate) (paths-once (rowsOf plate) _ _ (plate-kept plate given) t (bitXor w (plate .mask)))
 
   -- every state and every branch is used
   pub words-proper : Proper (trellisOf plate) (plate .n)

@@ -16,9 +16,13 @@ use Rattle.trellises.specs.Graph.{Graph, Has}
 use Rattle.trellises.specs.Masking.{masked}
 use Rattle.trellises.specs.States.{trellis}
 
+-- the position up to which a row is kept: its last one
+abbrev pub keptTo : Plate → ℕ → ℕ
+keptTo plate j = lasts (rowsOf plate) j
+
 -- the trellis of a plate's code
 abbrev pub codeTrellis : Plate → Graph
-codeTrellis plate = trellis (rowsOf plate) (firsts (rowsOf plate)) (lasts (rowsOf plate))
+codeTrellis plate = trellis (rowsOf plate) (firsts (rowsOf plate)) (keptTo plate)
 
 -- the trellis of a plate: the mask's bit is added to each branch's
 abbrev pub trellisOf : Plate → Graph

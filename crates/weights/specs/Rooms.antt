@@ -1,8 +1,15 @@
--- The counts: copied out of the working room, and looked through.
+-- The rooms: whether one is too short; and the counts, copied out of the working room, and looked through.
 use lib.ListN.{getD, length}
+use mathlib.Core.Bool.{Bool, false, true}
 use mathlib.Core.List.{List}
+use mathlib.Core.Logic.{_⊎_}
 use mathlib.Core.Path.{_≡_}
 use Prim.Native.Nat.{_+_, _<_, ℕ, _≤_}
+
+-- r says whether the counts, or the numbers of the working room, are too few
+pub record TestsRooms (counts working need : ℕ) (r : Bool) : Type 0 where
+  pub yes-is : r ≡ true → (counts < 65) ⊎ (working < need)
+  pub no-is : r ≡ false → (65 ≤ counts) × (need ≤ working)
 
 -- the first m counts are what begins at `from` in the working room, and the others as they were
 pub record Copied (working : List ℕ) (from : ℕ) (counts : List ℕ) (m : ℕ) (counts′ : List ℕ) : Type 0 where

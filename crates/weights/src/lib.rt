@@ -1,4 +1,5 @@
 // The weights of a plate: how many codewords have each number of ones, and the smallest number above zero.
+use crate::rooms::are_short;
 use crate::rooms::find_least;
 use crate::rooms::half_of;
 use crate::tallies::tally;
@@ -26,15 +27,13 @@ pub fn count_weights(plate: Plate, counts: &mut [u64], working: &mut [u64]) -> C
         return Counted::Refused(Refusal::NotPrepared);
     }
     let k = plate.k;
+    let half = half_of(plate.n, &plate.profile);
+    let need = half + half;
+    let short = are_short(counts.len(), working.len(), need);
     if k == 64 {
         return Counted::Refused(Refusal::WholeSpace);
     }
-    if counts.len() < 65 {
-        return Counted::Refused(Refusal::MetricRoom);
-    }
-    let half = half_of(plate.n, &plate.profile);
-    let need = half + half;
-    if working.len() < need {
+    if short {
         return Counted::Refused(Refusal::MetricRoom);
     }
     let rows = plate.rows;

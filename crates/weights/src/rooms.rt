@@ -1,9 +1,10 @@
-// The rooms: how many numbers a half of the working room has, putting it to zero, and looking through the counts.
+// The rooms: how many numbers a half of the working room has, whether a room is too short, putting it to zero, and looking through the
+// counts.
 ghost use lib.ListN.{getD, length, replicate};
 ghost use mathlib.Core.Path.{_≡_};
 ghost use Prim.Native.Nat.{max, _*_, _+_, _^_, _≤_, _<_};
 ghost use Rattle.decoding.specs.Needs.{ProfileFits, widestEntry};
-ghost use Rattle.weights.specs.Rooms.{Copied, FirstAbove};
+ghost use Rattle.weights.specs.Rooms.{Copied, FirstAbove, TestsRooms};
 use crate::states::power;
 
 // The greater of two numbers.
@@ -39,6 +40,16 @@ pub fn half_of(n: usize, profile: &[u8; 65]) -> usize
     ensures { λ r. ⌜ r ≡ 2 ^ widestEntry (now (profile .entry)) n * 65 ⌝ }
 {
     power(widest(profile, n)) * 65
+}
+
+// Whether the counts are fewer than 65, or the working room has fewer numbers than it needs.
+pub fn are_short(counts: usize, working: usize, need: usize) -> bool
+    ensures { λ r. ⌜ TestsRooms counts working need r ⌝ }
+{
+    if counts < 65 {
+        return true;
+    }
+    working < need
 }
 
 // All of a room put to zero.

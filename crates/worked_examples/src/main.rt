@@ -1,209 +1,138 @@
-// The examples of document 01 that are run and not proved, more cases of preparing, and listings judged, one line for each: what was
-// asked, and what was found.
-mod blocks;
-mod judgings;
-
+// Judges the listings of branches on its standard input against the plate of n=3, H 111, whose words are 000, 110, 011 and 101, and
+// prints a line for each. A listing begins with # and a line of words; seven numbers are lent where that line begins with 7, else 64.
+ghost use Prim.Native.Nat.{_≤_};
+ghost use lib.ListN.{length};
+use judging::Judged;
+use judging::Judgement;
+use libc::STDIN_FILENO;
+use libc::STDOUT_FILENO;
 use plates::Kind;
-use plates::Plate;
 use plates::Prepared;
-use plates::Verdict;
 
-// The largest entry of a profile.
-fn widest(profile: &[u8; 65]) -> u8 {
-    let mut most: u8 = 0;
-    let mut t: usize = 0;
-    while t < 65 {
-        if most < profile[t] {
-            most = profile[t];
+// The plate, in its reply.
+fn even_words() -> Prepared {
+    let rows: [u64; 1] = [7];
+    plates::prepare(3, Kind::H, &rows)
+}
+
+// How many bytes stand before the first that is `stop`; all of them where none is.
+fn upto(text: &[u8], stop: u8) -> usize
+    ensures { λ r. ⌜ r ≤ length (now (text .entry)) ⌝ }
+{
+    let mut i: usize = 0;
+    while i < text.len() {
+        if text[i] == stop {
+            return i;
         }
-        t += 1;
+        i += 1;
     }
-    most
+    i
 }
 
-// A byte as a number to print.
-fn whole(byte: u8) -> u64 {
-    byte as u64
+// The text before the first `stop`.
+fn head(text: &[u8], stop: u8) -> &[u8] {
+    let end = upto(text, stop);
+    &text[..end]
 }
 
-// Whether two lists of rows are the same.
-fn same_rows<'a>(a: &'a [u64; 64], b: &'a [u64; 64]) -> bool {
-    let mut j: usize = 0;
-    while j < 64 {
-        if a[j] != b[j] {
-            return false;
-        }
-        j += 1;
+// The text after the first `stop`; nothing where there is none.
+fn tail(text: &[u8], stop: u8) -> &[u8] {
+    let end = upto(text, stop);
+    if end < text.len() {
+        let begin = end + 1;
+        return &text[begin..];
     }
-    true
+    &text[end..]
 }
 
-// Whether two profiles are the same.
-fn same_profile<'a>(a: &'a [u8; 65], b: &'a [u8; 65]) -> bool {
-    let mut t: usize = 0;
-    while t < 65 {
-        if a[t] != b[t] {
-            return false;
-        }
-        t += 1;
-    }
-    true
+// A number with a tab before it.
+fn field(value: u64) {
+    io::write_all(STDOUT_FILENO, b"\t");
+    io::print_decimal(STDOUT_FILENO, value);
 }
 
-// Whether two plates are the same.
-fn same_plate(a: Plate, b: Plate) -> bool {
-    if a.n != b.n {
-        return false;
-    }
-    if a.k != b.k {
-        return false;
-    }
-    if !same_rows(&a.rows, &b.rows) {
-        return false;
-    }
-    same_profile(&a.profile, &b.profile)
+// Words and two numbers.
+fn show_two(words: &[u8], a: u64, b: u64) {
+    io::write_all(STDOUT_FILENO, words);
+    field(a);
+    field(b);
 }
 
-// Two numbers with tabs before them, and the end of the line.
-fn numbers(a: u64, b: u64) {
-    io::write_all(1, b"\t");
-    io::print_decimal(1, a);
-    io::write_all(1, b"\t");
-    io::print_decimal(1, b);
-    io::write_all(1, b"\n");
+// Words and a number.
+fn show_one(words: &[u8], a: u64) {
+    io::write_all(STDOUT_FILENO, words);
+    field(a);
 }
 
-// What was asked, and the number of rows and the largest profile entry, or the number and place of the refusal.
-fn show(asked: &[u8], prepared: Prepared) {
-    io::write_all(1, asked);
-    let verdict = prepared.verdict;
-    let plate = prepared.plate;
+// The surplus of states at depth 2 and of branches in section 2, the word that tells, or the refusal.
+fn show(judgement: Judgement) {
+    let verdict = judgement.verdict;
     match verdict {
-        Verdict::Accepted => {
-            io::write_all(1, b"\taccepted");
-            let k = plate.k as u64;
-            numbers(k, whole(widest(&plate.profile)));
-        }
-        Verdict::Refused(refusal) => {
-            io::write_all(1, b"\trefused");
-            numbers(
-                plates::refusal_number(refusal),
-                plates::refusal_place(refusal) as u64,
-            );
-        }
+        Judged::Right => show_two(b"\tright", judgement.states[2], judgement.branches[2]),
+        Judged::SpelledWrongly(word) => show_one(b"\tspelled wrongly", word),
+        Judged::NotSpelled(word) => show_one(b"\tnot spelled", word),
+        Judged::Refused(refusal) => show_two(
+            b"\trefused",
+            plates::refusal_number(refusal),
+            plates::refusal_place(refusal) as u64,
+        ),
     }
 }
 
-// What was asked, and whether it gives the plate of the other reply.
-fn compare(asked: &[u8], prepared: Prepared, other: Prepared) {
-    io::write_all(1, asked);
-    let plate = prepared.plate;
-    let before = other.plate;
-    if same_plate(plate, before) {
-        io::write_all(1, b"\tthe same plate\n");
+// Judges a listing, with 64 numbers lent.
+fn judge(listing: &[u8]) {
+    let prepared = even_words();
+    let mut room = [0; 64];
+    show(judging::judge(prepared.plate, listing, &mut room));
+}
+
+// Judges a listing, with 7 numbers lent.
+fn judge_in_seven(listing: &[u8]) {
+    let prepared = even_words();
+    let mut room = [0; 7];
+    show(judging::judge(prepared.plate, listing, &mut room));
+}
+
+// A listing with its line of words: prints its line.
+fn example(words: &[u8], listing: &[u8]) {
+    if words.len() == 0 {
+        return;
+    }
+    io::write_all(STDOUT_FILENO, words);
+    if words[0] == b'7' {
+        judge_in_seven(listing);
     } else {
-        io::write_all(1, b"\tanother plate\n");
+        judge(listing);
     }
+    io::write_all(STDOUT_FILENO, b"\n");
 }
 
-// The sheet's profile, depths 0 to 8.
-fn show_profile(profile: &[u8; 65]) {
-    io::write_all(1, b"its profile");
-    let mut t: usize = 0;
-    while t < 9 {
-        io::write_all(1, b"\t");
-        io::print_decimal(1, whole(profile[t]));
-        t += 1;
+// Runs the example at a place of the text, and answers where the next one begins.
+fn run_one(text: &[u8], at: usize) -> usize
+    requires { ⌜ at ≤ length (now text) ⌝ }
+    ensures { λ r. ⌜ r ≤ length (now (text .entry)) ⌝ }
+{
+    let first = head(&text[at..], b'#');
+    example(head(first, b'\n'), tail(first, b'\n'));
+    let size = first.len();
+    if text.len() - at <= size {
+        return text.len();
     }
-    io::write_all(1, b"\n");
+    at + size + 1
 }
 
-// The sheet's code, as generator and as parity check, and with its rows in another order.
-fn sheet() {
-    let rows: [u64; 4] = [15, 90, 60, 240];
-    let turned: [u64; 4] = [60, 15, 240, 90];
-    let generator = plates::prepare(8, Kind::G, &rows);
-    show(b"the sheet's code, G", generator);
-    let plate = generator.plate;
-    show_profile(&plate.profile);
-    compare(
-        b"the same rows as H",
-        plates::prepare(8, Kind::H, &rows),
-        generator,
-    );
-    compare(
-        b"the rows in another order",
-        plates::prepare(8, Kind::G, &turned),
-        generator,
-    );
-}
-
-// The widest permitted, and one more.
-fn widths() {
-    let twelve: [u64; 12] = [
-        4097,
-        8194,
-        16388,
-        32776,
-        65552,
-        131104,
-        262208,
-        524416,
-        1048832,
-        2097664,
-        4195328,
-        8390656,
-    ];
-    let thirteen: [u64; 13] = [
-        8193,
-        16386,
-        32772,
-        65544,
-        131088,
-        262176,
-        524352,
-        1048704,
-        2097408,
-        4194816,
-        8389632,
-        16779264,
-        33558528,
-    ];
-    show(
-        b"n=24, ones at i and i+12",
-        plates::prepare(24, Kind::G, &twelve),
-    );
-    show(
-        b"n=26, ones at i and i+13",
-        plates::prepare(26, Kind::G, &thirteen),
-    );
-}
-
-// The limits of lengths, rows and words.
-fn limits() {
-    let none: [u64; 0] = [];
-    let few = [3u64; 64];
-    let many = [3u64; 65];
-    show(b"n=1, G, no rows", plates::prepare(1, Kind::G, &none));
-    show(b"n=1, H, no rows", plates::prepare(1, Kind::H, &none));
-    show(b"n=64, H, no rows", plates::prepare(64, Kind::H, &none));
-    show(b"n=0", plates::prepare(0, Kind::G, &none));
-    show(b"n=65", plates::prepare(65, Kind::G, &none));
-    show(b"64 rows", plates::prepare(64, Kind::G, &few));
-    show(b"65 rows", plates::prepare(64, Kind::G, &many));
-    let beyond: [u64; 1] = [256];
-    let top: [u64; 2] = [1, 9223372036854775808];
-    show(b"n=8, a row of 256", plates::prepare(8, Kind::G, &beyond));
-    show(b"n=63, row 1 is 2^63", plates::prepare(63, Kind::H, &top));
-    show(b"n=64, row 1 is 2^63", plates::prepare(64, Kind::H, &top));
+// The examples of a text in turn, a hundred at most.
+fn examples(text: &[u8]) {
+    let mut at: usize = 0;
+    let mut turns: u64 = 100;
+    while 0 < turns {
+        at = run_one(text, at);
+        turns -= 1;
+    }
 }
 
 fn main() {
-    sheet();
-    widths();
-    limits();
-    blocks::rooms();
-    blocks::ranges();
-    judgings::verdicts();
-    judgings::refusals();
+    let mut text = [0; 4096];
+    let size = io::read_full(STDIN_FILENO, &mut text);
+    examples(&text[..size]);
 }

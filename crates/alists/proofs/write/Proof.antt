@@ -20,17 +20,25 @@ first-beyond-requires c κs = search needs
 returns-4 : tie.Need-returns-4
 returns-4 c = row-beyond (c .before .before .before .before .before .before .before .args .n) (c .before .before .before .before .before .before .before .args .rows .now) (c .before .before .before .before .before .before .before .args .room .now) (c .before .before .before .before .if1 .left) (omega arith) (omega arith) (c .before .first-beyond .ensures) (c .if4 .taken)
 
-returns-5 : tie.Need-returns-5
-returns-5 c = without-rows (c .before .before .before .before .before .before .before .before .args .n) (c .before .before .before .before .before .before .before .before .args .rows .now) (c .before .before .before .before .before .before .before .before .args .room .now) (c .before .before .before .before .before .if1 .left) (omega arith) (omega arith) (c .before .before .first-beyond .ensures) (omega arith) (c .if5 .taken)
-
 slice-aggregate-put-text : tie.Need-slice-aggregate-put-text
 slice-aggregate-put-text c = search needs
 
 put-text-requires : tie.Need-put-text-requires
 put-text-requires c κs = search needs
 
+returns-5 : tie.Need-returns-5
+returns-5 c =
+    let four = c .before .before .before .before in
+    let s = four .before .before .before .before .before .before .before in
+    without-rows (s .args .n) (s .args .rows .now) (s .args .room .now) (four .before .before .before .before .if1 .left) (omega arith) (omega arith)
+    (four .before .first-beyond .ensures) (omega arith) (c .if5 .taken)
+
 returns-6 : tie.Need-returns-6
-returns-6 c = as-line (c .before .before .before .before .before .before .before .before .before .before .before .before .args .n) (c .before .before .before .before .before .before .before .before .before .before .before .before .args .rows .now) (c .before .before .before .before .before .before .before .before .before .before .before .before .args .room .now) (c .before .before .before .before .before .before .before .before .before .if1 .left) (omega arith) (omega arith) (c .before .before .before .before .before .before .first-beyond .ensures) (omega arith) (c .before .before .before .before .if5 .left) (put-short (c .before .before .put-text .ensures) (c .if6 .taken))
+returns-6 c =
+    let four = c .before .before .before .before .before in
+    let s = four .before .before .before .before .before .before .before in
+    as-line (s .args .n) (s .args .rows .now) (s .args .room .now) (four .before .before .before .before .if1 .left) (omega arith) (omega arith)
+    (four .before .first-beyond .ensures) (omega arith) (c .before .if5 .left) (put-short (c .before .before .before .put-text .ensures) (c .if6 .taken))
 
 put-text-requires-2 : tie.Need-put-text-requires-2
 put-text-requires-2 c κs = search needs
@@ -39,7 +47,13 @@ same-length : tie.Need-same-length
 same-length c = search needs
 
 returns-7 : tie.Need-returns-7
-returns-7 c = as-line (c .before .before .before .before .before .before .before .before .before .before .before .before .before .before .before .before .args .n) (c .before .before .before .before .before .before .before .before .before .before .before .before .before .before .before .before .args .rows .now) (c .before .before .before .before .before .before .before .before .before .before .before .before .before .before .before .before .args .room .now) (c .before .before .before .before .before .before .before .before .before .before .before .before .before .if1 .left) (omega arith) (omega arith) (c .before .before .before .before .before .before .before .before .before .before .first-beyond .ensures) (omega arith) (c .before .before .before .before .before .before .before .before .if5 .left) (put-fits (c .before .before .before .before .before .before .put-text .ensures) (c .before .before .before .before .if6 .left) (c .before .before .put-text2 .ensures))
+returns-7 c =
+    let six = c .before .before .before .before in
+    let four = six .before .before .before .before .before in
+    let s = four .before .before .before .before .before .before .before in
+    as-line (s .args .n) (s .args .rows .now) (s .args .room .now) (four .before .before .before .before .if1 .left) (omega arith) (omega arith)
+    (four .before .first-beyond .ensures) (omega arith) (six .before .if5 .left)
+    (put-fits (six .before .before .before .put-text .ensures) (six .if6 .left) (c .before .before .put-text2 .ensures))
 
 pub write-spec : {M : Type 1} → statement M
 write-spec =
@@ -50,9 +64,9 @@ write-spec =
     returns-3
     first-beyond-requires
     returns-4
-    returns-5
     slice-aggregate-put-text
     put-text-requires
+    returns-5
     returns-6
     put-text-requires-2
     same-length

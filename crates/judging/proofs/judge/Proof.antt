@@ -40,8 +40,8 @@ returns-2 c =
 first-faulty-requires : tie.Need-first-faulty-requires
 first-faulty-requires c κs = search needs
 
-add-t17 : tie.Need-add-t17
-add-t17 c = search needs
+add-t18 : tie.Need-add-t18
+add-t18 c = search needs
 
 without-surplus-requires-3 : tie.Need-without-surplus-requires-3
 without-surplus-requires-3 c κs = search needs
@@ -56,8 +56,13 @@ returns-3 c =
 first-repeating-requires : tie.Need-first-repeating-requires
 first-repeating-requires c κs = search needs
 
-add-t20 : tie.Need-add-t20
-add-t20 c = search needs
+add-twice : tie.Need-add-twice
+add-twice c =
+    let counted = c .before .before .before .before .count-lines .ensures in
+    record { fits = omega (arith, counted, c .before .before .before .if2 .left, c .first-repeating .ensures .within) }
+
+mul-need : tie.Need-mul-need
+mul-need c = search needs
 
 without-surplus-requires-4 : tie.Need-without-surplus-requires-4
 without-surplus-requires-4 c κs = search needs
@@ -68,9 +73,6 @@ returns-4 c =
     let plate = s .args .plate in
     let given = c .before .before .before .before .before .before .before .before .is-prepared .ensures .yes-is (not-false _ (c .before .before .before .before .before .before .before .if1 .left)) in
     refused-reply plate (s .args .text .now) (s .args .room .now) (BranchTwice (c .before .before .first-repeating .result + 1)) (refused-27 plate (s .args .text .now) (s .args .room .now) given (omega (arith, c .before .before .before .before .before .if2 .left, c .before .before .before .before .before .before .count-lines .ensures)) (c .before .before .before .before .first-faulty .result) (c .before .before .before .before .first-faulty .ensures) (omega (arith, c .before .before .before .if3 .left, c .before .before .before .before .before .before .count-lines .ensures)) (c .before .before .first-repeating .result) (c .before .before .first-repeating .ensures) (omega (arith, c .before .if4 .taken, c .before .before .before .before .before .before .count-lines .ensures))) (c .without-surplus4 .result) (c .without-surplus4 .ensures)
-
-mul-need : tie.Need-mul-need
-mul-need c = search needs
 
 without-surplus-requires-5 : tie.Need-without-surplus-requires-5
 without-surplus-requires-5 c κs = search needs
@@ -142,14 +144,14 @@ judge-spec =
     without-surplus-requires-2
     returns-2
     first-faulty-requires
-    add-t17
+    add-t18
     without-surplus-requires-3
     returns-3
     first-repeating-requires
-    add-t20
+    add-twice
+    mul-need
     without-surplus-requires-4
     returns-4
-    mul-need
     without-surplus-requires-5
     returns-5
     array-share-prefix-rows

@@ -40,7 +40,7 @@ largest-of-requires c κs = search needs
 returns-2 : tie.Need-returns-2
 returns-2 c =
     let l = rw (c .before .before .before .before .line .given .1) at (c .before .before .before .before .before .before .read-line .ensures .is) in
-    answer-fault _ (c .before .before .before .before .before .before .before .before .before .args .table .now) (heights-unmet (c .before .before .before .before .before .before .before .before .before .args .n) (c .before .before .before .before .before .before .before .before .before .args .m) (c .before .before .before .before .before .before .before .before .before .args .tall) (c .before .before .before .before .before .before .before .before .before .args .wide) _ _ (line-kept (replicate 64 0) (c .before .before .before .before .before .before .before .before .before .args .n) (drop (c .before .before .before .before .before .before .before .before .before .args .at) (c .before .before .before .before .before .before .before .before .before .args .text .now)) _ _ (omega (arith, length-replicate {A = ℕ} 64 0)) (l .0)) (λ e. c .if1 .taken (c .before .largest-of .ensures ∙ e)))
+    answer-fault _ (c .before .before .before .before .before .before .before .before .before .args .table .now) (heights-unmet (c .before .before .before .before .before .before .before .before .before .args .n) (c .before .before .before .before .before .before .before .before .before .args .m) (c .before .before .before .before .before .before .before .before .before .args .tall) (c .before .before .before .before .before .before .before .before .before .args .wide) _ _ (line-kept (replicate 64 0) (c .before .before .before .before .before .before .before .before .before .args .n) (drop (c .before .before .before .before .before .before .before .before .before .args .at) (c .before .before .before .before .before .before .before .before .before .args .text .now)) _ _ (omega (arith, length-replicate {A = ℕ} 64 0)) (l .0)) (λ e. omega (arith, c .if1 .taken, c .before .largest-of .ensures, e)))
 
 array-share-prefix-weights-2 : tie.Need-array-share-prefix-weights-2
 array-share-prefix-weights-2 c =

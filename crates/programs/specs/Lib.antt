@@ -1,0 +1,3 @@
+pub mod Input
+pub mod Printing
+pub mod Ending
