@@ -222,7 +222,8 @@ zeroBlock = replicate 8 (pos 0)
 abbrev pub openFlag : ℕ → ℤ → Flag
 openFlag position margin = record { position = position; reading = Open margin }
 
--- the plate as G and as H; of the zero samples the earliest word 00010111, which is not the earliest codeword plus mask; word 01000010 21 44 11
+-- the plate, as G and as H; the block; of the zero samples the earliest word, 00010111, which is not the earliest codeword plus mask; the listing's
+-- line word 01000010 21 44 11
 abbrev pub maskedSheet : List Example
 maskedSheet =
     accepts 8 G sheetRows 129 maskedPlate
@@ -233,7 +234,7 @@ maskedSheet =
     (119 ∷ 111 ∷ 114 ∷ 100 ∷ 9 ∷ 48 ∷ 49 ∷ 48 ∷ 48 ∷ 48 ∷ 48 ∷ 49 ∷ 48 ∷ 9 ∷ 50 ∷ 49 ∷ 9 ∷ 52 ∷ 52 ∷ 9 ∷ 49 ∷ 49 ∷ 10 ∷ [])
     ∷ []
 
--- the branches at depths 0 and 7, where the mask has ones: with the other bit; and one at depth 4, as without the mask
+-- its branches at depths 0 and 7, where the mask has ones, have the other bit than without it; one at depth 4 has the same
 abbrev pub maskedBranches : List Example
 maskedBranches =
     asks maskedPlate 0 0 0 (N.State 1)
@@ -249,15 +250,17 @@ maskedBranches =
 abbrev pub maskedWords : List Example
 maskedWords = encodes maskedPlate 9 (E.Word 126) ∷ reads maskedPlate 126 (R.Information 9) ∷ reads maskedPlate 255 (R.Refused NoCodeword) ∷ []
 
--- 11110000: no word of the plate begins so at position 3; 01000010 was chosen; 10110010 scores less by 4; of the zero samples 10000001 ties and
--- loses at position 0. Position 0 is open with the margin 4
+-- 11110000: no word of the plate begins so at position 3; 01000010 was chosen, and with a one at position 8 besides is no word at 8; 10110010
+-- scores less by 4; of the zero samples 10000001 ties and loses at position 0. Positions 0 and 1 are open, with the margins 4 and -4
 abbrev pub maskedQuestions : List Example
 maskedQuestions =
     explains maskedPlate sheetBlock 15 (Y.NoCodeword 3)
     ∷ explains maskedPlate sheetBlock 66 Chosen
+    ∷ explains maskedPlate sheetBlock 322 (Y.NoCodeword 8)
     ∷ explains maskedPlate sheetBlock 77 (ScoresLess (pos 4))
     ∷ explains maskedPlate zeroBlock 129 (TiesAndLoses 0)
     ∷ judges maskedPlate sheetBlock 0 (openFlag 0 (pos 4))
+    ∷ judges maskedPlate sheetBlock 1 (openFlag 1 (minus 4))
     ∷ []
 
 -- a mask of 256 with n=8: 23; a row of 256 is told before it
