@@ -58,7 +58,8 @@ module _ {plate : Plate} (given : IsPrepared plate) (w rest : ℕ) (left : rest 
         begins : First (bitXor (c .by) off) q
         begins = record {
           one =
-              bit-xor q (c .by) off ∙ ap₂ differ (c .same q (le-refl q)) (bit-xor q w rest ∙ ap (differ (bit w q)) (f .one)) ∙ differ-one (bit w q) (bit-cases w q);
+              bit-xor q (c .by) off ∙ ap₂ differ (c .same q (le-refl q)) (bit-xor q w rest ∙ ap (differ (bit w q)) (f .one))
+              ∙ differ-one (bit w q) (bit-cases w q);
           zeros = λ i h. bit-xor i (c .by) off ∙ ap₂ differ (c .same i (omega arith)) (off-same i (f .zeros i h)) ∙ differ-self (bit w i);
         }
 

@@ -209,11 +209,12 @@ pub fn prepare(n: usize, kind: Kind, rows: &[u64], mask: u64) -> Prepared
     if beyond < rows.len() {
         return refused(Refusal::RowBeyond(beyond));
     }
-    if matrix::reaches(mask, n) == 1 {
-        return refused(Refusal::MaskBeyond);
-    }
+    let reach = matrix::reaches(mask, n);
     let plate = plate_of_matrix(n, kind, rows, mask);
     let wide = profile::first_wide(&plate.profile, n);
+    if reach == 1 {
+        return refused(Refusal::MaskBeyond);
+    }
     if wide <= n {
         return refused(Refusal::TooWide(wide));
     }

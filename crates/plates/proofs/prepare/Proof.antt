@@ -36,45 +36,47 @@ returns-4 c = refuse-beyond (omega arith) (omega arith) (omega arith) (c .before
 reaches-requires : tie.Need-reaches-requires
 reaches-requires c κs = search needs
 
+plate-of-matrix-requires : tie.Need-plate-of-matrix-requires
+plate-of-matrix-requires c κs = (omega arith, (omega arith, none-beyond (c .before .before .first-beyond .ensures) (c .before .if4 .left)))
+
+first-wide-requires : tie.Need-first-wide-requires
+first-wide-requires c κs = search needs
+
 refused-requires-5 : tie.Need-refused-requires-5
 refused-requires-5 c κs = search needs
 
 returns-5 : tie.Need-returns-5
 returns-5 c =
-    let looked = c .before .before .before in
-    refuse-mask (omega arith) (omega arith) (omega arith) (none-beyond (looked .before .first-beyond .ensures) (looked .if4 .left))
-    (c .before .before .reaches .ensures) (c .before .if5 .taken) (c .refused5 .ensures)
-
-plate-of-matrix-requires : tie.Need-plate-of-matrix-requires
-plate-of-matrix-requires c κs = (omega arith, (omega arith, none-beyond (c .before .before .before .first-beyond .ensures) (c .before .before .if4 .left)))
-
-first-wide-requires : tie.Need-first-wide-requires
-first-wide-requires c κs = search needs
+    let masked = c .before .before .before .before .before .before in
+    let looked = masked .before .before in
+    let counted = looked .before in
+    refuse-mask (omega (arith, counted .before .before .if1 .left)) (omega (arith, counted .before .if2 .left)) (omega (arith, counted .if3 .left))
+    (none-beyond (looked .first-beyond .ensures) (masked .before .if4 .left)) (masked .reaches .ensures) (c .before .if5 .taken) (c .refused5 .ensures)
 
 refused-requires-6 : tie.Need-refused-requires-6
 refused-requires-6 c κs = search needs
 
 returns-6 : tie.Need-returns-6
 returns-6 c =
-    let wide = c .before .before in
+    let wide = c .before .before .before in
     let made = wide .before .before .before in
     let masked = made .before in
-    let counted = masked .before .before .before .before in
+    let looked = masked .before .before in
+    let counted = looked .before in
     refuse-wide (omega (arith, counted .before .before .if1 .left)) (omega (arith, counted .before .if2 .left)) (omega (arith, counted .if3 .left))
-    (none-beyond (masked .before .before .before .first-beyond .ensures) (masked .before .before .if4 .left))
-    (mask-short (masked .before .reaches .ensures) (masked .if5 .left)) (made .plate-of-matrix .ensures) (wide .first-wide .ensures)
-    (c .before .if6 .taken) (c .refused6 .ensures)
+    (none-beyond (looked .first-beyond .ensures) (masked .before .if4 .left)) (mask-short (masked .reaches .ensures) (c .before .before .if5 .left))
+    (made .plate-of-matrix .ensures) (wide .first-wide .ensures) (c .before .if6 .taken) (c .refused6 .ensures)
 
 returns-7 : tie.Need-returns-7
 returns-7 c =
-    let wide = c .before in
+    let wide = c .before .before in
     let made = wide .before .before .before in
     let masked = made .before in
-    let counted = masked .before .before .before .before in
+    let looked = masked .before .before in
+    let counted = looked .before in
     accept (omega (arith, counted .before .before .if1 .left)) (omega (arith, counted .before .if2 .left)) (omega (arith, counted .if3 .left))
-    (none-beyond (masked .before .before .before .first-beyond .ensures) (masked .before .before .if4 .left))
-    (mask-short (masked .before .reaches .ensures) (masked .if5 .left)) (made .plate-of-matrix .ensures) (wide .first-wide .ensures)
-    (c .if6 .left)
+    (none-beyond (looked .first-beyond .ensures) (masked .before .if4 .left)) (mask-short (masked .reaches .ensures) (c .before .if5 .left))
+    (made .plate-of-matrix .ensures) (wide .first-wide .ensures) (c .if6 .left)
 
 pub prepare-spec : {M : Type 1} → statement M
 prepare-spec =
@@ -90,10 +92,10 @@ prepare-spec =
     refused-requires-4
     returns-4
     reaches-requires
-    refused-requires-5
-    returns-5
     plate-of-matrix-requires
     first-wide-requires
+    refused-requires-5
+    returns-5
     refused-requires-6
     returns-6
     returns-7)
