@@ -6,10 +6,10 @@
 #include <stdint.h>
 #include <string.h>
 
-enum { NONE = 16 }; /* no row ends in a section; else the digit of the row that does */
+enum { NONE = 16, MASK = 131 }; /* no row ends in a section, else the digit of the row that does; the mask's place */
 
 struct section {
-    unsigned live, begins, ending;
+    unsigned live, begins, ending, turned; /* turned: the mask's bit at the position */
     uint64_t column;
 };
 
@@ -28,7 +28,7 @@ static void find_sections(const uint64_t *plate, struct section *sections) {
     uint64_t live[16], next = 0;
     unsigned count = 0;
     for (uint64_t t = 0; t < plate[0]; t++) {
-        struct section c = {count, 0, NONE, 0};
+        struct section c = {count, 0, NONE, plate[MASK] >> t & 1, 0};
         if (next < plate[1] && (plate[2 + next] >> t & 1)) {
             c.begins = 1;
             live[count++] = plate[2 + next++];
@@ -48,7 +48,7 @@ static void find_sections(const uint64_t *plate, struct section *sections) {
 /* The better branch of one state: its metric, and its bit through `bit`. */
 static inline int32_t better(const struct section *c, int32_t sample, const int32_t *restrict from, size_t x,
                              unsigned *bit) {
-    unsigned plain = parity(x & c->column);
+    unsigned plain = parity(x & c->column) ^ c->turned;
     int32_t a = from[without(x, c->ending)];
     if (!c->begins) {
         *bit = plain;
@@ -155,7 +155,7 @@ static void step_block(const struct section *c, int32_t sample, const int32_t *r
         return;
     }
     size_t states = (size_t)1 << c->live, far = without(states, c->ending);
-    uint64_t ones = pattern(c->column);
+    uint64_t ones = c->turned ? ~pattern(c->column) : pattern(c->column);
     struct gains gains[2];
     int32_t zero[64], one[64];
     make_gains(&gains[0], ones, sample);
@@ -195,7 +195,7 @@ static inline void decode(step *take, const uint64_t *plate, const int16_t *samp
     for (size_t t = 0; t < n; t++) {
         const struct section *c = &sections[t];
         uint64_t bit = decisions[t * words + state / 64] >> (state % 64) & 1;
-        if (bit != parity(state & c->column)) state |= (size_t)1 << c->live;
+        if (bit != (parity(state & c->column) ^ c->turned)) state |= (size_t)1 << c->live;
         *word |= bit << t;
         state = without(state, c->ending);
     }
@@ -220,11 +220,11 @@ static int stands(const uint64_t *rows, uint64_t k, uint64_t i, uint64_t n) {
     return 1;
 }
 
-/* Whether a plate is prepared: its rows, the rows live at each depth, and nothing in the unused places. */
+/* Whether a plate is prepared: its rows and mask, the rows live at each depth, and nothing in the unused places. */
 static int is_prepared(const uint64_t *plate) {
     uint64_t n = plate[0], k = plate[1];
     const uint64_t *rows = plate + 2, *profile = plate + 66;
-    if (n < 1 || n > 64 || k > 64) return 0;
+    if (n < 1 || n > 64 || k > 64 || (n < 64 && plate[MASK] >> n)) return 0;
     for (uint64_t i = 0; i < k; i++)
         if (rows[i] == 0) return 0;
     for (uint64_t i = 0; i < k; i++)

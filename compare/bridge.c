@@ -31,7 +31,7 @@ static long write_some(int file, void *bytes, size_t count) { return write(file,
 
 static uint64_t ask(uint64_t call, const uint64_t *n, const struct run *r) {
     switch (call) {
-    case 0: return yendrufal_prepare(n[0], n[1], RUN(0), RUN(1), RUN(2));
+    case 0: return yendrufal_prepare(n[0], n[1], RUN(0), n[2], RUN(1), RUN(2));
     case 1: return yendrufal_branch(RUN(0), n[0], n[1], n[2], RUN(1));
     case 2: return yendrufal_encode(RUN(0), n[0], RUN(1));
     case 3: return yendrufal_read_back(RUN(0), n[0], RUN(1));

@@ -28,9 +28,9 @@ int main(void) {
     uint64_t word, counts[2], place = 0;
     int32_t metric;
 
-    /* Once for each code. Every pointer is followed by the number of its cells. */
-    uint64_t reply = yendrufal_prepare(8, YENDRUFAL_KIND_G, rows, 4, plate, YENDRUFAL_PLATE_WORDS,
-                                       &place, 1);
+    /* Once for each code. Every pointer is followed by the number of its cells. The mask is 0: none. */
+    uint64_t reply = yendrufal_prepare(8, YENDRUFAL_KIND_G, rows, 4, 0, plate,
+                                       YENDRUFAL_PLATE_WORDS, &place, 1);
     if (reply != YENDRUFAL_DONE) return refused("prepare", reply, place);
 
     /* Once for each block. Afterwards the part of the rooms that was needed is zero again. */

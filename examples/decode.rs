@@ -6,7 +6,7 @@
 // The two calls as include/yendrufal.h has them: a slice crosses as a pointer and then its length.
 #[rustfmt::skip]
 extern "C" {
-    fn yendrufal_prepare(n: u64, kind: u64, rows: *const u64, row_count: usize,
+    fn yendrufal_prepare(n: u64, kind: u64, rows: *const u64, row_count: usize, mask: u64,
         plate: *mut u64, plate_length: usize, place: *mut u64, place_length: usize) -> u64;
     fn yendrufal_decode(plate: *const u64, plate_length: usize, samples: *const i16, sample_count: usize,
         metrics: *mut i32, metric_count: usize, decisions: *mut u64, decision_count: usize,
@@ -14,11 +14,11 @@ extern "C" {
         counts: *mut u64, counts_length: usize, place: *mut u64, place_length: usize) -> u64;
 }
 
-/// The plate of a generator, or the number and place of the refusal.
-fn prepare(n: u64, rows: &[u64]) -> Result<[u64; 131], (u64, u64)> {
-    let (mut plate, mut place) = ([0; 131], 0);
+/// The plate of a generator without a mask, or the number and place of the refusal.
+fn prepare(n: u64, rows: &[u64]) -> Result<[u64; 132], (u64, u64)> {
+    let (mut plate, mut place) = ([0; 132], 0);
     let reply = unsafe {
-        yendrufal_prepare(n, 0, rows.as_ptr(), rows.len(), plate.as_mut_ptr(), plate.len(), &mut place, 1)
+        yendrufal_prepare(n, 0, rows.as_ptr(), rows.len(), 0, plate.as_mut_ptr(), plate.len(), &mut place, 1)
     };
     if reply == 0 {
         Ok(plate)
@@ -29,7 +29,7 @@ fn prepare(n: u64, rows: &[u64]) -> Result<[u64; 131], (u64, u64)> {
 
 /// Word, metric and the two counts, or the number and place of the refusal. The rooms are enough for
 /// any plate; the library leaves the part that it needed zero.
-fn decode(plate: &[u64; 131], samples: &[i16]) -> Result<(u64, i32, [u64; 2]), (u64, u64)> {
+fn decode(plate: &[u64; 132], samples: &[i16]) -> Result<(u64, i32, [u64; 2]), (u64, u64)> {
     let (mut metrics, mut decisions) = (vec![0i32; 8192], vec![0u64; 4096]);
     let (mut word, mut metric, mut counts, mut place) = (0, 0, [0; 2], 0);
     #[rustfmt::skip]

@@ -37,7 +37,7 @@ static int show(const char *end, int rightmost) {
     uint64_t matrix[4], word, counts[2], place = 0;
     int32_t metric;
     for (int i = 0; i < 4; i++) matrix[i] = word_of(rows[i], rightmost);
-    uint64_t reply = yendrufal_prepare(7, YENDRUFAL_KIND_G, matrix, 4, plate, YENDRUFAL_PLATE_WORDS, &place, 1);
+    uint64_t reply = yendrufal_prepare(7, YENDRUFAL_KIND_G, matrix, 4, 0, plate, YENDRUFAL_PLATE_WORDS, &place, 1);
     if (reply != YENDRUFAL_DONE) return refused("prepare", reply, place);
     reply = yendrufal_decode(plate, YENDRUFAL_PLATE_WORDS, samples, 7, metrics, YENDRUFAL_METRICS(3), decisions,
                              YENDRUFAL_DECISIONS(7, 3), &word, 1, &metric, 1, counts, 2, &place, 1);

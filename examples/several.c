@@ -31,7 +31,7 @@ int main(void) {
     int best = 0;
 
     for (int code = 0; code < 3; code++) {
-        reply = yendrufal_prepare(8, YENDRUFAL_KIND_G, rows[code], 4, plates[code],
+        reply = yendrufal_prepare(8, YENDRUFAL_KIND_G, rows[code], 4, 0, plates[code],
                                   YENDRUFAL_PLATE_WORDS, &place, 1);
         if (reply != YENDRUFAL_DONE) return refused("prepare", reply, place);
     }

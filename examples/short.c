@@ -11,7 +11,7 @@ int main(void) {
     uint64_t plate[YENDRUFAL_PLATE_WORDS], decisions[YENDRUFAL_DECISIONS(8, 3)];
     uint64_t word = 0, counts[2], place;
     int32_t metrics[YENDRUFAL_METRICS(3)], metric = 0;
-    uint64_t reply = yendrufal_prepare(8, YENDRUFAL_KIND_G, rows, 4, plate, YENDRUFAL_PLATE_WORDS, &place, 1);
+    uint64_t reply = yendrufal_prepare(8, YENDRUFAL_KIND_G, rows, 4, 0, plate, YENDRUFAL_PLATE_WORDS, &place, 1);
     if (reply == YENDRUFAL_DONE)
         reply = yendrufal_decode(plate, YENDRUFAL_PLATE_WORDS, samples, 8, metrics, YENDRUFAL_METRICS(3), decisions,
                                  YENDRUFAL_DECISIONS(8, 3), &word, 1, &metric, 1, counts, 2, &place, 1);

@@ -6,13 +6,15 @@
  *   overlaps no other run. An empty run may be (NULL, 0): nothing is read or written through its
  *   pointer. No other pointer is NULL.
  * - The reply is YENDRUFAL_DONE, the number of a refusal, or one of the two codes above 99. Numbers that
- *   a call may reply are 1 to 9, 11 to 14 and 21, each under the calls that name it; 10, 15 and 17 to 20
+ *   a call may reply are 1 to 9, 11 to 14, 21 and 23, each under the calls that name it; 10, 15 and 17 to 20
  *   stand in a listing's lines only, and the others belong to calls that this header does not have.
  * - YENDRUFAL_SHAPE comes before everything else: a run is shorter than its use fixes, or `kind` is
  *   neither G nor H. A run may be longer than its use; the cells beyond are not touched.
  * - Unless the reply is YENDRUFAL_DONE nothing lent changes, but for `place` beside a refusal.
  * - `place` (one cell) receives the place of a refusal, and 0 when the call is done. Calls without it
  *   refuse with place 0 only.
+ * - The words of a plate are the words of its code plus its mask, modulo 2; with mask 0 they are the code's own.
+ *   Below, a codeword is a word of the plate.
  * - A word has position i at the bit of weight 2^i. A positive sample favours bit 0.
  * - The library keeps nothing between calls, and has no variables, no heap and no input or output of its
  *   own. So calls may run at once, in several threads or in an interrupt, where none writes a run that
@@ -54,9 +56,10 @@ extern "C" {
 #define YENDRUFAL_FIRST_FIELD 17    /* first field unknown or out of its turn (in a listing only) */
 #define YENDRUFAL_FIELD_COUNT 18    /* wrong number of fields; the first missing or extra (in a listing only) */
 #define YENDRUFAL_FIELD_VALUE 19    /* bad number, letter or order (in a listing only) */
-#define YENDRUFAL_ROW_FIELD 20      /* row of wrong length or character (in a listing only) */
+#define YENDRUFAL_ROW_FIELD 20      /* row or mask of wrong length or character (in a listing only) */
 #define YENDRUFAL_POSITION 21       /* the position is n or beyond */
 #define YENDRUFAL_WHOLE_SPACE 22    /* k is 64 (by no call of this header) */
+#define YENDRUFAL_MASK_BEYOND 23    /* the mask has a one at n or beyond */
 #define YENDRUFAL_SETTING 24        /* step or top of the levels out of range (by no call of this header) */
 #define YENDRUFAL_NOT_A_NUMBER 25   /* a heard value that is not a number (by no call of this header) */
 #define YENDRUFAL_BRANCH_FAULT 26   /* a bad branch line, or one out of depth order (by no call of this header) */
@@ -75,12 +78,13 @@ extern "C" {
 #define YENDRUFAL_SCORES_LESS 2
 #define YENDRUFAL_TIES 3
 
-/* A plate is a flat run of 64-bit numbers: n, k, 64 rows, 65 profile entries; unused places are 0. */
-#define YENDRUFAL_PLATE_WORDS 131
+/* A plate is a flat run of 64-bit numbers: n, k, 64 rows, 65 profile entries, the mask; unused places are 0. */
+#define YENDRUFAL_PLATE_WORDS 132
 #define YENDRUFAL_PLATE_N 0
 #define YENDRUFAL_PLATE_K 1
 #define YENDRUFAL_PLATE_ROWS 2
 #define YENDRUFAL_PLATE_PROFILE 66
+#define YENDRUFAL_PLATE_MASK 131
 
 /* Rooms that decoding, its two parts, firmness and why_not need, in cells; m is the largest profile entry, at
    most 12. The metric alone needs no decisions. */
@@ -96,28 +100,28 @@ extern "C" {
    not count them may take the number of line feeds in the sheet. */
 #define YENDRUFAL_LISTING(lines) ((size_t)YENDRUFAL_LINE_MOST * ((size_t)(lines) + 4))
 
-/* Turns a matrix of `row_count` rows into a plate. Refusals 1 to 4.
-   Fixed: plate 131, place 1. */
+/* Turns a matrix of `row_count` rows and a mask, 0 for none, into a plate. Refusals 1, 2, 3, 23, 4, in this
+   order. Fixed: plate 132, place 1. */
 uint64_t yendrufal_prepare(uint64_t n, uint64_t kind, const uint64_t *rows, size_t row_count,
-                           uint64_t *plate, size_t plate_length, uint64_t *place,
+                           uint64_t mask, uint64_t *plate, size_t plate_length, uint64_t *place,
                            size_t place_length);
 
 /* The state that the branch with this bit leads to from a state of a depth, or YENDRUFAL_NO_BRANCH.
-   Refusals 5, 12. Fixed: plate 131, next 1. */
+   Refusals 5, 12. Fixed: plate 132, next 1. */
 uint64_t yendrufal_branch(const uint64_t *plate, size_t plate_length, uint64_t depth,
                           uint64_t state, uint64_t bit, uint64_t *next, size_t next_length);
 
-/* The codeword of an information; bit j takes row j. Refusals 5, 13. Fixed: plate 131, word 1. */
+/* The codeword of an information: bit j takes row j, and the mask is added. Refusals 5, 13. Fixed: plate 132, word 1. */
 uint64_t yendrufal_encode(const uint64_t *plate, size_t plate_length, uint64_t information,
                           uint64_t *word, size_t word_length);
 
-/* The information of a codeword. Refusals 5, 14. Fixed: plate 131, information 1. */
+/* The information of a codeword. Refusals 5, 14. Fixed: plate 132, information 1. */
 uint64_t yendrufal_read_back(const uint64_t *plate, size_t plate_length, uint64_t word,
                              uint64_t *information, size_t information_length);
 
 /* The codeword of greatest metric, of equals the earliest; its metric; and the counts of additions
    and of comparisons. Afterwards the needed part of both rooms, their first cells, is zero.
-   Refusals 5 to 9. Fixed: plate 131, word 1, metric 1, counts 2, place 1. */
+   Refusals 5 to 9. Fixed: plate 132, word 1, metric 1, counts 2, place 1. */
 uint64_t yendrufal_decode(const uint64_t *plate, size_t plate_length, const int16_t *samples,
                           size_t sample_count, int32_t *metrics, size_t metric_count,
                           uint64_t *decisions, size_t decision_count, uint64_t *word,
@@ -128,14 +132,14 @@ uint64_t yendrufal_decode(const uint64_t *plate, size_t plate_length, const int1
 /* The greatest metric of any codeword, and the counts of additions and of comparisons, as decoding
    gives them; no word, and no decision room. For a receiver that tries several plates on one block.
    Afterwards the needed part of the metric room is zero. Refusals 5 to 8.
-   Fixed: plate 131, metric 1, counts 2, place 1. */
+   Fixed: plate 132, metric 1, counts 2, place 1. */
 uint64_t yendrufal_metric(const uint64_t *plate, size_t plate_length, const int16_t *samples,
                           size_t sample_count, int32_t *metrics, size_t metric_count,
                           int32_t *metric, size_t metric_length, uint64_t *counts,
                           size_t counts_length, uint64_t *place, size_t place_length);
 
 /* The word that decoding gives, and the same counts, without the metric. Both rooms are left as by
-   decoding. Refusals 5 to 9. Fixed: plate 131, word 1, counts 2, place 1. */
+   decoding. Refusals 5 to 9. Fixed: plate 132, word 1, counts 2, place 1. */
 uint64_t yendrufal_word(const uint64_t *plate, size_t plate_length, const int16_t *samples,
                         size_t sample_count, int32_t *metrics, size_t metric_count,
                         uint64_t *decisions, size_t decision_count, uint64_t *word,
@@ -146,7 +150,7 @@ uint64_t yendrufal_word(const uint64_t *plate, size_t plate_length, const int16_
    and `value` that bit; else `fixed` receives 0 and `value` the margin: the best metric among the
    codewords with 0 there minus the best among those with 1, within 262,016 either way. Positive means
    that decoding gives 0 there, negative 1; zero decides nothing. Both rooms are left as by decoding.
-   Refusals 5, 6, 7, 21, 8, 9, in this order. Fixed: plate 131, fixed 1, value 1, place 1. */
+   Refusals 5, 6, 7, 21, 8, 9, in this order. Fixed: plate 132, fixed 1, value 1, place 1. */
 uint64_t yendrufal_firmness(const uint64_t *plate, size_t plate_length, const int16_t *samples,
                             size_t sample_count, uint64_t position, int32_t *metrics,
                             size_t metric_count, uint64_t *decisions, size_t decision_count,
@@ -160,7 +164,7 @@ uint64_t yendrufal_firmness(const uint64_t *plate, size_t plate_length, const in
                             its beginning, and n where it fails only by a one at n or beyond
      YENDRUFAL_SCORES_LESS  a codeword that scores less than the answer, by the difference (at most 262,016)
      YENDRUFAL_TIES         a codeword that scores the same and loses; the position is the first of difference
-   Both rooms are left as by decoding. Refusals 5 to 9. Fixed: plate 131, reason 2, difference 1, place 1. */
+   Both rooms are left as by decoding. Refusals 5 to 9. Fixed: plate 132, reason 2, difference 1, place 1. */
 uint64_t yendrufal_why_not(const uint64_t *plate, size_t plate_length, const int16_t *samples,
                            size_t sample_count, uint64_t word, int32_t *metrics,
                            size_t metric_count, uint64_t *decisions, size_t decision_count,
@@ -169,7 +173,7 @@ uint64_t yendrufal_why_not(const uint64_t *plate, size_t plate_length, const int
 
 /* Listing lines, but for `tally`, which yendrufal_listing writes for a sheet of heard lines and no call
    writes alone. Each begins at the start of `line`; `written` receives its bytes,
-   the line feed included. Refusals 5 (where a plate is taken), 11. Fixed: plate 131, written 1.
+   the line feed included. Refusals 5 (where a plate is taken), 11. Fixed: plate 132, written 1.
    A refused line has number and place; the place of 10 and of 17 to 20 is a line and a field of the
    sheet, both from 1, the field 0 for 10. Of other numbers `field` is not looked at. */
 uint64_t yendrufal_write_plate(const uint64_t *plate, size_t plate_length, uint8_t *line,

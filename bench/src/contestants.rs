@@ -96,13 +96,14 @@ fn in_c_block(plate: &[u64], samples: &[i16], metrics: &mut [i32], decisions: &m
     (word, metric)
 }
 
-/// Every codeword in turn, each one row away from the one before it.
+/// Every word in turn, each one row away from the one before it.
 pub fn exhaustive(plate: &[u64], samples: &[i16]) -> (u64, i32) {
     let metric = |word: u64| {
         let signed = |(i, &y): (usize, &i16)| if word >> i & 1 == 0 { i32::from(y) } else { -i32::from(y) };
         samples.iter().enumerate().map(signed).sum::<i32>()
     };
-    let (mut word, mut best) = (0, (0, metric(0)));
+    let first = plate[sections::MASK];
+    let (mut word, mut best) = (first, (first, metric(first)));
     for step in 1u64..1 << plate[1] {
         word ^= plate[2 + step.trailing_zeros() as usize];
         let (found, differs) = (metric(word), word ^ best.0);

@@ -19,12 +19,12 @@ const ROUNDS: usize = 30;
 const BLOCKS: usize = 16;
 const SEARCHED: u64 = 16; // the greatest k for which all codewords are searched
 
-/// The library's plate of a code.
-fn prepare(code: &Code) -> Vec<u64> {
-    let (mut plate, mut place) = (vec![0; 131], 0);
-    let (rows, count) = (code.rows.as_ptr(), code.rows.len());
+/// The library's plate of a code with a mask, 0 for none.
+fn prepare(code: &Code, mask: u64) -> Vec<u64> {
+    let (mut plate, mut place) = (vec![0; 132], 0);
+    let (n, rows, count) = (code.n as u64, code.rows.as_ptr(), code.rows.len());
     let reply = unsafe {
-        library::yendrufal_prepare(code.n as u64, 0, rows, count, plate.as_mut_ptr(), 131, &mut place, 1)
+        library::yendrufal_prepare(n, 0, rows, count, mask, plate.as_mut_ptr(), plate.len(), &mut place, 1)
     };
     assert_eq!(reply, 0);
     plate
@@ -91,23 +91,27 @@ fn time_decoders(plate: &[u64], blocks: &[Vec<i16>], times: usize) -> [f64; DECO
 }
 
 fn time_code(code: &Code, clock: f64) {
-    let plate = prepare(code);
+    let plate = prepare(code, 0);
+    let masked = prepare(code, 0x9b3d_5a1e_c477_26f1 >> (64 - code.n));
     let (widest, branches) = (sections::widest(&plate), branches(&plate));
     println!("{}: k {}, m {widest}, {branches} branches", code.name, plate[1]);
     agree(&plate, code.n);
+    agree(&masked, code.n);
     let blocks = blocks(code.n, BLOCKS, 127);
-    let least = time_decoders(&plate, &blocks, (20_000 / branches as usize).max(1));
+    let times = (20_000 / branches as usize).max(1);
+    let (least, with_mask) = (time_decoders(&plate, &blocks, times), time_decoders(&masked, &blocks, times));
     let tested = best(ROUNDS, || (0..100).for_each(|_| plate_test(black_box(&plate)))) / 100.0;
     let per_branch = |time: f64| Some(time * clock / branches as f64);
     for ((name, _), time) in DECODERS.iter().zip(least) {
         row(name, time, least[0], per_branch(time));
     }
+    row("library, with a mask", with_mask[0], least[0], per_branch(with_mask[0]));
     row("library less its plate test", least[0] - tested, least[0], per_branch(least[0] - tested));
     if plate[1] <= SEARCHED {
         let search = || _ = black_box(exhaustive(&plate, black_box(&blocks[0])));
         row("exhaustive search, Rust -O", best(3, search), least[0], None);
     }
-    let prepared = best(ROUNDS, || (0..100).for_each(|_| _ = black_box(prepare(code)))) / 100.0;
+    let prepared = best(ROUNDS, || (0..100).for_each(|_| _ = black_box(prepare(code, 0)))) / 100.0;
     println!("  library's prepare {prepared:.0} ns a call, plate test {tested:.0} ns a call\n");
 }
 
@@ -121,7 +125,7 @@ fn time_dense() {
         state
     };
     let code = Code { name: "dense", n: 64, rows: (0..64).map(&mut row).collect() };
-    let prepared = best(ROUNDS, || (0..100).for_each(|_| _ = black_box(prepare(&code)))) / 100.0;
+    let prepared = best(ROUNDS, || (0..100).for_each(|_| _ = black_box(prepare(&code, 0)))) / 100.0;
     println!("64 dense rows of length 64: library's prepare {prepared:.0} ns a call");
 }
 

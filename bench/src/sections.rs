@@ -1,16 +1,23 @@
 //! A decoder in Rust around a section step: sections of a plate, the sweep, the reading off. It trusts
 //! the plate and the samples, and leaves the part of the rooms that it used zero, as the library does.
 
-/// What a section needs to know; `ending` is the digit of the row that ends in it.
+/// What a section needs to know; `ending` is the digit of the row that ends in it, `turned` the mask's bit at its position.
 #[derive(Clone, Copy, Default)]
 pub struct Section {
     pub live: u32,
     pub begins: bool,
     pub ending: Option<u32>,
+    pub turned: u64,
     pub column: u64,
 }
 
 impl Section {
+    /// The bit of a branch number.
+    #[inline]
+    pub fn bit(&self, x: usize) -> u64 {
+        parity(x as u64 & self.column) ^ self.turned
+    }
+
     /// The branch number without the digit of the row that ends.
     #[inline]
     pub fn without(&self, x: usize) -> usize {
@@ -25,12 +32,16 @@ pub fn parity(word: u64) -> u64 {
     u64::from(word.count_ones()) & 1
 }
 
+/// Where the mask stands in a flat plate.
+pub const MASK: usize = 131;
+
 /// Finds the sections of a flat plate, with a running table of its live rows.
 fn find_sections(plate: &[u64], found: &mut [Section]) {
     let rows = &plate[2..2 + plate[1] as usize];
     let (mut live, mut count, mut next) = ([0u64; 16], 0, 0);
     for (t, section) in found.iter_mut().enumerate() {
         section.live = count as u32;
+        section.turned = plate[MASK] >> t & 1;
         if next < rows.len() && rows[next] >> t & 1 == 1 {
             section.begins = true;
             live[count] = rows[next];
@@ -78,7 +89,7 @@ pub fn decode(
     let (mut word, mut state) = (0, 0);
     for (t, section) in sections.iter().enumerate() {
         let bit = decisions[t * words + state / 64] >> (state % 64) & 1;
-        if bit != parity(state as u64 & section.column) {
+        if bit != section.bit(state) {
             state |= 1 << section.live;
         }
         word |= bit << t;

@@ -5,7 +5,7 @@ use crate::sections::{parity, Section};
 /// The better branch of one state: its metric and its bit.
 #[inline]
 fn better(c: &Section, sample: i32, from: &[i32], x: usize) -> (i32, u64) {
-    let plain = parity(x as u64 & c.column);
+    let plain = c.bit(x);
     let a = from[c.without(x)];
     if !c.begins {
         return (if plain == 1 { a - sample } else { a + sample }, plain);
@@ -101,7 +101,7 @@ pub fn block(c: &Section, sample: i32, from: &[i32], to: &mut [i32], decisions: 
     }
     let states = 1 << c.live;
     let far = c.without(states);
-    let ones = pattern(c.column);
+    let ones = if c.turned == 1 { !pattern(c.column) } else { pattern(c.column) };
     let ready = [gains(ones, sample), gains(!ones, sample)];
     let (mut zero, mut one, mut taken) = ([0; 64], [0; 64], [0; 64]);
     let blocks = to[..states].chunks_exact_mut(64).zip(decisions);

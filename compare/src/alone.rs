@@ -1,4 +1,4 @@
-//! The best metric without a word: over the codewords in Gray order where they are few, else by a pass from
+//! The best metric without a word: over the words in Gray order where they are few, else by a pass from
 //! the far end that carries values only.
 
 use crate::linear::Basis;
@@ -6,9 +6,9 @@ use crate::plate::Plate;
 use crate::words::metric;
 use std::collections::BTreeMap;
 
-/// The greatest metric of all codewords, each one row away from the one before.
+/// The greatest metric of all words, each one row away from the one before.
 pub fn by_gray_order(plate: &Plate, samples: &[i16]) -> i32 {
-    let mut word = 0;
+    let mut word = plate.mask;
     let mut best = metric(word, samples);
     for step in 1..1u64 << plate.k() {
         word ^= plate.rows[step.trailing_zeros() as usize];
@@ -17,9 +17,10 @@ pub fn by_gray_order(plate: &Plate, samples: &[i16]) -> i32 {
     best
 }
 
-/// The same by endings. An ending goes with the beginnings that have its syndrome, so of each syndrome only
-/// the greatest value counts, and a syndrome that no beginning has is left out.
+/// The same by endings. An ending goes with the beginnings that make up the syndrome of the plate's words with it,
+/// so of each syndrome only the greatest value counts, and one that no beginning makes up is left out.
 pub fn by_endings(plate: &Plate, samples: &[i16]) -> i32 {
+    let whole = plate.syndrome_of_words();
     let mut before = vec![Basis::new()];
     for &column in &plate.columns {
         let mut longer = before.last().unwrap().clone();
@@ -34,7 +35,7 @@ pub fn by_endings(plate: &Plate, samples: &[i16]) -> i32 {
             let with_zero = (syndrome, value + sample);
             let with_one = (syndrome ^ plate.columns[t], value - sample);
             for (syndrome, value) in [with_zero, with_one] {
-                if before[t].express(syndrome).is_some() {
+                if before[t].express(syndrome ^ whole).is_some() {
                     let kept = longer.entry(syndrome).or_insert(value);
                     *kept = value.max(*kept);
                 }
@@ -42,7 +43,7 @@ pub fn by_endings(plate: &Plate, samples: &[i16]) -> i32 {
         }
         endings = longer;
     }
-    endings[&0]
+    endings[&whole]
 }
 
 /// The best metric for `n` permitted samples.

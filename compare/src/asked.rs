@@ -1,7 +1,7 @@
 //! Makers of calls. `Rooms` says how long the lent runs are, so that any of them can be too short.
 
 use crate::call::{Call, Name, Run};
-use crate::plate::Refusal;
+use crate::plate::{Refusal, PLATE_WORDS};
 
 /// Lengths of lent runs, other than the working rooms: by default what each use fixes.
 #[derive(Clone, Copy)]
@@ -12,7 +12,7 @@ pub struct Rooms {
     pub place: usize,
 }
 
-pub const FIXED: Rooms = Rooms { plate: 131, single: 1, counts: 2, place: 1 };
+pub const FIXED: Rooms = Rooms { plate: PLATE_WORDS, single: 1, counts: 2, place: 1 };
 
 /// A plate as it is lent: cut or lengthened to the wanted number of cells.
 fn lent_plate(flat: &[u64], rooms: Rooms) -> Run {
@@ -21,13 +21,18 @@ fn lent_plate(flat: &[u64], rooms: Rooms) -> Run {
     Run::of_words("plate", &words)
 }
 
+/// Preparing without a mask.
 pub fn prepare(n: u64, kind: u64, rows: &[u64], rooms: Rooms) -> Call {
+    prepare_masked(n, kind, rows, 0, rooms)
+}
+
+pub fn prepare_masked(n: u64, kind: u64, rows: &[u64], mask: u64, rooms: Rooms) -> Call {
     let runs = vec![
         Run::of_words("rows", rows),
         Run::room_words("plate", rooms.plate),
         Run::room_words("place", rooms.place),
     ];
-    Call { name: Name::Prepare, numbers: vec![n, kind], runs }
+    Call { name: Name::Prepare, numbers: vec![n, kind, mask], runs }
 }
 
 pub fn branch(flat: &[u64], depth: u64, state: u64, bit: u64, rooms: Rooms) -> Call {

@@ -1,4 +1,4 @@
-//! Why a word is not the answer: where its beginning stops, by the codewords one by one where they are few, else
+//! Why a word is not the answer: where its beginning stops, by the plate's words one by one where they are few, else
 //! by what the later columns of the parity check can still make up.
 
 use crate::coding::encode;
@@ -15,15 +15,15 @@ pub enum Reason {
     TiesAndLoses(usize),
 }
 
-/// The first position below n at which no codeword has the word's beginning, and n where there is none.
+/// The first position below n at which no word of the plate has the word's beginning, and n where there is none.
 pub fn stop_of_all(plate: &Plate, word: u64) -> usize {
-    let code = |information| encode(plate, information).unwrap();
-    let left: Vec<u64> = (0..=ones_before(plate.k())).map(|information| code(information) ^ word).collect();
+    let ours = |information| encode(plate, information).unwrap();
+    let left: Vec<u64> = (0..=ones_before(plate.k())).map(|information| ours(information) ^ word).collect();
     let stops = |position: &usize| left.iter().all(|differing| differing & ones_before(position + 1) != 0);
     (0..plate.n).find(stops).unwrap_or(plate.n)
 }
 
-/// The same by syndromes: a beginning goes on where the later columns have its syndrome in their span.
+/// The same by syndromes: a beginning goes on where the later columns have what it leaves of the words' syndrome in their span.
 pub fn stop_by_syndromes(plate: &Plate, word: u64) -> usize {
     let mut last = vec![Basis::new()];
     for &column in plate.columns.iter().rev() {
@@ -31,7 +31,7 @@ pub fn stop_by_syndromes(plate: &Plate, word: u64) -> usize {
         more.insert(column, 0);
         last.push(more);
     }
-    let mut syndrome = 0;
+    let mut syndrome = plate.syndrome_of_words();
     for (position, column) in plate.columns.iter().enumerate() {
         syndrome ^= column * bit(word, position);
         if last[plate.n - 1 - position].express(syndrome).is_none() {

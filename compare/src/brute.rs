@@ -14,6 +14,11 @@ pub fn code(n: usize, kind: Kind, rows: &[u64]) -> BTreeSet<u64> {
     }
 }
 
+/// The words that a mask makes of a code: codewords plus mask.
+pub fn masked(code: &BTreeSet<u64>, mask: u64) -> BTreeSet<u64> {
+    code.iter().map(|word| word ^ mask).collect()
+}
+
 fn first_one(word: u64) -> Option<usize> {
     (0..64).find(|&i| bit(word, i) == 1)
 }
@@ -50,29 +55,29 @@ pub fn profile_by_counting(code: &BTreeSet<u64>, n: usize) -> Vec<usize> {
     (0..=n).map(entry).collect()
 }
 
-/// The ways in which codewords go on after a beginning of length t.
-fn continuations(code: &BTreeSet<u64>, t: usize, begun: u64) -> BTreeSet<u64> {
-    code.iter().filter(|&word| word & ones_before(t) == begun).map(|word| word & !ones_before(t)).collect()
+/// The ways in which words go on after a beginning of length t.
+fn continuations(words: &BTreeSet<u64>, t: usize, begun: u64) -> BTreeSet<u64> {
+    words.iter().filter(|&word| word & ones_before(t) == begun).map(|word| word & !ones_before(t)).collect()
 }
 
-/// The continuations of each state at depth t: those of the sum of the live rows that it takes.
-pub fn states(code: &BTreeSet<u64>, rows: &[u64], t: usize) -> Vec<(u64, BTreeSet<u64>)> {
+/// The continuations of each state at depth t: those of the sum of the live rows that it takes and the mask.
+pub fn states(words: &BTreeSet<u64>, rows: &[u64], mask: u64, t: usize) -> Vec<(u64, BTreeSet<u64>)> {
     let live = live(rows, t);
     let state = |number: u64| {
-        let taken = (0..live.len()).filter(|&j| bit(number, j) == 1).fold(0, |word, j| word ^ live[j]);
+        let taken = (0..live.len()).filter(|&j| bit(number, j) == 1).fold(mask, |word, j| word ^ live[j]);
         let begun = taken & ones_before(t);
-        (begun, continuations(code, t, begun))
+        (begun, continuations(words, t, begun))
     };
     (0..1 << live.len()).map(state).collect()
 }
 
 /// All branches of section t: state, bit, next state.
-pub fn section(code: &BTreeSet<u64>, rows: &[u64], t: usize) -> Vec<(u64, u64, u64)> {
-    let next = states(code, rows, t + 1);
+pub fn section(words: &BTreeSet<u64>, rows: &[u64], mask: u64, t: usize) -> Vec<(u64, u64, u64)> {
+    let next = states(words, rows, mask, t + 1);
     let mut branches = Vec::new();
-    for (number, (begun, _)) in states(code, rows, t).iter().enumerate() {
+    for (number, (begun, _)) in states(words, rows, mask, t).iter().enumerate() {
         for digit in 0..2 {
-            let ahead = continuations(code, t + 1, begun | digit << t);
+            let ahead = continuations(words, t + 1, begun | digit << t);
             let mut same = (0..next.len()).filter(|&j| next[j].1 == ahead);
             if let (false, Some(to)) = (ahead.is_empty(), same.next()) {
                 assert!(same.next().is_none(), "two states go on alike");
@@ -83,20 +88,20 @@ pub fn section(code: &BTreeSet<u64>, rows: &[u64], t: usize) -> Vec<(u64, u64, u
     branches
 }
 
-/// The first position at which no codeword continues a word's beginning, and n where there is none below n.
-pub fn stop(code: &BTreeSet<u64>, n: usize, word: u64) -> usize {
-    let stops = |t: &usize| continuations(code, t + 1, word & ones_before(t + 1)).is_empty();
+/// The first position at which none of the words continues a word's beginning, and n where there is none below n.
+pub fn stop(words: &BTreeSet<u64>, n: usize, word: u64) -> usize {
+    let stops = |t: &usize| continuations(words, t + 1, word & ones_before(t + 1)).is_empty();
     (0..n).find(stops).unwrap_or(n)
 }
 
-/// The greatest metric of the codewords with a bit at a position.
-pub fn best_with(code: &BTreeSet<u64>, samples: &[i16], position: usize, digit: u64) -> Option<i32> {
-    code.iter().filter(|&&word| bit(word, position) == digit).map(|&word| metric(word, samples)).max()
+/// The greatest metric of the words with a bit at a position.
+pub fn best_with(words: &BTreeSet<u64>, samples: &[i16], position: usize, digit: u64) -> Option<i32> {
+    words.iter().filter(|&&word| bit(word, position) == digit).map(|&word| metric(word, samples)).max()
 }
 
-/// The greatest metric of all codewords and the earliest codeword that has it.
-pub fn best(code: &BTreeSet<u64>, samples: &[i16]) -> (i32, u64) {
-    let found = code.iter().map(|&word| (metric(word, samples), word));
+/// The greatest metric of all words and the earliest word that has it.
+pub fn best(words: &BTreeSet<u64>, samples: &[i16]) -> (i32, u64) {
+    let found = words.iter().map(|&word| (metric(word, samples), word));
     let better = |a: (i32, u64), b: (i32, u64)| a.0 > b.0 || a.0 == b.0 && earlier(a.1, b.1);
     found.reduce(|best, next| if better(next, best) { next } else { best }).unwrap()
 }

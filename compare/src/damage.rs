@@ -1,9 +1,9 @@
-//! Damaged plates: each of the 131 numbers changed in several ways, and every call that takes a plate.
+//! Damaged plates: each of the 132 numbers changed in several ways, and every call that takes a plate.
 
 use crate::asked::{self, FIXED};
 use crate::comparison::Comparison;
 use crate::header;
-use crate::plate::{prepare, Kind, Plate};
+use crate::plate::{prepare, prepare_masked, Kind, Plate, PLATE_WORDS};
 use crate::random::{matrix, samples, Random};
 use crate::words::ones_before;
 
@@ -70,9 +70,9 @@ fn kept_codes(random: &mut Random, sound: &Plate) -> Vec<Vec<u64>> {
     damaged
 }
 
-/// Makings of plates that differ from prepared ones in one deed only: too wide, a row over the end.
+/// Makings of plates that differ from prepared ones in one deed only: too wide, a row or the mask over the end.
 fn near_plates() -> Vec<Vec<u64>> {
-    let mut wide = vec![0; 131];
+    let mut wide = vec![0; PLATE_WORDS];
     (wide[0], wide[1]) = (26, 13);
     for i in 0..13 {
         wide[2 + i] = 1 << i | 1 << (i + 13);
@@ -81,8 +81,10 @@ fn near_plates() -> Vec<Vec<u64>> {
         wide[66 + t] = t.min(26 - t) as u64;
     }
     let mut over = prepare(8, Kind::G, &[ones_before(8)]).unwrap().flat();
+    let mut masked = over.clone();
     over[2] |= 1 << 8;
-    vec![wide, over, vec![0; 131], vec![u64::MAX; 131]]
+    masked[131] = 1 << 8;
+    vec![wide, over, masked, vec![0; PLATE_WORDS], vec![u64::MAX; PLATE_WORDS]]
 }
 
 pub fn run(comparison: &mut Comparison, random: &mut Random, plates: usize) {
@@ -93,10 +95,10 @@ pub fn run(comparison: &mut Comparison, random: &mut Random, plates: usize) {
     }
     for _ in 0..plates {
         let found = matrix(random);
-        let Ok(sound) = prepare(found.n, Kind::G, &found.rows) else {
+        let Ok(sound) = prepare_masked(found.n, Kind::G, &found.rows, found.mask) else {
             continue;
         };
-        for field in 0..131 {
+        for field in 0..PLATE_WORDS {
             for value in changes(random, sound.flat()[field]) {
                 let mut flat = sound.flat();
                 flat[field] = value;

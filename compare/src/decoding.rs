@@ -1,5 +1,5 @@
-//! Decoding by search: every codeword where they are few, else a forward pass that carries whole
-//! beginnings of codewords.
+//! Decoding by search: every word of the plate where they are few, else a forward pass that carries whole
+//! beginnings of words.
 
 use crate::coding::encode;
 use crate::linear::Basis;
@@ -35,7 +35,7 @@ impl Hasher for Mixed {
     }
 }
 
-/// For each syndrome of a beginning its best metric and the earliest beginning of that metric.
+/// For each syndrome that is still to be made up its best metric and the earliest beginning of that metric.
 type Beginnings = HashMap<u64, (i32, u64), BuildHasherDefault<Mixed>>;
 
 /// Whether the first of two (metric, word) is to be preferred.
@@ -43,9 +43,10 @@ fn preferred(a: (i32, u64), b: (i32, u64)) -> bool {
     a.0 > b.0 || a.0 == b.0 && earlier(a.1, b.1)
 }
 
-/// The best of all codewords, one by one.
+/// The best of all words, one by one.
 pub fn of_all_codewords(plate: &Plate, samples: &[i16]) -> (i32, u64) {
-    let mut best = (metric(0, samples), 0);
+    let first = encode(plate, 0).unwrap();
+    let mut best = (metric(first, samples), first);
     for information in 1..=ones_before(plate.k()) {
         let word = encode(plate, information).unwrap();
         let found = (metric(word, samples), word);
@@ -56,7 +57,7 @@ pub fn of_all_codewords(plate: &Plate, samples: &[i16]) -> (i32, u64) {
     best
 }
 
-/// One position more on every beginning, with each bit that `bits` permits, those kept that some codeword
+/// One position more on every beginning, with each bit that `bits` permits, those kept that some word
 /// continues.
 fn lengthened(
     begun: &Beginnings,
@@ -83,13 +84,13 @@ fn lengthened(
     longer
 }
 
-/// The best codeword by a forward pass. Beginnings with equal syndromes go on alike, so of each such
-/// class only the best beginning, and of equals the earliest, can begin the answer.
+/// The best word by a forward pass. What begins is to make up the syndrome of the plate's words.
+/// Beginnings that leave equal syndromes go on alike, so of each such class only the best beginning, and of equals the earliest, can begin the answer.
 pub fn by_forward_pass(plate: &Plate, samples: &[i16]) -> (i32, u64) {
     by_forward_pass_with(plate, samples, None).unwrap()
 }
 
-/// The same among the codewords that have a bit at a position; none where no codeword has it.
+/// The same among the words that have a bit at a position; none where no word has it.
 pub fn by_forward_pass_with(
     plate: &Plate,
     samples: &[i16],
@@ -103,7 +104,7 @@ pub fn by_forward_pass_with(
         rests.push(longer);
     }
     let mut begun = Beginnings::default();
-    begun.insert(0, (0, 0));
+    begun.insert(plate.syndrome_of_words(), (0, 0));
     for (t, &sample) in samples.iter().enumerate() {
         let bits = if t == position { [digit == 0, digit == 1] } else { [true, true] };
         begun = lengthened(&begun, t, bits, sample, plate.columns[t], &rests[plate.n - t - 1]);

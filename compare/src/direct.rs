@@ -19,7 +19,7 @@ pub fn answer(call: &mut Call) -> u64 {
         Name::Prepare => {
             let ((rows, a), (plate, b), (place, c)) =
                 (lent!(r[0], words), lent!(r[1], words), lent!(r[2], words));
-            unsafe { yendrufal_prepare(n[0], n[1], rows, a, plate, b, place, c) }
+            unsafe { yendrufal_prepare(n[0], n[1], rows, a, n[2], plate, b, place, c) }
         }
         Name::Branch | Name::Encode | Name::ReadBack => {
             let ((plate, a), (cell, b)) = (lent!(r[0], words), lent!(r[1], words));

@@ -1,4 +1,4 @@
-//! How firm a position is, by search among the codewords that have a bit there.
+//! How firm a position is, by search among the words that have a bit there.
 
 use crate::coding::encode;
 use crate::decoding::{bad_samples, by_forward_pass_with, short_rooms};
@@ -11,7 +11,7 @@ pub enum Reading {
     Open(i32),
 }
 
-/// The greatest metric of the codewords with a bit at a position, one by one; none where no codeword has it.
+/// The greatest metric of the words with a bit at a position, one by one; none where no word has it.
 pub fn best_of_all(plate: &Plate, samples: &[i16], position: usize, digit: u64) -> Option<i32> {
     let words = (0..=ones_before(plate.k())).map(|information| encode(plate, information).unwrap());
     words.filter(|&word| bit(word, position) == digit).map(|word| metric(word, samples)).max()
@@ -28,7 +28,7 @@ pub fn reading_of(zero: Option<i32>, one: Option<i32>) -> Reading {
         (Some(zero), Some(one)) => Reading::Open(zero - one),
         (Some(_), None) => Reading::Fixed(0),
         (None, Some(_)) => Reading::Fixed(1),
-        (None, None) => unreachable!("a code with no word"),
+        (None, None) => unreachable!("a plate with no word"),
     }
 }
 

@@ -6,6 +6,7 @@ extern "C" {
         kind: u64,
         rows: *const u64,
         row_count: usize,
+        mask: u64,
         plate: *mut u64,
         plate_length: usize,
         place: *mut u64,

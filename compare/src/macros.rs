@@ -5,7 +5,7 @@ use crate::asked::{self, Rooms, FIXED};
 use crate::call::Call;
 use crate::comparison::Comparison;
 use crate::header::{listing_room, number, rooms, rooms_most, unasked, value};
-use crate::plate::{prepare, Kind, Plate, Refusal};
+use crate::plate::{prepare, Kind, Plate, Refusal, PLATE_WORDS};
 use crate::rooms::plates;
 
 /// Refusals that no call of the header replies and no listing has, with the paper's numbers.
@@ -52,7 +52,8 @@ fn working_rooms(comparison: &mut Comparison, plate: &Plate) {
 fn plate_words(comparison: &mut Comparison, plate: &Plate) {
     let (words, kind) = (value("PLATE_WORDS"), number("KIND_G"));
     let call = |plate_words| {
-        asked::prepare(plate.n as u64, kind, &plate.rows, Rooms { plate: plate_words, ..FIXED })
+        let rooms = Rooms { plate: plate_words, ..FIXED };
+        asked::prepare_masked(plate.n as u64, kind, &plate.rows, plate.mask, rooms)
     };
     replies(comparison, "SHAPE", call(words - 1));
     let flat = replies(comparison, "DONE", call(words)).runs[1].words().to_vec();
@@ -61,6 +62,7 @@ fn plate_words(comparison: &mut Comparison, plate: &Plate) {
     assert_eq!(flat[value("PLATE_ROWS")..][..plate.k()], plate.rows);
     let profile = flat[value("PLATE_PROFILE")..][..=plate.n].iter().map(|&entry| entry as usize);
     assert_eq!(profile.collect::<Vec<_>>(), plate.profile);
+    assert_eq!(flat[value("PLATE_MASK")], plate.mask);
 }
 
 /// The longest line of each kind has its room.
@@ -139,6 +141,7 @@ fn numbers(comparison: &mut Comparison) {
     ] {
         replies(comparison, name, asked::prepare(n, kind, &rows, FIXED));
     }
+    replies(comparison, "MASK_BEYOND", asked::prepare_masked(8, kind, &[255], 256, FIXED));
     replies(comparison, "SHAPE", asked::prepare(3, 2, &[7], FIXED));
     let mut left = replies(comparison, "DONE", asked::prepare(3, check, &[7], FIXED));
     let even = left.runs[1].words().to_vec();
@@ -147,7 +150,7 @@ fn numbers(comparison: &mut Comparison) {
     let call = |samples: &[i16]| asked::decode(&even, samples, metrics, decisions, FIXED);
     replies(comparison, "SAMPLE_COUNT", call(&[0, 0]));
     replies(comparison, "SAMPLE_RANGE", call(&[0, 0, 2048]));
-    replies(comparison, "NO_PLATE", asked::encode(&[9; 131], 0, FIXED));
+    replies(comparison, "NO_PLATE", asked::encode(&[9; PLATE_WORDS], 0, FIXED));
     replies(comparison, "NO_STATE", asked::branch(&even, 3, 0, 0, FIXED));
     replies(comparison, "NO_BRANCH", asked::branch(&even, 2, 0, 1, FIXED));
     replies(comparison, "INFORMATION", asked::encode(&even, 4, FIXED));

@@ -1,6 +1,7 @@
 //! Random matrices up to n = 64, and each call on the plates that they give.
 
 use crate::asked::{self, FIXED};
+use crate::call::Call;
 use crate::coding::encode;
 use crate::comparison::Comparison;
 use crate::header;
@@ -42,7 +43,7 @@ fn codings(comparison: &mut Comparison, random: &mut Random, plate: &Plate, flat
     }
 }
 
-/// A word to ask about: the answer, another codeword, one with another digit, one with ones beyond n, or any word.
+/// A word to ask about: the answer, another word of the plate, one with another digit, one with ones beyond n, or any word.
 fn named(random: &mut Random, plate: &Plate, answer: u64) -> u64 {
     let other = encode(plate, random.word(plate.k())).unwrap();
     let digit = 1 << random.below(plate.n);
@@ -86,20 +87,24 @@ fn questions(comparison: &mut Comparison, random: &mut Random, flat: &[u64]) {
     comparison.agree(asked::write_word(flat, values, 256, FIXED));
 }
 
-/// Matrices in order, and one in eight with the faults of refusals 1 to 3.
+fn prepare(matrix: &Matrix) -> Call {
+    asked::prepare_masked(matrix.n, matrix.kind, &matrix.rows, matrix.mask, FIXED)
+}
+
+/// Matrices in order, and one in eight with the faults of refusals 1 to 3 and 23.
 pub fn run(comparison: &mut Comparison, random: &mut Random, count: usize) {
     comparison.begin("random matrices");
     let mut widths = [0usize; 15];
     for _ in 0..count {
         let matrix = matrix(random);
         widths[width(&matrix).min(14)] += 1;
-        let (reply, mut call) = comparison.agree(asked::prepare(matrix.n, matrix.kind, &matrix.rows, FIXED));
+        let (reply, mut call) = comparison.agree(prepare(&matrix));
         if reply == 0 {
             questions(comparison, random, &call.runs[1].words().to_vec());
         }
         if random.one_in(8) {
             let bad = spoiled(random, matrix);
-            comparison.agree(asked::prepare(bad.n, bad.kind, &bad.rows, FIXED));
+            comparison.agree(prepare(&bad));
         }
     }
     println!("random matrices by widest profile entry, 0 to 13 and wider: {widths:?}");

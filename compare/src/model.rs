@@ -7,7 +7,7 @@ use crate::coding::{encode, read_back};
 use crate::decoding;
 use crate::firmness::{self, Reading};
 use crate::listing::{end_line, plate_line, profile_line, refused_line, word_line};
-use crate::plate::{prepare, Kind, Plate, Refusal, PLATE_WORDS};
+use crate::plate::{prepare_masked, Kind, Plate, Refusal, PLATE_WORDS};
 use crate::sheet;
 use crate::trellis::branch;
 use std::rc::Rc;
@@ -241,7 +241,7 @@ fn misshapen(call: &mut Call) -> bool {
 
 fn answer_prepare(numbers: &[u64], rows: &mut Run, plate: &mut Run, place: &mut Run) -> u64 {
     let kind = if numbers[1] == 0 { Kind::G } else { Kind::H };
-    match prepare(numbers[0], kind, rows.words()) {
+    match prepare_masked(numbers[0], kind, rows.words(), numbers[2]) {
         Ok(found) => {
             plate.words()[..PLATE_WORDS].copy_from_slice(&found.flat());
             place.words()[0] = 0;

@@ -24,7 +24,8 @@ pub enum Kind {
     H,
 }
 
-pub const PLATE_WORDS: usize = 131;
+pub const PLATE_WORDS: usize = 132;
+const MASK_WORD: usize = 131;
 pub const WIDEST: usize = 12;
 
 /// A plate, with the columns of a parity check of its code beside it.
@@ -33,6 +34,7 @@ pub struct Plate {
     pub n: usize,
     pub rows: Vec<u64>,
     pub profile: Vec<usize>,
+    pub mask: u64,
     pub columns: Vec<u64>,
 }
 
@@ -54,16 +56,21 @@ impl Plate {
         self.n * usize::max(1, (1 << self.widest()) / 64)
     }
 
-    /// The sum of the columns at a word's ones: zero exactly for a codeword.
+    /// The sum of the columns at a word's ones: zero exactly for a word of the code.
     pub fn syndrome(&self, word: u64) -> u64 {
         (0..self.n).filter(|&i| bit(word, i) == 1).fold(0, |sum, i| sum ^ self.columns[i])
     }
 
-    pub fn is_codeword(&self, word: u64) -> bool {
-        word & !ones_before(self.n) == 0 && self.syndrome(word) == 0
+    /// The syndrome that all words of the plate have: a word has it exactly if it is a codeword plus the mask.
+    pub fn syndrome_of_words(&self) -> u64 {
+        self.syndrome(self.mask)
     }
 
-    /// The run of 131 words as which a plate crosses the interface.
+    pub fn is_word(&self, word: u64) -> bool {
+        word & !ones_before(self.n) == 0 && self.syndrome(word) == self.syndrome_of_words()
+    }
+
+    /// The run of 132 words, the mask last, as which a plate crosses the interface.
     pub fn flat(&self) -> Vec<u64> {
         let mut words = vec![0; PLATE_WORDS];
         words[0] = self.n as u64;
@@ -72,13 +79,14 @@ impl Plate {
         for (cell, &entry) in words[66..].iter_mut().zip(&self.profile) {
             *cell = entry as u64;
         }
+        words[MASK_WORD] = self.mask;
         words
     }
 
-    /// The plate that a flat run is, if preparing its own first k rows gives that run.
+    /// The plate that a flat run is, if preparing its own first k rows with its own mask gives that run.
     pub fn from_flat(words: &[u64]) -> Option<Plate> {
         let k = usize::try_from(words[1]).ok().filter(|&k| k <= 64)?;
-        let plate = prepare(words[0], Kind::G, &words[2..2 + k]).ok()?;
+        let plate = prepare_masked(words[0], Kind::G, &words[2..2 + k], words[MASK_WORD]).ok()?;
         (plate.flat() == words).then_some(plate)
     }
 }
@@ -143,13 +151,21 @@ fn earliest(columns: &[u64], head: usize, last: usize) -> u64 {
     1 << head | basis.express(columns[head]).unwrap()
 }
 
+/// The plate of a matrix without a mask.
 pub fn prepare(n: u64, kind: Kind, rows: &[u64]) -> Result<Plate, Refusal> {
+    prepare_masked(n, kind, rows, 0)
+}
+
+pub fn prepare_masked(n: u64, kind: Kind, rows: &[u64], mask: u64) -> Result<Plate, Refusal> {
     let columns = check_columns(n, kind, rows)?;
+    if mask & !ones_before(columns.len()) != 0 {
+        return refuse(23, 0);
+    }
     let profile = profile(&columns);
     if let Some(depth) = profile.iter().position(|&entry| entry > WIDEST) {
         return refuse(4, depth);
     }
     let row = |head| soonest_last(&columns, head).map(|last| earliest(&columns, head, last));
     let rows = (0..columns.len()).filter_map(row).collect();
-    Ok(Plate { n: columns.len(), rows, profile, columns })
+    Ok(Plate { n: columns.len(), rows, profile, mask, columns })
 }

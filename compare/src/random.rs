@@ -34,12 +34,13 @@ impl Random {
     }
 }
 
-/// A matrix as it is given to `prepare`.
+/// A matrix and a mask as they are given to `prepare`.
 #[derive(Clone, Debug)]
 pub struct Matrix {
     pub n: u64,
     pub kind: u64,
     pub rows: Vec<u64>,
+    pub mask: u64,
 }
 
 /// Rows that reach over at most `width` depths: mostly as wide as that, since each position begins one.
@@ -95,10 +96,11 @@ pub fn matrix(random: &mut Random) -> Matrix {
         _ => (0..width).map(|_| random.word(n)).collect(),
     };
     let rows = if random.one_in(4) { rows } else { disguised(random, rows) };
-    Matrix { n: n as u64, kind: random.next() % 2, rows }
+    let mask = if random.one_in(3) { 0 } else { random.word(n) };
+    Matrix { n: n as u64, kind: random.next() % 2, rows, mask }
 }
 
-/// Sets the faults of refusals 1 to 3 into a matrix.
+/// Sets the faults of refusals 1 to 3 and 23 into a matrix.
 pub fn spoiled(random: &mut Random, mut matrix: Matrix) -> Matrix {
     if random.one_in(3) {
         matrix.n = random.pick(&[0, 65, 66, 128, 1 << 32, u64::MAX]);
@@ -110,6 +112,9 @@ pub fn spoiled(random: &mut Random, mut matrix: Matrix) -> Matrix {
     if random.one_in(2) && matrix.n < 64 && !matrix.rows.is_empty() {
         let at = random.below(matrix.rows.len());
         matrix.rows[at] |= 1 << random.pick(&[matrix.n, 63]);
+    }
+    if random.one_in(2) && matrix.n < 64 {
+        matrix.mask |= 1 << random.pick(&[matrix.n, 63]);
     }
     matrix
 }

@@ -4,14 +4,18 @@ use crate::asked::{self, Rooms, FIXED};
 use crate::comparison::Comparison;
 use crate::header;
 use crate::listing::{end_line, plate_line, profile_line, refused_line, word_line};
-use crate::plate::{prepare, Kind, Plate, Refusal};
+use crate::plate::{prepare_masked, Kind, Plate, Refusal, PLATE_WORDS};
 use crate::random::{samples, Random};
 use crate::words::ones_before;
 
 /// One plate of each width 0 to 12.
 pub fn plates() -> impl Iterator<Item = Plate> {
     let rows = |width: usize| (0..width).map(|i| 1 << i | 1 << (i + width)).collect::<Vec<u64>>();
-    (0..=12).map(move |width| prepare(2 * width as u64 + 1, Kind::G, &rows(width)).unwrap())
+    // those of odd width have a mask
+    let mask = |width: usize| if width % 2 == 1 { 0x5_a5a5_a5a5 & ones_before(2 * width + 1) } else { 0 };
+    let plate =
+        move |width| prepare_masked(2 * width as u64 + 1, Kind::G, &rows(width), mask(width)).unwrap();
+    (0..=12).map(plate)
 }
 
 /// Lengths about the one that is needed.
@@ -75,7 +79,7 @@ fn plain_samples(comparison: &mut Comparison, plate: &Plate) {
             comparison.agree(asked::decode(&flat, &vec![value; count], metrics, decisions, FIXED));
             comparison.agree(asked::metric(&flat, &vec![value; count], metrics, FIXED));
             comparison.agree(asked::word(&flat, &vec![value; count], metrics, decisions, FIXED));
-            let sum = plate.rows.iter().fold(0, |sum, row| sum ^ row);
+            let sum = plate.rows.iter().fold(plate.mask, |sum, row| sum ^ row);
             comparison.agree(asked::why_not(&flat, &vec![value; count], sum, metrics, decisions, FIXED));
         }
     }
@@ -111,7 +115,9 @@ fn bad_arguments(comparison: &mut Comparison, plate: &Plate) {
     for position in 0..64 {
         comparison.agree(asked::encode(&flat, 1 << position, FIXED));
         comparison.agree(asked::read_back(&flat, 1 << position, FIXED));
-        comparison.agree(asked::read_back(&flat, plate.rows.first().unwrap_or(&0) ^ 1 << position, FIXED));
+        let word = plate.mask ^ plate.rows.first().unwrap_or(&0);
+        comparison.agree(asked::read_back(&flat, word, FIXED));
+        comparison.agree(asked::read_back(&flat, word ^ 1 << position, FIXED));
     }
     for ones in [ones_before(k), u64::MAX, !ones_before(k)] {
         comparison.agree(asked::encode(&flat, ones, FIXED));
@@ -158,12 +164,27 @@ fn plain_lines(comparison: &mut Comparison) {
     }
 }
 
+/// The mask at its bounds: 23 after 3 and before 4, wherever the one beyond n stands.
+fn masks(comparison: &mut Comparison) {
+    let pairs = (0..13).map(|i| 1 << i | 1 << (i + 13)).collect::<Vec<u64>>();
+    let beyond = (pairs.iter().copied().chain([1 << 26])).collect::<Vec<u64>>();
+    for n in [1, 2, 26, 63, 64u64] {
+        for position in 0..64 {
+            for rows in [&[][..], &[1], &pairs, &beyond, &[0; 65]] {
+                comparison.agree(asked::prepare_masked(n, 0, rows, 1 << position, FIXED));
+            }
+            comparison.agree(asked::prepare_masked(n, 1, &[], 1 << position | 1, FIXED));
+        }
+        comparison.agree(asked::prepare_masked(n, 0, &[1], u64::MAX, FIXED));
+    }
+}
+
 /// Every run of fixed use at lengths about its own; matrices of no kind.
 fn shapes(comparison: &mut Comparison, plate: &Plate) {
     let (flat, block) = (plate.flat(), vec![1; plate.n]);
     let (metrics, decisions) = header::rooms(plate);
     for code in 0..5 * 3 * 4 * 3 {
-        let length = [131, 0, 130, 132, 140][code % 5];
+        let length = [PLATE_WORDS, 0, PLATE_WORDS - 1, PLATE_WORDS + 1, 140][code % 5];
         let rooms = Rooms { plate: length, single: code / 5 % 3, counts: code / 15 % 4, place: code / 60 };
         comparison.agree(asked::branch(&flat, 0, 0, 0, rooms));
         comparison.agree(asked::encode(&flat, 1, rooms));
@@ -183,15 +204,16 @@ fn shapes(comparison: &mut Comparison, plate: &Plate) {
         comparison.agree(asked::write_word(&flat, (0, 0, 0, 0), 256, rooms));
         comparison.agree(asked::write_refused(Refusal { number: 1, place: 0, field: 0 }, 256, rooms));
         comparison.agree(asked::write_end(1, 256, rooms));
-        for (n, kind, rows) in [
-            (8, 0, &[3, 5][..]),
-            (8, 1, &[3, 5]),
-            (8, 2, &[]),
-            (0, u64::MAX, &[]),
-            (0, 0, &[]),
-            (8, 1, &[1, 256]),
+        for (n, kind, rows, mask) in [
+            (8, 0, &[3, 5][..], 0),
+            (8, 1, &[3, 5], 129),
+            (8, 1, &[3, 5], 256),
+            (8, 2, &[], 256),
+            (0, u64::MAX, &[], 0),
+            (0, 0, &[], 1),
+            (8, 1, &[1, 256], 256),
         ] {
-            comparison.agree(asked::prepare(n, kind, rows, rooms));
+            comparison.agree(asked::prepare_masked(n, kind, rows, mask, rooms));
         }
     }
 }
@@ -199,6 +221,7 @@ fn shapes(comparison: &mut Comparison, plate: &Plate) {
 pub fn run(comparison: &mut Comparison, random: &mut Random) {
     comparison.begin("rooms, samples and arguments at their bounds");
     plain_lines(comparison);
+    masks(comparison);
     for plate in plates() {
         working_rooms(comparison, random, &plate);
         bad_samples(comparison, random, &plate);

@@ -1,8 +1,8 @@
-//! Sheets: the grammar with its refusals in the paper's order, and the whole listing. `last` turns rows, samples and printed words.
+//! Sheets: the grammar with its refusals in the paper's order, and the whole listing. `last` turns mask, rows, samples and printed words.
 
 use crate::decoding;
 use crate::listing::{end_line, plate_line, profile_line, refused_line, tally_line, word_line};
-use crate::plate::{prepare, refuse, Kind, Plate, Refusal};
+use crate::plate::{prepare_masked, refuse, Kind, Plate, Refusal};
 use crate::tally::{self, Heard};
 
 pub const SHEET_MOST: usize = 32_768;
@@ -10,9 +10,10 @@ const SAMPLE_DIGITS: usize = 4;
 const LENGTH_DIGITS: usize = 3;
 const COUNTER_DIGITS: usize = 5;
 
-/// The words that a line may begin with: the first line, the lines up to the first block or heard line, those after a block, those after a
-/// heard line, and those after end.
+/// The words that a line may begin with: the first line, the second, the lines up to the first block or heard line, those after a block,
+/// those after a heard line, and those after end.
 const COVER: &[&str] = &["cover"];
+const SECOND: &[&str] = &["mask", "row", "block", "heard", "end"];
 const BODY: &[&str] = &["row", "block", "heard", "end"];
 const BLOCKS: &[&str] = &["block", "end"];
 const HEARD: &[&str] = &["heard", "end"];
@@ -68,7 +69,7 @@ fn form(word: &str, at: usize, field: &str, n: usize) -> Option<u64> {
         ("cover", 2) => (19, number(field, LENGTH_DIGITS).is_some()),
         ("cover", 3) => (19, ["G", "H"].contains(&field)),
         ("cover", 4) => (19, ["first", "last"].contains(&field)),
-        ("row", 2) => (20, field.len() == n && field.bytes().all(|b| b == b'0' || b == b'1')),
+        ("mask" | "row", 2) => (20, field.len() == n && field.bytes().all(|b| b == b'0' || b == b'1')),
         ("heard", 2) => (19, counter(field).is_some()),
         ("block", 2..) | ("heard", 3..) => (19, sample(field).is_some()),
         _ => (0, true),
@@ -85,7 +86,7 @@ fn faults(fields: &[&str], turn: &[&str], n: usize) -> Vec<Fault> {
     }
     let due = match word {
         "cover" => 4,
-        "row" => 2,
+        "mask" | "row" => 2,
         "end" => 1,
         "heard" => fields.len().max(2),
         _ => fields.len(),
@@ -114,7 +115,7 @@ fn cover(fields: &[&str]) -> Cover {
     Cover { n, kind: if fields[2] == "G" { Kind::G } else { Kind::H }, first: fields[3] == "first" }
 }
 
-/// A row's word: the leftmost character is position 0 under `first`, position n-1 under `last`.
+/// The word of a row or mask: the leftmost character is position 0 under `first`, position n-1 under `last`.
 fn row(characters: &str, cover: &Cover) -> u64 {
     let position = |i| if cover.first { i } else { cover.n - 1 - i };
     let ones = characters.bytes().enumerate().filter(|(_, b)| *b == b'1');
@@ -132,12 +133,21 @@ fn by_position(listed: &[&str], cover: &Cover) -> Vec<i16> {
     }
 }
 
+/// What the lines between cover and end say; a sheet without a mask line has the mask 0.
+#[derive(Default)]
+struct Body {
+    mask: u64,
+    rows: Vec<u64>,
+    blocks: Vec<Block>,
+}
+
 /// The lines between cover and end taken in, or the refusal of the first that is bad.
-fn body(lines: &[&str], unended: bool, cover: &Cover) -> Result<(Vec<u64>, Vec<Block>), Refusal> {
-    let (mut rows, mut blocks): (_, Vec<Block>) = (Vec::new(), Vec::new());
+fn body(lines: &[&str], unended: bool, cover: &Cover) -> Result<Body, Refusal> {
+    let Body { mut mask, mut rows, mut blocks } = Body::default();
     let mut line = 2;
     loop {
         let turn = match blocks.last() {
+            None if line == 2 => SECOND,
             None => BODY,
             Some(Block { counter: None, .. }) => BLOCKS,
             Some(_) => HEARD,
@@ -145,6 +155,7 @@ fn body(lines: &[&str], unended: bool, cover: &Cover) -> Result<(Vec<u64>, Vec<B
         let found = fields(lines, line, turn, cover.n)?;
         line += 1;
         match found[0] {
+            "mask" => mask = row(found[1], cover),
             "row" => rows.push(row(found[1], cover)),
             "block" => blocks.push(Block { counter: None, samples: by_position(&found[1..], cover) }),
             "heard" => blocks.push(Block { counter: counter(found[1]), samples: by_position(&found[2..], cover) }),
@@ -154,7 +165,7 @@ fn body(lines: &[&str], unended: bool, cover: &Cover) -> Result<(Vec<u64>, Vec<B
     if lines.len() >= line || unended {
         fields(lines, line, NOTHING, cover.n)?;
     }
-    Ok((rows, blocks))
+    Ok(Body { mask, rows, blocks })
 }
 
 fn read(bytes: &[u8]) -> Result<Sheet, Refusal> {
@@ -169,8 +180,8 @@ fn read(bytes: &[u8]) -> Result<Sheet, Refusal> {
     if cover.n == 0 || cover.n > 64 {
         return refuse(1, 0);
     }
-    let (rows, blocks) = body(&lines, unended, &cover)?;
-    let plate = prepare(cover.n as u64, cover.kind, &rows)?;
+    let Body { mask, rows, blocks } = body(&lines, unended, &cover)?;
+    let plate = prepare_masked(cover.n as u64, cover.kind, &rows, mask)?;
     Ok(Sheet { first: cover.first, plate, blocks })
 }
 

@@ -9,7 +9,7 @@ use crate::sheet::SHEET_MOST;
 use crate::words::printed;
 
 /// Sheets that stand just inside or outside of the grammar.
-const AWKWARD: [&str; 70] = [
+const AWKWARD: [&str; 102] = [
     "",
     "\n",
     "cover",
@@ -66,6 +66,38 @@ const AWKWARD: [&str; 70] = [
     "cover\t2\tG\tlast\nrow\t12\nword\n",
     "cover\t2\tG\tlast\nend\nrow\t12\t\n",
     "cover\t2\tG\tlast\nend\t0\t1\nend\n",
+    "mask\t1\nend\n",
+    "mask\t1\ncover\t1\tG\tfirst\nend\n",
+    "cover\t1\tG\tfirst\nmask",
+    "cover\t1\tG\tfirst\nmask\t1",
+    "cover\t1\tG\tfirst\nmask\t1\n",
+    "cover\t1\tG\tfirst\nmask\t1\nend\n",
+    "cover\t1\tG\tfirst\nmask\t1\nblock\t5\nblock\t-5\nblock\t0\nend\n",
+    "cover\t1\tH\tlast\nmask\t1\nblock\t5\nblock\t-5\nblock\t0\nend\n",
+    "cover\t2\tG\tlast\nmask\nend\n",
+    "cover\t2\tG\tlast\nmask\t\nend\n",
+    "cover\t2\tG\tlast\nmask\t1\nend\n",
+    "cover\t2\tG\tlast\nmask\t100\nend\n",
+    "cover\t2\tG\tlast\nmask\t12\nend\n",
+    "cover\t2\tG\tlast\nmask\t10\t\nend\n",
+    "cover\t2\tG\tlast\nmask\t12\t10\nend\n",
+    "cover\t2\tG\tlast\nMask\t10\nend\n",
+    "cover\t2\tG\tlast\nmasks\t10\nend\n",
+    "cover\t2\tG\tlast\nmas\t10\nend\n",
+    "cover\t2\tG\tlast\nmask \t10\nend\n",
+    "cover\t2\tG\tlast\nmask\t10\nmask\t10\nend\n",
+    "cover\t2\tG\tlast\nmask\t00\nmask\t12\t\nend\n",
+    "cover\t2\tG\tlast\nmask\t12\nmask\t10\nend\n",
+    "cover\t2\tG\tlast\nrow\t11\nmask\t10\nend\n",
+    "cover\t2\tG\tlast\nrow\t11\nmask\n",
+    "cover\t2\tG\tlast\nrow\t11\nblock\t1\t-1\nmask\t10\nend\n",
+    "cover\t2\tG\tlast\nheard\t1\t1\t-1\nmask\t10\nend\n",
+    "cover\t2\tG\tlast\nend\nmask\t10\n",
+    "cover\t2\tG\tlast\nmask\t10\ncover\t2\tG\tlast\nend\n",
+    "cover\t2\tG\tlast\nmask\t10\nrow\t11\nblock\t1\t-2\nblock\t1\t1\nblock\t1\nend\n",
+    "cover\t2\tG\tfirst\nmask\t10\nrow\t11\nheard\t1\t1\t-2\nheard\t2\t1\t1\nheard\t2\t9\t9\nend\n",
+    "cover\t0\tG\tfirst\nmask\t\nend\n",
+    "cover\t65\tG\tfirst\nmask\t1\nend\n",
     "cover\t1\tH\tlast\nheard\nend\n",
     "cover\t1\tH\tlast\nheard\t\nend\n",
     "cover\t1\tH\tlast\nheard\t0\nend\n",
@@ -111,6 +143,9 @@ pub fn sheet(random: &mut Random) -> Vec<u8> {
     let n = matrix.n as usize;
     let (kind, order) = (random.pick(&["G", "H"]), random.pick(&["first", "last"]));
     let mut text = format!("cover\t{n}\t{kind}\t{order}\n");
+    if random.one_in(2) {
+        text += &format!("mask\t{}\n", printed(matrix.mask, n));
+    }
     for row in &matrix.rows {
         text += &format!("row\t{}\n", printed(*row, n));
     }
@@ -129,13 +164,13 @@ pub fn sheet(random: &mut Random) -> Vec<u8> {
     (text + "end\n").into_bytes()
 }
 
-/// The sheet with every row and block reversed, under the other word of the cover.
+/// The sheet with its mask and every row and block reversed, under the other word of the cover.
 pub fn turned(sheet: &str) -> String {
     let turn = |line: &str| {
         let mut fields: Vec<String> = line.split('\t').map(String::from).collect();
         match fields[0].as_str() {
             "cover" => fields[3] = if fields[3] == "first" { "last" } else { "first" }.into(),
-            "row" => fields[1] = fields[1].chars().rev().collect(),
+            "mask" | "row" => fields[1] = fields[1].chars().rev().collect(),
             "block" => fields[1..].reverse(),
             "heard" => fields[2..].reverse(),
             _ => {}
@@ -150,8 +185,8 @@ fn damaged(random: &mut Random, mut sheet: Vec<u8>) -> Vec<u8> {
     let at = random.below(sheet.len());
     match random.below(6) {
         0 => drop(sheet.remove(at)),
-        1 => sheet.insert(at, random.pick(b"\t\n01-9 xGHrbce\x00\xff")),
-        2 => sheet[at] = random.pick(b"\t\n01-92 xGHrbce\x00\xff\r"),
+        1 => sheet.insert(at, random.pick(b"\t\n01-9 xGHrbcem\x00\xff")),
+        2 => sheet[at] = random.pick(b"\t\n01-92 xGHrbcem\x00\xff\r"),
         3 => sheet.truncate(at),
         4 => sheet[at] ^= 1 << random.below(8),
         _ => return lines_moved(random, &sheet),
@@ -199,6 +234,7 @@ pub fn run(comparison: &mut Comparison, random: &mut Random, count: usize) {
     long_sheets().iter().for_each(|sheet| list(comparison, sheet));
     list_in_rooms(comparison, b"", 1);
     list_in_rooms(comparison, b"cover\t2\tG\tlast\nrow\t10\nblock\t-3\t4\nblock\t1\nend\n", 5);
+    list_in_rooms(comparison, b"cover\t2\tG\tlast\nmask\t01\nrow\t10\nblock\t-3\t4\nend\n", 4);
     list_in_rooms(comparison, b"cover\t2\tG\tlast\nrow\t10\nheard\t7\t-3\t4\nheard\t7\t1\t1\nend\n", 6);
     for _ in 0..count {
         let mut text = sheet(random);

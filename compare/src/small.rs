@@ -1,4 +1,5 @@
-//! Every small matrix: n up to 4, up to 3 rows, with all samples of -1, 0 and 1.
+//! Every small matrix: n up to 4, up to 3 rows, with all samples of -1, 0 and 1. Every small plate besides with masks: all masks where
+//! n is up to 3, else one, each in its turn.
 
 use crate::asked::{self, FIXED};
 use crate::comparison::Comparison;
@@ -41,6 +42,7 @@ fn all_questions(comparison: &mut Comparison, plate: &Plate, flat: &[u64]) {
     }
     let (metrics, decisions) = header::rooms(plate);
     for samples in all_samples(plate.n) {
+        comparison.agree(asked::decode(flat, &samples, metrics, decisions, FIXED));
         comparison.agree(asked::metric(flat, &samples, metrics, FIXED));
         comparison.agree(asked::word(flat, &samples, metrics, decisions, FIXED));
         for position in 0..=n {
@@ -49,6 +51,16 @@ fn all_questions(comparison: &mut Comparison, plate: &Plate, flat: &[u64]) {
         for word in 0..2 << n {
             comparison.agree(asked::why_not(flat, &samples, word, metrics, decisions, FIXED));
         }
+    }
+}
+
+/// The masks that a small plate is tried with, `turn` plates having come before it.
+fn masks(n: usize, turn: usize) -> Vec<u64> {
+    let all = 1 << n;
+    if n < 4 {
+        (1..all).collect()
+    } else {
+        vec![1 + turn as u64 % (all - 1)]
     }
 }
 
@@ -65,6 +77,15 @@ pub fn run(comparison: &mut Comparison) {
         }
         if seen.insert(flat.clone()) {
             all_questions(comparison, &plate, &flat);
+            for mask in masks(plate.n, seen.len()) {
+                let (_, mut prepared) = comparison.agree(asked::prepare_masked(n, kind, &rows, mask, FIXED));
+                let flat = prepared.runs[1].words().to_vec();
+                all_questions(
+                    comparison,
+                    &Plate::from_flat(&flat).expect("no small plate is refused"),
+                    &flat,
+                );
+            }
         }
     }
 }

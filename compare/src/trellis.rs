@@ -1,5 +1,5 @@
-//! The trellis by its meaning: a state at depth t is a class of beginnings that go on alike, and
-//! beginnings go on alike exactly if their syndromes are equal.
+//! The trellis by its meaning: a state at depth t is a class of beginnings of the plate's words that go on
+//! alike, and beginnings go on alike exactly if their syndromes are equal.
 
 use crate::linear::Basis;
 use crate::plate::{refuse, Plate, Refusal};
@@ -20,6 +20,11 @@ fn live_syndromes(plate: &Plate, t: usize) -> Vec<u64> {
     live_rows(plate, t).iter().map(begun).collect()
 }
 
+/// The syndrome of the mask's beginning of length t: that of state 0.
+fn masked_syndrome(plate: &Plate, t: usize) -> u64 {
+    plate.syndrome(plate.mask & ones_before(t))
+}
+
 /// The state after a branch, or none; refusal 12 where there is nothing to leave from.
 pub fn branch(plate: &Plate, depth: u64, state: u64, digit: u64) -> Result<Option<u64>, Refusal> {
     let n = plate.n as u64;
@@ -29,10 +34,11 @@ pub fn branch(plate: &Plate, depth: u64, state: u64, digit: u64) -> Result<Optio
     let depth = depth as usize;
     let here = live_syndromes(plate, depth);
     let taken = here.iter().enumerate().filter(|(j, _)| bit(state, *j) == 1);
-    let syndrome = taken.fold(digit * plate.columns[depth], |sum, (_, part)| sum ^ part);
+    let begun = taken.fold(masked_syndrome(plate, depth), |sum, (_, part)| sum ^ part);
+    let longer = begun ^ digit * plate.columns[depth];
     let mut next = Basis::new();
     for (j, &part) in live_syndromes(plate, depth + 1).iter().enumerate() {
         next.insert(part, j);
     }
-    Ok(next.express(syndrome))
+    Ok(next.express(longer ^ masked_syndrome(plate, depth + 1)))
 }

@@ -128,6 +128,42 @@ impl Checked<'_> {
         self.expect(asked::read_back(&plate, word("11010010"), FIXED), 14, None);
     }
 
+    /// The sheet with the mask 10000001.
+    fn the_masked_sheet(&mut self) {
+        let sheet = SHEET.replacen("first\n", "first\nmask\t10000001\n", 1);
+        self.lists(sheet.as_bytes(), LISTING.replace("11110000\t19", "01000010\t21").as_bytes());
+        let call = asked::prepare_masked(8, 0, &ROWS.map(word), word("10000001"), FIXED);
+        let plate = self.expect(call, 0, Some((2, 0, 0))).runs[1].words().to_vec();
+        let plain = self.plate(8, 0, &ROWS.map(word));
+        assert_eq!((&plate[..131], plate[131]), (&plain[..131], 129));
+        self.decodes(&plate, &SAMPLES, "01000010", 21, [44, 11]);
+        self.decodes(&plate, &[0; 8], "00010111", 0, [44, 11]);
+        for (position, margin) in [4, -4, 4, 4, 14, 6, -6, 14].into_iter().enumerate() {
+            self.reads(&plate, &SAMPLES, position as u64, 0, margin);
+        }
+        for (depth, state, bit, next) in
+            [(0, 0, 0, 1), (0, 0, 1, 0), (4, 1, 0, 5), (7, 0, 1, 0), (7, 1, 0, 0)]
+        {
+            self.expect(asked::branch(&plate, depth, state, bit, FIXED), 0, Some((1, 0, next)));
+        }
+        for (state, bit) in [(0, 0), (1, 1)] {
+            self.expect(asked::branch(&plate, 7, state, bit, FIXED), NO_BRANCH, None);
+        }
+        self.expect(asked::encode(&plate, 0, FIXED), 0, Some((1, 0, word("10000001"))));
+        self.expect(asked::encode(&plate, 9, FIXED), 0, Some((1, 0, word("01111110"))));
+        self.expect(asked::read_back(&plate, word("01111110"), FIXED), 0, Some((1, 0, 9)));
+        self.expect(asked::read_back(&plate, word("11111111"), FIXED), 14, None);
+        for (named, told, difference) in [
+            ("11110000", [1, 3], 0),
+            ("01000010", [0, 0], 0),
+            ("10110010", [2, 0], 4),
+            ("010000101", [1, 8], 0),
+        ] {
+            self.explains(&plate, &SAMPLES, word(named), told, difference);
+        }
+        self.explains(&plate, &[0; 8], word("10000001"), [3, 0], 0);
+    }
+
     /// The sheet's code with rooms and samples at their bounds.
     fn the_sheet_at_bounds(&mut self) {
         let plate = self.plate(8, 0, &ROWS.map(word));
@@ -157,10 +193,13 @@ impl Checked<'_> {
         self.expect(asked::prepare(8, 0, &[256], FIXED), 3, Some((2, 0, 0)));
         self.expect(asked::prepare(0, 0, &[], FIXED), 1, Some((2, 0, 0)));
         self.expect(asked::prepare(65, 0, &[], FIXED), 1, Some((2, 0, 0)));
+        self.expect(asked::prepare_masked(8, 0, &[255], 256, FIXED), 23, Some((2, 0, 0)));
         let pairs = |count: u64| (0..count).map(|i| 1 << i | 1 << (i + count)).collect::<Vec<u64>>();
         let widest = self.plate(24, 0, &pairs(12));
         assert_eq!(widest[66..].iter().max(), Some(&12));
         self.expect(asked::prepare(26, 0, &pairs(13), FIXED), 4, Some((2, 0, 13)));
+        self.expect(asked::prepare_masked(26, 0, &pairs(13), 1 << 26, FIXED), 23, Some((2, 0, 0)));
+        self.expect(asked::prepare_masked(8, 0, &[1, 256], 256, FIXED), 3, Some((2, 0, 1)));
         let top = [1, 1 << 63];
         let table: [(u64, u64, &[u64], [u64; 2]); 3] =
             [(64, 1, &[], [64, 0]), (64, 0, &[3; 64], [1, 1]), (64, 1, &top, [62, 0])];
@@ -186,6 +225,7 @@ pub fn examples(answer: Answer) -> usize {
     let mut checked = Checked { answer, count: 0 };
     checked.small_codes();
     checked.the_sheet();
+    checked.the_masked_sheet();
     checked.the_sheet_at_bounds();
     checked.matrices_at_bounds();
     checked.the_same_plate();

@@ -2,7 +2,6 @@
 use lib.Bits.{bitXor}
 use lib.Count.{trailingZeros}
 use lib.IntN.{+ℤ-comm, +ℤ-invr, natAbs, negℤ, pos, ℤ, _+ℤ_, _-ℤ_}
-use lib.ListN.{getD}
 use lib.Signed.{_<ℤ_, ltZ}
 use mathlib.Core.Bool.{Bool, false, true}
 use mathlib.Core.List.{List}
@@ -12,35 +11,31 @@ use native.Mathlib.Nat.{le-refl, pow-suc}
 use native.Mathlib.Omega.{arith}
 use Prim.Native.Nat.{_<_, _^_, min, suc, zero, ℕ, _-_, _≤_}
 use Rattle.asking.proofs.Reasons.{best-fits, metric-fits, scores-less, ties-and-loses}
-use Rattle.asking.proofs.RestTaken.{left-on, left-start}
 use Rattle.asking.proofs.Stopping.{nothing-left, stopped}
 use Rattle.asking.specs.Asking.{Explains, Less, NoCodewordAt}
-use Rattle.asking.specs.Working.{Asked, Left, Without}
+use Rattle.asking.specs.Working.{Asked}
 use Rattle.asking.specs.declared.Reason.{Reason}
 use Rattle.asking.specs.declared.Reason.the-variants.{Chosen, NoCodeword, ScoresLess, TiesAndLoses}
-use Rattle.coding.proofs.CodingCalls.{plate-headed}
 use Rattle.coding.proofs.RoundTrip.{beyond-refused}
-use Rattle.coding.specs.TakingOff.{Headed}
 use Rattle.decoding.proofs.IntegerOrder.{add-lt}
 use Rattle.decoding.proofs.Integers.{abs-add, abs-neg}
+use Rattle.decoding.specs.Cosets.{takenOff}
 use Rattle.decoding.specs.declared.Answer.{Answer}
 use Rattle.decoding.specs.Metric.{metricOf}
 use Rattle.plates.proofs.SoundIsPrepared.{sound}
 use Rattle.plates.specs.declared.Plate.{Plate}
-use Rattle.plates.specs.Prepare.{IsPrepared, rowsOf}
+use Rattle.plates.specs.Prepare.{IsPrepared, IsWord, rowsOf}
 use Rattle.words.proofs.Ends.{first-trailing}
-use Rattle.words.proofs.Span.{first-unique}
 use Rattle.words.proofs.Word.{below-ext, xor-zero-eq}
-use Rattle.words.specs.Ends.{FirstOne, firsts}
+use Rattle.words.specs.Ends.{FirstOne}
 use Rattle.words.specs.Span.{First}
-use Rattle.words.specs.Sum.{IsSum, taken}
 use Rattle.words.specs.Word.{bit}
 
 -- ---- a one at n or beyond
 
 module _ {plate : Plate} (given : IsPrepared plate) (w : ℕ) where
   -- a word that fails only by a one at n or beyond stops at n
-  pub beyond-at-n : (c : ℕ) → IsSum (rowsOf plate) c → ((i : ℕ) → i < plate .n → bit c i ≡ bit w i) → 2 ^ plate .n ≤ w → NoCodewordAt plate w (plate .n)
+  pub beyond-at-n : (c : ℕ) → IsWord plate c → ((i : ℕ) → i < plate .n → bit c i ≡ bit w i) → 2 ^ plate .n ≤ w → NoCodewordAt plate w (plate .n)
   beyond-at-n c g same over = record {
     none = beyond-refused plate given w over;
     within = le-refl (plate .n);
@@ -57,9 +52,9 @@ module _ {plate : Plate} (given : IsPrepared plate) (w : ℕ) where
       go (yes h) =
           let positive : 1 ≤ plate .n = sound given .positive in
           let c = x .sooner (plate .n - 1) (omega arith) in
-          absurd (x .none (subst (IsSum (rowsOf plate)) (below-ext (plate .n) (c .by) w (below (c .by) (c .codeword)) h (λ i l. c .same i (omega arith))) (c .codeword)))
+          absurd (x .none (subst (IsWord plate) (below-ext (plate .n) (c .by) w (below (c .by) (c .codeword)) h (λ i l. c .same i (omega arith))) (c .codeword)))
         where
-          below : (v : ℕ) → IsSum (rowsOf plate) v → v < 2 ^ plate .n
+          below : (v : ℕ) → IsWord plate v → v < 2 ^ plate .n
           below v g = at (decLt v (2 ^ plate .n))
             where
               at : Dec (v < 2 ^ plate .n) → v < 2 ^ plate .n
@@ -89,19 +84,8 @@ own-power (suc n) = omega (arith, own-power n, pow-suc 2 n)
 first-of : (w : ℕ) → 0 < w → First w (trailingZeros w w)
 first-of w h = first-trailing w w h (own-power w)
 
--- the rows taken off, one after the other
-taken-off : (rows : List ℕ) (k w : ℕ) → Headed rows k → (j : ℕ) → j ≤ k → (rest : ℕ) × Left rows k w j rest
-taken-off rows k w headed zero h = (w, left-start rows k w headed)
-taken-off rows k w headed (suc j) h = on (taken-off rows k w headed j (omega arith))
-  where
-    on : (rest : ℕ) × Left rows k w j rest → (rest : ℕ) × Left rows k w (suc j) rest
-    on (rest, left) = (bitXor (taken (bit rest (firsts rows j)) (getD rows j 0)) rest, left-on rows k w headed j (omega arith) rest _ left off)
-      where
-        off : Without rest (getD rows j 0) (bitXor (taken (bit rest (firsts rows j)) (getD rows j 0)) rest)
-        off = record { digit = bit rest (firsts rows j); at-head = λ p f. ap (bit rest) (first-unique (headed .head j (omega arith)) f); is = refl }
-
 module _ (plate : Plate) (samples : List ℤ) (a : Answer) (asked : Asked plate samples a) (w : ℕ) where
-  codeword-reason : IsSum (rowsOf plate) w → (w ≡ a .word → ⊥) → (r : Reason) × Explains plate samples a w r
+  codeword-reason : IsWord plate w → (w ≡ a .word → ⊥) → (r : Reason) × Explains plate samples a w r
   codeword-reason g other = go (ltZ (metricOf samples w) (a .metric)) refl
     where
       sum : ℕ
@@ -115,13 +99,15 @@ module _ (plate : Plate) (samples : List ℤ) (a : Answer) (asked : Asked plate 
       go false t = (TiesAndLoses (trailingZeros sum sum), ties-and-loses plate samples a asked w g other t _ first-one)
 
   pub some-reason : (r : Reason) × Explains plate samples a w r
-  some-reason = go (ℕ-discrete w (a .word)) (taken-off (plate .rows) (plate .k) w (plate-headed (sound (asked .given))) (plate .k) (le-refl (plate .k)))
+  some-reason = go (ℕ-discrete w (a .word)) (ℕ-discrete (takenOff (rowsOf plate) (bitXor w (plate .mask))) 0)
     where
-      go : Dec (w ≡ a .word) → (rest : ℕ) × Left (plate .rows) (plate .k) w (plate .k) rest → (r : Reason) × Explains plate samples a w r
+      rest : ℕ
+      rest = takenOff (rowsOf plate) (bitXor w (plate .mask))
+
+      go : Dec (w ≡ a .word) → Dec (takenOff (rowsOf plate) (bitXor w (plate .mask)) ≡ 0) → (r : Reason) × Explains plate samples a w r
       go (yes e) l = (Chosen, e)
-      go (no other) (rest, left) = by (ℕ-discrete rest 0)
-        where
-          by : Dec (rest ≡ 0) → (r : Reason) × Explains plate samples a w r
-          by (yes e) = codeword-reason (nothing-left (asked .given) w rest left e) other
-          by (no some) =
-              (NoCodeword (min (trailingZeros rest rest) (plate .n)), stopped (asked .given) w rest left some _ (record { stop = λ h. (trailingZeros rest rest, first-of rest h, refl) }))
+      go (no other) (yes e) = codeword-reason (nothing-left (asked .given) w (takenOff (rowsOf plate) (bitXor w (plate .mask))) refl e) other
+      go (no other) (no some) = (
+        NoCodeword (min (trailingZeros rest rest) (plate .n)),
+        stopped (asked .given) w rest refl some _ (record { stop = λ h. (trailingZeros rest rest, first-of rest h, refl) }),
+      )

@@ -13,9 +13,8 @@ use Rattle.decoding.specs.declared.Answer.{Answer}
 use Rattle.decoding.specs.Decode.{Best}
 use Rattle.decoding.specs.Metric.{metricOf}
 use Rattle.plates.specs.declared.Plate.{Plate}
-use Rattle.plates.specs.Prepare.{rowsOf}
+use Rattle.plates.specs.Prepare.{IsWord}
 use Rattle.words.proofs.Span.{lt-tri, zero-one}
-use Rattle.words.specs.Sum.{IsSum}
 use Rattle.words.specs.Word.{Earlier}
 
 -- the first difference of two words is one
@@ -42,8 +41,8 @@ stop-once plate w p q x y = go (lt-tri p q)
 
 module _ (plate : Plate) (samples : List ℤ) (a : Answer) (best : Best plate samples a) (w : ℕ) where
   -- the answer is a codeword
-  chosen-codeword : w ≡ a .word → IsSum (rowsOf plate) w
-  chosen-codeword e = subst (IsSum (rowsOf plate)) (sym e) (best .codeword)
+  chosen-codeword : w ≡ a .word → IsWord plate w
+  chosen-codeword e = subst (IsWord plate) (sym e) (best .codeword)
 
   not-less : w ≡ a .word → (d : ℤ) → Less plate samples a w d → ⊥
   not-less e d l = <ℤ-irrefl (subst (λ (z : ℤ). z <ℤ a .metric) (ap (metricOf samples) e ∙ sym (best .metric)) (l .less))

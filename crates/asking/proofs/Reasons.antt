@@ -20,13 +20,12 @@ use Rattle.decoding.specs.declared.Answer.{Answer}
 use Rattle.decoding.specs.Metric.{limit, metricOf}
 use Rattle.plates.proofs.SoundIsPrepared.{sound}
 use Rattle.plates.specs.declared.Plate.{Plate}
-use Rattle.plates.specs.Prepare.{rowsOf}
+use Rattle.plates.specs.Prepare.{IsWord}
 use Rattle.words.proofs.Span.{first-unique}
 use Rattle.words.proofs.Ends.{some-pos}
 use Rattle.words.proofs.Word.{bit-xor, differ-self}
 use Rattle.words.specs.Ends.{FirstOne}
 use Rattle.words.specs.Span.{First}
-use Rattle.words.specs.Sum.{IsSum}
 use Rattle.words.specs.Word.{bit, Earlier}
 
 -- where one word is earlier, the first one of their sum is the first position of difference
@@ -63,7 +62,7 @@ module _ (plate : Plate) (samples : List ℤ) (a : Answer) (asked : Asked plate 
     pub test-is : (t : Bool) → ltZ (toZ w32 (ofZ w32 m)) (toZ w32 (ofZ w32 (a .metric))) ≡ t → ltZ (metricOf samples w) (a .metric) ≡ t
     test-is t h = sym (ap₂ ltZ metric-read best-read) ∙ h
 
-  module _ (w : ℕ) (codeword : IsSum (rowsOf plate) w) where
+  module _ (w : ℕ) (codeword : IsWord plate w) where
     pub scores-less : ltZ (metricOf samples w) (a .metric) ≡ true → (d : ℤ) → d ≡ a .metric -ℤ metricOf samples w → Less plate samples a w d
     scores-less t d e = record { codeword = codeword; less = record { lt = subst T (sym t) tt }; by = e }
 

@@ -4,46 +4,45 @@ use lib.IntN.{ℤ, _-ℤ_}
 use lib.Signed.{_<ℤ_}
 use mathlib.Core.List.{List}
 use mathlib.Core.Path.{_≡_}
-use Rattle.words.specs.Sum.{IsSum}
 use Rattle.words.specs.Word.{bit, Earlier}
 use Rattle.plates.specs.declared.Plate.{Plate}
-use Rattle.plates.specs.Prepare.{rowsOf}
+use Rattle.plates.specs.Prepare.{IsWord}
 use Rattle.plates.specs.Refusals.{Refuses, Passes}
 use Rattle.decoding.specs.declared.Answer.{Answer}
-use Rattle.decoding.specs.Decode.{Best, Zeroed, decodeConditions}
+use Rattle.decoding.specs.Decode.{BestIn, Zeroed, decodeConditions}
 use Rattle.decoding.specs.Metric.{metricOf}
 use Rattle.asking.specs.declared.Reason.{Reason}
 use Rattle.asking.specs.declared.Reason.the-variants.{Chosen, NoCodeword, ScoresLess, TiesAndLoses}
 use Rattle.asking.specs.declared.Verdict.{Verdict}
 use Rattle.asking.specs.declared.Verdict.the-variants.{Explained, Refused}
 
--- ---- no codeword
+-- ---- no codeword: here and below "codeword" is read as one of the words C, which for a plate are its words
 
--- some codeword continues the word's beginning at p: it has the word's bits at the positions 0 to p
-pub record Continued (rows : List ℕ) (w p : ℕ) : Type 0 where
+-- some of the words C continues the word's beginning at p: it has the word's bits at the positions 0 to p
+pub record Continued (C : ℕ → Type 0) (w p : ℕ) : Type 0 where
   pub by : ℕ
-  pub codeword : IsSum rows by
+  pub codeword : C by
   pub same : (i : ℕ) → i ≤ p → bit by i ≡ bit w i
 
 -- The word is no codeword, and p is the first position at which no codeword continues its beginning. Where every position below n is
 -- continued, so that the word fails only by a one at n or beyond, p is n
-pub record NoCodewordAt (plate : Plate) (w p : ℕ) : Type 0 where
-  pub none : IsSum (rowsOf plate) w → ⊥
-  pub within : p ≤ plate .n
-  pub sooner : (i : ℕ) → i < p → Continued (rowsOf plate) w i
-  pub stops : p < plate .n → Continued (rowsOf plate) w p → ⊥
+pub record NoCodewordIn (C : ℕ → Type 0) (n w p : ℕ) : Type 0 where
+  pub none : C w → ⊥
+  pub within : p ≤ n
+  pub sooner : (i : ℕ) → i < p → Continued C w i
+  pub stops : p < n → Continued C w p → ⊥
 
 -- ---- a codeword that is not the answer
 
 -- it scores less than the answer, by the difference
-pub record Less (plate : Plate) (samples : List ℤ) (a : Answer) (w : ℕ) (difference : ℤ) : Type 0 where
-  pub codeword : IsSum (rowsOf plate) w
+pub record LessIn (C : ℕ → Type 0) (samples : List ℤ) (a : Answer) (w : ℕ) (difference : ℤ) : Type 0 where
+  pub codeword : C w
   pub less : metricOf samples w <ℤ a .metric
   pub by : difference ≡ a .metric -ℤ metricOf samples w
 
 -- it scores the same, and the answer is earlier, with 0 at p, the first position of difference
-pub record Loses (plate : Plate) (samples : List ℤ) (a : Answer) (w p : ℕ) : Type 0 where
-  pub codeword : IsSum (rowsOf plate) w
+pub record LosesIn (C : ℕ → Type 0) (samples : List ℤ) (a : Answer) (w p : ℕ) : Type 0 where
+  pub codeword : C w
   pub tie : metricOf samples w ≡ a .metric
   pub loses : Earlier (a .word) w
   pub at : p ≡ loses .place
@@ -51,17 +50,33 @@ pub record Loses (plate : Plate) (samples : List ℤ) (a : Answer) (w p : ℕ) :
 -- ---- the reply
 
 -- what each reason says of a word, where a is the answer of decoding
-abbrev pub Explains : Plate → List ℤ → Answer → ℕ → Reason → Type 0
-Explains plate samples a w Chosen = w ≡ a .word
-Explains plate samples a w (NoCodeword p) = NoCodewordAt plate w p
-Explains plate samples a w (ScoresLess difference) = Less plate samples a w difference
-Explains plate samples a w (TiesAndLoses p) = Loses plate samples a w p
+abbrev pub ExplainsIn : (ℕ → Type 0) → ℕ → List ℤ → Answer → ℕ → Reason → Type 0
+ExplainsIn C n samples a w Chosen = w ≡ a .word
+ExplainsIn C n samples a w (NoCodeword p) = NoCodewordIn C n w p
+ExplainsIn C n samples a w (ScoresLess difference) = LessIn C samples a w difference
+ExplainsIn C n samples a w (TiesAndLoses p) = LosesIn C samples a w p
 
 -- the reason holds against the answer of decoding
-pub record Reasoned (plate : Plate) (samples : List ℤ) (w : ℕ) (reason : Reason) : Type 0 where
+pub record ReasonedIn (C : ℕ → Type 0) (plate : Plate) (samples : List ℤ) (w : ℕ) (reason : Reason) : Type 0 where
   pub answer : Answer
-  pub best : Best plate samples answer
-  pub explains : Explains plate samples answer w reason
+  pub best : BestIn C plate samples answer
+  pub explains : ExplainsIn C (plate .n) samples answer w reason
+
+-- the same of the words of a plate
+abbrev pub NoCodewordAt : Plate → ℕ → ℕ → Type 0
+NoCodewordAt plate w p = NoCodewordIn (IsWord plate) (plate .n) w p
+
+abbrev pub Less : Plate → List ℤ → Answer → ℕ → ℤ → Type 0
+Less plate samples a w difference = LessIn (IsWord plate) samples a w difference
+
+abbrev pub Loses : Plate → List ℤ → Answer → ℕ → ℕ → Type 0
+Loses plate samples a w p = LosesIn (IsWord plate) samples a w p
+
+abbrev pub Explains : Plate → List ℤ → Answer → ℕ → Reason → Type 0
+Explains plate samples a w reason = ExplainsIn (IsWord plate) (plate .n) samples a w reason
+
+abbrev pub Reasoned : Plate → List ℤ → ℕ → Reason → Type 0
+Reasoned plate samples w reason = ReasonedIn (IsWord plate) plate samples w reason
 
 -- What the call replies: the first refusal of the word call in order, 5 to 9, with both rooms unchanged, or the reason with the needed
 -- room zeroed, as decoding leaves it

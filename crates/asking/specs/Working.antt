@@ -1,30 +1,15 @@
--- What the steps of the call ask and give: rows taken off a word, its metric, and the answer that it is held against.
+-- What the steps of the call ask and give: where a word stops, its metric, and the answer that it is held against.
 use Prim.Native.Nat.{ℕ, _*_, _<_, _≤_, min}
-use lib.Bits.{bitXor}
 use lib.IntN.{ℤ, pos, natAbs}
 use lib.ListN.{length, getD}
 use mathlib.Core.List.{List}
 use mathlib.Core.Path.{_≡_}
 use Rattle.words.specs.Span.{First}
-use Rattle.words.specs.Sum.{taken}
-use Rattle.words.specs.Word.{bit}
 use Rattle.plates.specs.declared.Plate.{Plate}
 use Rattle.plates.specs.Prepare.{IsPrepared}
-use Rattle.coding.specs.TakingOff.{Read}
 use Rattle.decoding.specs.declared.Answer.{Answer}
 use Rattle.decoding.specs.Decode.{Best}
 use Rattle.decoding.specs.Metric.{limit}
-
--- one row is taken off where the rest has a one at the row's head
-pub record Without (rest row r : ℕ) : Type 0 where
-  pub digit : ℕ
-  pub at-head : (p : ℕ) → First row p → digit ≡ bit rest p
-  pub is : r ≡ bitXor (taken digit row) rest
-
--- the rest of a word once the rows before j are taken off it, as reading back takes them off
-pub record Left (rows : List ℕ) (k word j rest : ℕ) : Type 0 where
-  pub information : ℕ
-  pub read : Read rows k word j (record { information = information; rest = rest })
 
 -- the first one of a rest that has one, and n where that is n or beyond
 pub record FirstStop (rest n r : ℕ) : Type 0 where

@@ -1,14 +1,16 @@
 // Why not this word: what decoding says of a word that is named.
 use decoding::Answer;
 use decoding::Decoded;
+use decoding::cosets::rest_of;
 use plates::Plate;
 use plates::Refusal;
 ghost use lib.IntN.{_+ℤ_};
+ghost use lib.ListN.{length, take};
 ghost use mathlib.Core.Path.{_≡_};
-ghost use Prim.Native.Nat.{_<_};
+ghost use Prim.Native.Nat.{_≤_};
 ghost use Rattle.asking.specs.Asking.{Asks, Explains};
-ghost use Rattle.asking.specs.Working.{AddingFits, Asked, FirstStop, Left, Sampled, Without};
-ghost use Rattle.coding.specs.TakingOff.{Headed};
+ghost use Rattle.asking.specs.Working.{AddingFits, Asked, FirstStop, Sampled};
+ghost use Rattle.decoding.specs.Cosets.{takenOff};
 ghost use Rattle.decoding.specs.Metric.{metricOf};
 ghost use Rattle.decoding.specs.Taking.{signed};
 
@@ -26,28 +28,12 @@ pub enum Verdict {
     Refused(Refusal),
 }
 
-// The rest without a row, where the rest has a one at the row's head.
-fn without(rest: u64, row: u64) -> u64
-    ensures { λ r. ⌜ Without rest row r ⌝ }
+// What is left of a word once the first k rows are taken off it by their heads.
+fn left_of(rows: &[u64], k: usize, word: u64) -> u64
+    requires { ⌜ k ≤ length (now rows) ⌝ }
+    ensures { λ r. ⌜ r ≡ takenOff (take k (now (rows .entry))) word ⌝ }
 {
-    if words::bit_at(rest, words::first_one(row)) == 0 {
-        return rest;
-    }
-    row ^ rest
-}
-
-// What is left of a word once the first k rows are taken off it by their heads, from the first row to the last.
-fn rest_of(rows: &[u64; 64], k: usize, word: u64) -> u64
-    requires { ⌜ Headed (now rows) k ⌝ }
-    ensures { λ r. ⌜ Left (now (rows .entry)) k word k r ⌝ }
-{
-    let mut rest = word;
-    let mut j = 0;
-    while j < k {
-        rest = without(rest, rows[j]);
-        j += 1;
-    }
-    rest
+    rest_of(&rows[..k], word)
 }
 
 // The first one of a rest, and n where that is n or beyond.
@@ -95,7 +81,7 @@ fn reason_for(plate: Plate, samples: &[i16], word: u64, answer: Answer) -> Reaso
     if word == answer.word {
         return Reason::Chosen;
     }
-    let rest = rest_of(&plate.rows, plate.k, word);
+    let rest = left_of(&plate.rows, plate.k, word ^ plate.mask);
     if rest != 0 {
         return Reason::NoCodeword(stop_of(rest, plate.n));
     }

@@ -5,11 +5,11 @@ use mathlib.Core.Bool.{Bool, false}
 use mathlib.Core.Logic.{inl, inr, _⊎_}
 use mathlib.Core.Path.{ap, refl, subst, sym, _∙_, _≡_}
 use native.Mathlib.Omega.{arith}
-use Prim.Native.Nat.{_<_, ℕ}
+use Prim.Native.Nat.{_<_, _^_, ℕ}
+use Rattle.coding.proofs.PlateWords.{makes-word}
+use Rattle.coding.specs.declared.Encoded.the-variants as E
 use Rattle.coding.specs.declared.ReadBack.the-variants as R
-use Rattle.coding.specs.Coding.{ReadsBack}
-use Rattle.coding.specs.declared.Encoded.the-variants.{Refused}
-use Rattle.coding.specs.declared.ReadBack.the-variants.{Information}
+use Rattle.coding.specs.Coding.{Encodes, ReadsBack}
 use Rattle.coding.specs.declared.Reading.{Reading}
 use Rattle.coding.specs.TakingOff.{Headed, Read}
 use Rattle.plates.proofs.SoundIsPrepared.{sound, used-row, used-rows}
@@ -49,10 +49,11 @@ module _ {plate : Plate} (given : IsPrepared plate) (word : ℕ) (r : Reading) (
 
       left : IsSum (rowsOf plate) (r .rest)
       left =
-          subst (IsSum (rowsOf plate)) (ap (bitXor (sumOf (rowsOf plate) (r .information))) (sym (read .together)) ∙ xor-cancel (sumOf (rowsOf plate) (r .information)) (r .rest))
-          (in-xor (record { by = r .information; sum = refl }) g)
+          let sum : ℕ = sumOf (rowsOf plate) (r .information) in
+          subst (IsSum (rowsOf plate)) (ap (bitXor sum) (sym (read .together)) ∙ xor-cancel sum (r .rest)) (in-xor (record { by = r .information; sum = refl }) g)
 
-      go : (Nothing (length (rowsOf plate)) (left .by) × (sumOf (rowsOf plate) (left .by) ≡ 0)) ⊎ Top Before (rowsOf plate) (firsts (rowsOf plate)) (left .by) → ⊥
+      go : (Nothing (length (rowsOf plate)) (left .by) × (sumOf (rowsOf plate) (left .by) ≡ 0)) ⊎ Top Before (rowsOf plate) (firsts (rowsOf plate)) (left .by)
+          → ⊥
       go (inl z) = n (sym (left .sum) ∙ z .1)
       go (inr t) =
           let k : t .0 < plate .k = omega (arith, t .1, used-rows plate (s .few) (s .table)) in
@@ -62,12 +63,25 @@ module _ {plate : Plate} (given : IsPrepared plate) (word : ℕ) (r : Reading) (
   pub read-codeword : r .rest ≡ 0 → sumOf (rowsOf plate) (r .information) ≡ word
   read-codeword e = sym (xor-zero-r (sumOf (rowsOf plate) (r .information))) ∙ ap (bitXor (sumOf (rowsOf plate) (r .information))) (sym e) ∙ read .together
 
+-- the rows are taken off the word plus mask
+module _ {plate : Plate} (given : IsPrepared plate) (word : ℕ) (r : Reading)
+    (read : Read (plate .rows) (plate .k) (bitXor word (plate .mask)) (plate .k) r) where
   pub read-information : r .rest ≡ 0 → ReadsBack plate word (R.Information (r .information))
   read-information e =
-      (((λ q b. b .0 given), ((λ q b. b .0 (record { by = r .information; sum = read-codeword e })), tt)), read .short, read-codeword e)
+      let codeword = read-codeword given (bitXor word (plate .mask)) r read e in (
+        ((λ q b. b .0 given), ((λ q b. b .0 (record { by = r .information; sum = codeword })), tt)),
+        read .short,
+        makes-word plate (r .information) word codeword,
+      )
 
   pub read-refused : (r .rest ≡ 0 → ⊥) → ReadsBack plate word (R.Refused NoCodeword)
-  read-refused n = inr ((λ q b. b .0 given), inl (read-no-codeword n, refl))
+  read-refused n = inr ((λ q b. b .0 given), inl (read-no-codeword given (bitXor word (plate .mask)) r read n, refl))
+
+-- the mask is added to the sum of the rows
+pub encoded-word : {plate : Plate} {information sum : ℕ} → IsPrepared plate → information < 2 ^ plate .k → sum ≡ sumOf (rowsOf plate) information
+    → Encodes plate information (E.Word (bitXor sum (plate .mask)))
+encoded-word {plate} given short e =
+    (((λ q b. b .0 given), ((λ q b. omega (arith, b .0, short)), tt)), ap (λ (x : ℕ). bitXor x (plate .mask)) e)
 
 -- the plate is refused where its test says no
 pub test-refuses : {plate : Plate} {p : Bool} → Tests plate p → p ≡ false → notPrepared plate NotPrepared

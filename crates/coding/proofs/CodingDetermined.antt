@@ -3,9 +3,10 @@ use lib.ListN.{length}
 use mathlib.Core.Path.{ap, refl, subst, sym, _∙_, _≡_}
 use native.Mathlib.Decide.{ℕ-discrete}
 use Prim.Native.Nat.{_<_, _^_, ℕ}
+use Rattle.coding.proofs.PlateWords.{same-codeword}
 use Rattle.coding.specs.declared.Encoded.the-variants as E
 use Rattle.coding.specs.declared.ReadBack.the-variants as R
-use Rattle.coding.specs.Coding.{Encodes, ReadsBack, encodeConditions, readConditions}
+use Rattle.coding.specs.Coding.{Encodes, ReadsBack, encodeConditions, readConditions, wordOf}
 use Rattle.coding.specs.declared.Encoded.{Encoded}
 use Rattle.coding.specs.declared.ReadBack.{ReadBack}
 use Rattle.plates.proofs.Refusing.{Single, never-both, refuses-once}
@@ -16,13 +17,13 @@ use Rattle.plates.specs.Prepare.{IsPrepared, rowsOf}
 use Rattle.plates.specs.Refusals.{Passes}
 use Rattle.plates.specs.Sound.{Sound}
 use Rattle.words.proofs.Span.{encode-injective}
-use Rattle.words.specs.Sum.{sumOf}
 
--- different information below 2 ^ k has different codewords
-pub information-same : (plate : Plate) → Sound plate → (u v : ℕ) → u < 2 ^ plate .k → v < 2 ^ plate .k → sumOf (rowsOf plate) u ≡ sumOf (rowsOf plate) v → u ≡ v
+-- different information below 2 ^ k makes different words
+pub information-same : (plate : Plate) → Sound plate → (u v : ℕ) → u < 2 ^ plate .k → v < 2 ^ plate .k → wordOf plate u ≡ wordOf plate v → u ≡ v
 information-same plate s u v hu hv e =
     let size : length (rowsOf plate) ≡ plate .k = used-rows plate (s .few) (s .table) in
-    encode-injective (rowsOf plate) _ _ (s .reduced .spans) u v (subst (λ (x : ℕ). u < 2 ^ x) (sym size) hu) (subst (λ (x : ℕ). v < 2 ^ x) (sym size) hv) e
+    encode-injective (rowsOf plate) _ _ (s .reduced .spans) u v (subst (λ (x : ℕ). u < 2 ^ x) (sym size) hu) (subst (λ (x : ℕ). v < 2 ^ x) (sym size) hv)
+    (same-codeword plate u v e)
 
 module _ (plate : Plate) (information : ℕ) where
   encode-single : Single (encodeConditions plate information)

@@ -1,4 +1,4 @@
-// Encoding information to a codeword, and reading a codeword back.
+// Encoding information to a word of a plate, and reading a word of a plate back.
 use plates::Plate;
 use plates::Refusal;
 ghost use lib.Bits.{bitXor};
@@ -9,13 +9,13 @@ ghost use Rattle.coding.specs.Coding.{Encodes, ReadsBack};
 ghost use Rattle.coding.specs.TakingOff.{Headed, Read, ReadOn, Reaches};
 ghost use Rattle.words.specs.Sum.{sumOf, taken};
 
-// The codeword of an information word, or why there is none.
+// The word of the plate that information makes, or why there is none.
 pub enum Encoded {
     Word(u64),
     Refused(Refusal),
 }
 
-// The information word of a codeword, or why there is none.
+// The information that makes a word of the plate, or why there is none.
 pub enum ReadBack {
     Information(u64),
     Refused(Refusal),
@@ -93,7 +93,7 @@ fn reaches(word: u64, k: usize) -> bool
     false
 }
 
-// Encodes information: bit j takes row j.
+// Encodes information: bit j takes row j, and the mask is added.
 pub fn encode(plate: Plate, information: u64) -> Encoded
     ensures { λ r. ⌜ Encodes plate information r ⌝ }
 {
@@ -104,17 +104,17 @@ pub fn encode(plate: Plate, information: u64) -> Encoded
     if reaches(information, k) {
         return Encoded::Refused(Refusal::Information);
     }
-    Encoded::Word(sum_rows(&plate.rows, k, information))
+    Encoded::Word(sum_rows(&plate.rows, k, information) ^ plate.mask)
 }
 
-// Reads a codeword back: the information that encodes to it.
+// Reads a word of the plate back: the information that encodes to it.
 pub fn read_back(plate: Plate, word: u64) -> ReadBack
     ensures { λ r. ⌜ ReadsBack plate word r ⌝ }
 {
     if !plates::is_prepared(plate) {
         return ReadBack::Refused(Refusal::NotPrepared);
     }
-    let reading = take_rows(&plate.rows, plate.k, word);
+    let reading = take_rows(&plate.rows, plate.k, word ^ plate.mask);
     if reading.rest != 0 {
         return ReadBack::Refused(Refusal::NoCodeword);
     }

@@ -1,4 +1,5 @@
 -- The replies of `best_metric` and `best_word`, case by case.
+use lib.Bits.{bitXor}
 use lib.IntN.{natAbs, pos, ℤ}
 use lib.ListN.{drop, getD, length, replicate}
 use lib.Signed.{_≤ℤ_}
@@ -8,6 +9,7 @@ use mathlib.Core.Path.{refl, subst, sym, _∙_, _≡_}
 use native.Mathlib.Omega.{arith}
 use Prim.Native.Nat.{_<_, ℕ, _≤_}
 use Rattle.decoding.proofs.BestWord.{best-word}
+use Rattle.decoding.proofs.MaskedWords.{restOf}
 use Rattle.decoding.proofs.PlateSizes.{plateSizes}
 use Rattle.decoding.proofs.SampleLimits.{within-passes}
 use Rattle.decoding.proofs.ZeroedRooms.{metrics-zeroed}
@@ -20,6 +22,7 @@ use Rattle.decoding.specs.Decode.{Best, Decodes, SampleOver, metricNeed}
 use Rattle.decoding.specs.Metric.{limit, metricOf}
 use Rattle.decoding.specs.Searching.{FirstOver, MetricSearched}
 use Rattle.decoding.specs.Sweeping.{RoomsFit, undecided}
+use Rattle.decoding.specs.Turning.{turnedBy}
 use Rattle.plates.specs.declared.Plate.{Plate}
 use Rattle.plates.specs.declared.Refusal.{Refusal}
 use Rattle.plates.specs.declared.Refusal.the-variants.{MetricRoom, NotPrepared, SampleCount, SampleRange}
@@ -74,13 +77,24 @@ module _ (plate : Plate) (samples metrics : List ℤ) where
             where
               -- the word that decoding finds has this metric
               answer : Answer
-              answer = record { word = wordFrom (sectionOf (rowsOf plate)) samples 0 0; metric = m .metric; counts = m .counts }
+              answer = record {
+                word = bitXor (wordFrom (sectionOf (rowsOf plate)) (turnedBy (restOf plate) samples) 0 0) (restOf plate);
+                metric = m .metric;
+                counts = m .counts;
+              }
 
               its-best : Best plate samples answer
               its-best = best-word plate given samples size answer refl (f .metric) (f .counts)
 
               best-metric : BestMetric plate samples m
-              best-metric = record { word = answer .word; codeword = its-best .codeword; metric = its-best .metric; greatest = its-best .greatest; counts = its-best .counts }
+              best-metric = record {
+                word = answer .word;
+                codeword = its-best .codeword;
+                metric = its-best .metric;
+                greatest = its-best .greatest;
+                additions = its-best .additions;
+                comparisons = its-best .comparisons;
+              }
 
 -- ---- the word
 
@@ -91,7 +105,8 @@ module _ (plate : Plate) (samples metrics : List ℤ) (decisions : List ℕ) whe
     codeword = b .codeword;
     greatest = λ w h. subst (λ (z : ℤ). metricOf samples w ≤ℤ z) (b .metric) (b .greatest w h);
     earliest = λ w h e. b .earliest w h (e ∙ sym (b .metric));
-    counts = b .counts;
+    additions = b .additions;
+    comparisons = b .comparisons;
   }
 
   module _ (metrics′ : List ℤ) (decisions′ : List ℕ) (r : Decoded) (d : Decodes plate samples metrics decisions metrics′ decisions′ r) where

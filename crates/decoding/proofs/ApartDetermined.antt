@@ -4,7 +4,7 @@ use lib.Signed.{_≤ℤ_}
 use mathlib.Core.List.{List, []}
 use mathlib.Core.Path.{ap, ap₂, refl, subst, sym, _∙_, _≡_}
 use Prim.Native.Nat.{ℕ}
-use Rattle.decoding.proofs.DecodeDetermined.{answer-same, sample-once, single}
+use Rattle.decoding.proofs.DecodeDetermined.{answer-same, counts-same, sample-once, single}
 use Rattle.decoding.proofs.IntegerOrder.{≤ℤ-antisym}
 use Rattle.decoding.specs.Apart.{BestMetric, BestSelection, Chooses, Measures, metricConditions}
 use Rattle.decoding.specs.declared.Answer.{Answer}
@@ -32,7 +32,7 @@ module _ (plate : Plate) (samples metrics : List ℤ) where
       ap₂ (λ (z : ℤ) (k : Counts). record { metric = z; counts = k })
       (≤ℤ-antisym (subst (λ (z : ℤ). z ≤ℤ n .metric) (sym (x .metric)) (y .greatest (x .word) (x .codeword)))
       (subst (λ (z : ℤ). z ≤ℤ m .metric) (sym (y .metric)) (x .greatest (y .word) (y .codeword))))
-      (x .counts ∙ sym (y .counts))
+      (counts-same (x .additions ∙ sym (y .additions)) (x .comparisons ∙ sym (y .comparisons)))
 
   pub metric-determined : (r s : Measured) (m n : List ℤ) → Measures plate samples metrics m r → Measures plate samples metrics n s → (r ≡ s) × (m ≡ n)
   metric-determined (M.Found a) (M.Found b) m n x y = (ap M.Found (measure-same a b (x .1) (y .1)), x .2 ∙ sym (y .2))
@@ -48,7 +48,7 @@ abbrev pub answerOf : List ℤ → Selection → Answer
 answerOf samples c = record { word = c .word; metric = metricOf samples (c .word); counts = c .counts }
 
 pub answer-best : (plate : Plate) (samples : List ℤ) (c : Selection) → BestSelection plate samples c → Best plate samples (answerOf samples c)
-answer-best plate samples c b = record { codeword = b .codeword; metric = refl; greatest = b .greatest; earliest = b .earliest; counts = b .counts }
+answer-best plate samples c b = record { codeword = b .codeword; metric = refl; greatest = b .greatest; earliest = b .earliest; additions = b .additions; comparisons = b .comparisons }
 
 module _ (plate : Plate) (samples metrics : List ℤ) (decisions : List ℕ) where
   selection-same : (c d : Selection) → BestSelection plate samples c → BestSelection plate samples d → c ≡ d

@@ -7,7 +7,7 @@ use mathlib.Core.Logic.{inl, inr, _⊎_}
 use mathlib.Core.Path.{ap, subst, sym, _∙_, _≡_}
 use Prim.Native.Nat.{_<_, ℕ}
 use Rattle.decoding.proofs.ApartDetermined.{answer-best, answerOf}
-use Rattle.decoding.proofs.DecodeDetermined.{answer-same}
+use Rattle.decoding.proofs.DecodeDetermined.{answer-same, counts-same}
 use Rattle.decoding.proofs.IntegerOrder.{≤ℤ-antisym}
 use Rattle.decoding.specs.Apart.{BestMetric, Chooses, Measures, metricConditions}
 use Rattle.decoding.specs.declared.Answer.{Answer}
@@ -33,7 +33,7 @@ module _ (plate : Plate) (samples : List ℤ) where
     -- the metric and the counts of decode's answer, whatever the rooms of the two calls
     pub metric-agrees : (m : Measure) (a : Answer) → Measures plate samples room room′ (M.Found m) → Decodes plate samples metrics decisions metrics′ decisions′ (D.Found a)
         → (m .metric ≡ a .metric) × (m .counts ≡ a .counts)
-    metric-agrees m a x y = (metric-of-word m a (x .1) (y .1), x .1 .counts ∙ sym (y .1 .counts))
+    metric-agrees m a x y = (metric-of-word m a (x .1) (y .1), counts-same (x .1 .additions ∙ sym (y .1 .additions)) (x .1 .comparisons ∙ sym (y .1 .comparisons)))
 
     -- the two replies make up a reply of decode, with the rooms that the word call leaves; their counts are the same
     pub together : (m : Measure) (c : Selection) → Measures plate samples room room′ (M.Found m) → Chooses plate samples metrics decisions metrics′ decisions′ (C.Found c)
@@ -45,7 +45,7 @@ module _ (plate : Plate) (samples : List ℤ) where
             (sym (metric-of-word m (answerOf samples c) (x .1) (answer-best plate samples c (y .1)))) (answer-best plate samples c (y .1)),
         y .2,
       ),
-      x .1 .counts ∙ sym (y .1 .counts),
+      counts-same (x .1 .additions ∙ sym (y .1 .additions)) (x .1 .comparisons ∙ sym (y .1 .comparisons)),
     )
 
   module _ (metrics : List ℤ) (decisions : List ℕ) where
@@ -55,7 +55,7 @@ module _ (plate : Plate) (samples : List ℤ) where
         → (c .word ≡ a .word) × (c .counts ≡ a .counts)
     word-agrees room room′ metrics′ words words′ decisions′ c a x y =
         let e = answer-same plate samples metrics decisions (answerOf samples c) a (answer-best plate samples c (x .1)) (y .1) in
-        (ap (λ (b : Answer). b .word) e, x .1 .counts ∙ sym (y .1 .counts))
+        (ap (λ (b : Answer). b .word) e, counts-same (x .1 .additions ∙ sym (y .1 .additions)) (x .1 .comparisons ∙ sym (y .1 .comparisons)))
 
     -- what refuses the metric call refuses decode with the same number and place
     pub metric-refusal : (q : Refusal) → Refuses (metricConditions plate samples metrics) q → Refuses (decodeConditions plate samples metrics decisions) q

@@ -21,8 +21,9 @@ use Rattle.plates.proofs.SoundIsPrepared.{sound}
 use Rattle.plates.specs.declared.Plate.{Plate}
 use Rattle.plates.specs.Prepare.{IsPrepared, rowsOf}
 use Rattle.plates.specs.Profile.{liveAt}
-use Rattle.trellises.proofs.PlateTrellis.{branches-doubled, branches-number, branches-single, plate-spans}
+use Rattle.trellises.proofs.PlateTrellis.{branches-doubled, branches-single, plate-spans}
 use Rattle.trellises.proofs.SectionAgrees.{section-agrees}
+use Rattle.trellises.proofs.WordsTrellis.{words-branches}
 use Rattle.trellises.specs.Branching.{trellisOf}
 use Rattle.trellises.specs.declared.Section.{Section}
 use Rattle.trellises.specs.Numbers.{branchCount}
@@ -105,7 +106,7 @@ row-begins (row ∷ rows) t (suc j) h e = rw (row-begins rows t j (omega arith) 
 module _ (plate : Plate) (given : IsPrepared plate) where
   -- a section's numbers are those of the trellis
   section-branches : (t : ℕ) → branchCount (sectionOf (rowsOf plate) t) ≡ length (trellisOf plate .branches t)
-  section-branches t = section-agrees (rowsOf plate) (plate-spans plate given) t .branches ∙ sym (branches-number plate given t)
+  section-branches t = section-agrees (rowsOf plate) (plate-spans plate given) t .branches ∙ sym (words-branches plate given t)
 
   section-states : (t : ℕ) → 2 ^ (sectionOf (rowsOf plate) t) .live ≡ 2 ^ liveAt (rowsOf plate) t
   section-states t = ap (λ (n : ℕ). 2 ^ n) (section-agrees (rowsOf plate) (plate-spans plate given) t .states)
@@ -149,3 +150,9 @@ module _ (plate : Plate) (given : IsPrepared plate) where
     -- and for each state past the start one comparison fewer than the branches entering it
     pub comparisons-are-entering-less-one : (counted (sectionOf (rowsOf plate)) samples 0) .comparisons ≡ enteringLessOne (trellisOf plate) (plate .n)
     comparisons-are-entering-less-one = omega (arith, comparisons-formula, additions-are-branches, plate-entering plate given)
+
+    -- so the counts of a promise that speaks of the trellis are those that the steps make one by one
+    pub counted-by-steps : (k : Counts) → k .additions ≡ branchTotal (trellisOf plate) (plate .n) → k .comparisons ≡ enteringLessOne (trellisOf plate) (plate .n)
+        → k ≡ counted (sectionOf (rowsOf plate)) samples 0
+    counted-by-steps k a c =
+        ap₂ (λ (x y : ℕ). record { additions = x; comparisons = y }) (a ∙ sym additions-are-branches) (c ∙ sym comparisons-are-entering-less-one)

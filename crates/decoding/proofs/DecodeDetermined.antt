@@ -21,6 +21,9 @@ use Rattle.plates.specs.declared.Refusal.the-variants.{SampleRange}
 use Rattle.words.proofs.Span.{lt-tri}
 use Rattle.words.specs.Word.{Earlier}
 
+pub counts-same : {j k : Counts} → j .additions ≡ k .additions → j .comparisons ≡ k .comparisons → j ≡ k
+counts-same {j} {k} a c = ap₂ (λ (x y : ℕ). record { additions = x; comparisons = y }) a c
+
 module _ (plate : Plate) (samples metrics : List ℤ) (decisions : List ℕ) where
   abbrev conditions : List (Refusal → Type 0)
   conditions = decodeConditions plate samples metrics decisions
@@ -56,7 +59,7 @@ module _ (plate : Plate) (samples metrics : List ℤ) (decisions : List ℕ) whe
   answer-same a b x y =
       let e : a .word ≡ b .word = best-word-same a b x y in
       ap₂ (λ (w : ℕ) (m : ℤ). record { word = w; metric = m; counts = a .counts }) e (x .metric ∙ ap (metricOf samples) e ∙ sym (y .metric))
-      ∙ ap (λ (k : Counts). record { word = b .word; metric = b .metric; counts = k }) (x .counts ∙ sym (y .counts))
+      ∙ ap (λ (k : Counts). record { word = b .word; metric = b .metric; counts = k }) (counts-same (x .additions ∙ sym (y .additions)) (x .comparisons ∙ sym (y .comparisons)))
 
   pub decode-determined : (r s : Decoded) (m n : List ℤ) (d e : List ℕ) → Decodes plate samples metrics decisions m d r → Decodes plate samples metrics decisions n e s
       → (r ≡ s) × (m ≡ n) × (d ≡ e)

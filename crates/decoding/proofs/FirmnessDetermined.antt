@@ -8,6 +8,7 @@ use native.Mathlib.Omega.{arith}
 use Prim.Native.Nat.{ℕ}
 use Rattle.decoding.proofs.DecodeDetermined.{sample-once}
 use Rattle.decoding.proofs.IntegerOrder.{≤ℤ-antisym}
+use Rattle.decoding.proofs.MaskedWords.{mask-word}
 use Rattle.decoding.specs.declared.firmness.Flag.{Flag}
 use Rattle.decoding.specs.declared.firmness.Judged.{Judged}
 use Rattle.decoding.specs.declared.firmness.Judged.the-variants.{Found, Refused}
@@ -17,8 +18,7 @@ use Rattle.decoding.specs.Firmness.{Always, BestAmong, FlagOf, Judges, M
 use Rattle.plates.proofs.Refusing.{Single, never-both, refuses-once}
 use Rattle.plates.specs.declared.Plate.{Plate}
 use Rattle.plates.specs.declared.Refusal.{Refusal}
-use Rattle.plates.specs.Prepare.{rowsOf}
-use Rattle.words.proofs.Sums.{in-zero}
+use Rattle.plates.specs.Prepare.{IsWord}
 use Rattle.words.specs.Word.{bit}
 
 -- a reading is told by its values
@@ -29,26 +29,26 @@ reading-told (Open m) (Fixed b) f v = absurd (false≢true f)
 reading-told (Open m) (Open n) f v = ap Open v
 
 module _ (plate : Plate) (samples : List ℤ) (position : ℕ) where
-  -- the best metric among the codewords with a bit is one
-  best-same : (b : ℕ) (m n : ℤ) → BestAmong plate samples position b m → BestAmong plate samples position b n → m ≡ n
+  -- the best metric among the words with a bit is one
+  best-same : (b : ℕ) (m n : ℤ) → BestAmong (IsWord plate) samples position b m → BestAmong (IsWord plate) samples position b n → m ≡ n
   best-same b m n x y =
       ≤ℤ-antisym (subst (λ (z : ℤ). z ≤ℤ n) (x .metric) (y .greatest (x .word) (x .codeword) (x .has))) (subst (λ (z : ℤ). z ≤ℤ m) (y .metric) (x .greatest (y .word) (y .codeword) (y .has)))
 
-  -- where every codeword has one bit, not both bits have codewords
-  pub not-both-readings : (b m : ℤ) → Always plate position b → Margin plate samples position m → ⊥
+  -- where every word has one bit, not both bits have words
+  pub not-both-readings : (b m : ℤ) → Always (IsWord plate) position b → Margin (IsWord plate) samples position m → ⊥
   not-both-readings b m x y =
       let p : pos 0 ≡ pos 1 = ap pos (sym (y .zero-best .has)) ∙ x (y .zero-best .word) (y .zero-best .codeword) ∙ sym (x (y .one-best .word) (y .one-best .codeword)) ∙ ap pos (y .one-best .has) in
       let z : _≡_ {A = ℕ} 0 1 = cc in
       omega arith
 
-  values-same : (f g : Bool) (v u : ℤ) → Means plate samples position f v → Means plate samples position g u → (f ≡ g) × (v ≡ u)
-  values-same true true v u x y = (refl, sym (x 0 (in-zero (rowsOf plate))) ∙ y 0 (in-zero (rowsOf plate)))
+  values-same : (f g : Bool) (v u : ℤ) → Means (IsWord plate) samples position f v → Means (IsWord plate) samples position g u → (f ≡ g) × (v ≡ u)
+  values-same true true v u x y = (refl, sym (x (plate .mask) (mask-word plate)) ∙ y (plate .mask) (mask-word plate))
   values-same true false v u x y = absurd (not-both-readings v u x y)
   values-same false true v u x y = absurd (not-both-readings u v y x)
   values-same false false v u x y =
       (refl, x .is ∙ ap₂ (λ (a b : ℤ). a -ℤ b) (best-same 0 (x .with-zero) (y .with-zero) (x .zero-best) (y .zero-best)) (best-same 1 (x .with-one) (y .with-one) (x .one-best) (y .one-best)) ∙ sym (y .is))
 
-  flag-same : (f g : Flag) → FlagOf plate samples position f → FlagOf plate samples position g → f ≡ g
+  flag-same : (f g : Flag) → FlagOf (IsWord plate) samples position f → FlagOf (IsWord plate) samples position g → f ≡ g
   flag-same f g x y =
       let v = values-same (isFixed (f .reading)) (isFixed (g .reading)) (value (f .reading)) (value (g .reading)) (x .reading) (y .reading) in
       ap₂ (λ (p : ℕ) (r : Reading). record { position = p; reading = r }) (x .position-is ∙ sym (y .position-is)) (reading-told (f .reading) (g .reading) (v .0) (v .1))

@@ -24,6 +24,7 @@ use Rattle.decoding.specs.Firmness.{Always, BestAmong, FlagOf, Judges, M
 use Rattle.decoding.specs.Metric.{limit}
 use Rattle.plates.proofs.SoundIsPrepared.{sound}
 use Rattle.plates.specs.declared.Plate.{Plate}
+use Rattle.plates.specs.Prepare.{IsWord}
 use Rattle.plates.specs.declared.Refusal.the-variants.{NotPrepared, SampleCount}
 use Rattle.words.proofs.Span.{lt-tri}
 use Rattle.words.proofs.Word.{bit-cases}
@@ -44,13 +45,13 @@ difference-above : (a b : ℤ) → b ≤ℤ a → pos 0 ≤ℤ (a -ℤ b)
 difference-above a b h = subst (λ (z : ℤ). z ≤ℤ (a -ℤ b)) (+ℤ-invr b) (add-le (negℤ b) b a h)
 
 module _ (plate : Plate) (samples : List ℤ) (position : ℕ) (a : Answer) (best : Best plate samples a) where
-  -- the decoded word has one bit there, so no codeword with the other beats the best with its own
-  beaten : (b d : ℕ) (m n : ℤ) → BestAmong plate samples position b m → BestAmong plate samples position d n → bit (a .word) position ≡ d → m ≤ℤ n
+  -- the decoded word has one bit there, so no word with the other beats the best with its own
+  beaten : (b d : ℕ) (m n : ℤ) → BestAmong (IsWord plate) samples position b m → BestAmong (IsWord plate) samples position d n → bit (a .word) position ≡ d → m ≤ℤ n
   beaten b d m n x y e =
       ≤ℤ-trans (subst (λ (z : ℤ). z ≤ℤ a .metric) (x .metric) (best .greatest (x .word) (x .codeword)))
       (subst (λ (z : ℤ). z ≤ℤ n) (sym (best .metric)) (y .greatest (a .word) (best .codeword) e))
 
-  module _ (m : ℤ) (o : Margin plate samples position m) where
+  module _ (m : ℤ) (o : Margin (IsWord plate) samples position m) where
     pub positive-zero : pos 0 <ℤ m → bit (a .word) position ≡ 0
     positive-zero h = go (bit-cases (a .word) position)
       where
@@ -67,21 +68,21 @@ module _ (plate : Plate) (samples : List ℤ) (position : ℕ) (a : Answer) (bes
             clashℤ h (subst (λ (z : ℤ). pos 0 ≤ℤ z) (sym (o .is)) (difference-above (o .with-zero) (o .with-one) (beaten 1 0 (o .with-one) (o .with-zero) (o .one-best) (o .zero-best) e)))
         go (inr e) = e
 
-  fixed-bit : (b : ℕ) → Always plate position (pos b) → bit (a .word) position ≡ b
+  fixed-bit : (b : ℕ) → Always (IsWord plate) position (pos b) → bit (a .word) position ≡ b
   fixed-bit b h = let e : pos (bit (a .word) position) ≡ pos b = h (a .word) (best .codeword) in cc
 
   -- the reading agrees with the word that decoding gives
-  pub margin-sign : (flag : Flag) → FlagOf plate samples position flag → Agrees (flag .reading) (bit (a .word) position)
+  pub margin-sign : (flag : Flag) → FlagOf (IsWord plate) samples position flag → Agrees (flag .reading) (bit (a .word) position)
   margin-sign flag f = go (flag .reading) (f .reading)
     where
-      go : (r : Reading) → Means plate samples position (isFixed r) (value r) → Agrees r (bit (a .word) position)
+      go : (r : Reading) → Means (IsWord plate) samples position (isFixed r) (value r) → Agrees r (bit (a .word) position)
       go (Fixed b) h = fixed-bit b h
       go (Open m) o = (positive-zero m o, negative-one m o)
 
 -- ---- the size
 
 -- a margin of samples that are within the limit
-pub margin-size : (plate : Plate) (samples : List ℤ) (position : ℕ) (m : ℤ) → Within limit samples → Margin plate samples position m → natAbs m ≤ 2 * (limit * length samples)
+pub margin-size : (plate : Plate) (samples : List ℤ) (position : ℕ) (m : ℤ) → Within limit samples → Margin (IsWord plate) samples position m → natAbs m ≤ 2 * (limit * length samples)
 margin-size plate samples position m h o =
     omega (
       arith,
@@ -105,7 +106,7 @@ margin-limit-is = refl
 pub margin-bounds : (plate : Plate) (samples : List ℤ) (position : ℕ) (metrics : List ℤ) (decisions : List ℕ) (metrics′ : List ℤ) (decisions′ : List ℕ) (flag : Flag)
     → Judges plate samples position metrics decisions metrics′ decisions′ (Found flag) → isFixed (flag .reading) ≡ false → natAbs (value (flag .reading)) ≤ marginLimit
 margin-bounds plate samples position metrics decisions metrics′ decisions′ flag j e =
-    omega (arith, margin-size plate samples position (value (flag .reading)) (none-over samples (j .0 .1 .1 .0)) (subst (λ (f : Bool). Means plate samples position f (value (flag .reading))) e (j .1 .reading)), mul-le-mul-left limit few)
+    omega (arith, margin-size plate samples position (value (flag .reading)) (none-over samples (j .0 .1 .1 .0)) (subst (λ (f : Bool). Means (IsWord plate) samples position f (value (flag .reading))) e (j .1 .reading)), mul-le-mul-left limit few)
   where
     short : Dec (plate .n ≤ 64) → plate .n ≤ 64
     short (yes h) = h

@@ -1,4 +1,5 @@
--- A forced position: what it adds to a word's metric, and that the best codeword has the bit to which it is forced.
+-- A forced position: what it adds to a word's metric, and that the best word has the bit to which it is forced.
+use lib.Bits.{bitXor}
 use lib.IntN.{_+ℤ_, _-ℤ_, +ℤ-assoc, +ℤ-comm, +ℤ-idl, +ℤ-negℤ-cancel, natAbs, negℤ, negℤ-negℤ, pos, ℤ}
 use lib.ListN.{getD, length, length-set, set}
 use lib.Seq.{getD-set-other, getD-set-same, set-getD}
@@ -11,7 +12,9 @@ use native.Mathlib.Omega.{arith}
 use Prim.Native.Nat.{_%_, _/_, _<_, suc, zero, ℕ, _≤_}
 use Rattle.decoding.proofs.BestWord.{best-word}
 use Rattle.decoding.proofs.IntegerOrder.{add-le, cancel-le, far-apart}
+use Rattle.decoding.proofs.MaskedWords.{restOf}
 use Rattle.decoding.proofs.MetricBounds.{Within, metric-within}
+use Rattle.decoding.proofs.TurnedSamples.{signed-zero}
 use Rattle.decoding.specs.Backward.{best, counted, wordFrom}
 use Rattle.decoding.specs.declared.Answer.{Answer}
 use Rattle.decoding.specs.Decode.{Best}
@@ -19,20 +22,16 @@ use Rattle.decoding.specs.Firmness.{BestAmong}
 use Rattle.decoding.specs.Forcing.{bestWith, forcing}
 use Rattle.decoding.specs.Metric.{limit, metricOf}
 use Rattle.decoding.specs.Taking.{signed}
+use Rattle.decoding.specs.Turning.{turnedBy}
 use Rattle.plates.proofs.SoundIsPrepared.{sound}
 use Rattle.plates.specs.declared.Plate.{Plate}
-use Rattle.plates.specs.Prepare.{IsPrepared, rowsOf}
+use Rattle.plates.specs.Prepare.{IsPrepared, IsWord, rowsOf}
 use Rattle.trellises.specs.SectionOf.{sectionOf}
 use Rattle.words.proofs.Span.{lt-tri}
 use Rattle.words.proofs.Word.{bit-lt}
-use Rattle.words.specs.Sum.{IsSum}
 use Rattle.words.specs.Word.{bit}
 
 -- ---- what a position adds
-
-signed-zero : (d : ℕ) → signed d (pos 0) ≡ pos 0
-signed-zero zero = refl
-signed-zero (suc d) = refl
 
 -- the metric of the other positions, and what the position adds
 pub metric-set : (ys : List ℤ) (p : ℕ) (g : ℤ) (w : ℕ) → p < length ys → metricOf (set ys p g) w ≡ metricOf (set ys p (pos 0)) w +ℤ signed (bit w p) g
@@ -72,7 +71,7 @@ within-set most ys p g h k i l = go (lt-tri i p)
         (subst (λ (x : ℤ). natAbs x ≤ most) (sym (getD-set-same ys p g (pos 0) (omega (arith, e, short)))) k)
     go (inr (inr q)) = other (λ e. omega arith)
 
--- ---- the best codeword where a position is forced to bit b
+-- ---- the best word where a position is forced to bit b
 
 module _ (plate : Plate) (given : IsPrepared plate) (ys : List ℤ) (size : length ys ≡ plate .n) (within : Within limit ys) (p : ℕ) (there : p < plate .n)
     (b : ℕ) (two : b < 2) where
@@ -91,7 +90,11 @@ module _ (plate : Plate) (given : IsPrepared plate) (ys : List ℤ) (size : leng
       omega (arith, metric-within limit (set ys p (pos 0)) (within-set limit ys p (pos 0) within (omega arith)) w, length-set ys p (pos 0), size, sound given .short)
 
   abbrev answer : Answer
-  answer = record { word = wordFrom (sectionOf (rowsOf plate)) gains 0 0; metric = best (sectionOf (rowsOf plate)) gains 0 0; counts = counted (sectionOf (rowsOf plate)) gains 0 }
+  answer = record {
+    word = bitXor (wordFrom (sectionOf (rowsOf plate)) (turnedBy (restOf plate) gains) 0 0) (restOf plate);
+    metric = best (sectionOf (rowsOf plate)) (turnedBy (restOf plate) gains) 0 0;
+    counts = counted (sectionOf (rowsOf plate)) (turnedBy (restOf plate) gains) 0;
+  }
 
   winner : Best plate (set ys p (signed b (pos forcing))) answer
   winner = best-word plate given gains (length-set ys p (signed b (pos forcing)) ∙ size) answer refl refl refl
@@ -112,8 +115,8 @@ module _ (plate : Plate) (given : IsPrepared plate) (ys : List ℤ) (size : leng
       ap (λ (zs : List ℤ). metricOf zs w) (sym (set-getD ys p (pos 0))) ∙ metric-set ys p (getD ys p (pos 0)) w inside
       ∙ ap (λ (d : ℕ). others w +ℤ signed d (getD ys p (pos 0))) e
 
-  -- where some codeword has the bit, the best has it
-  module _ (v : ℕ) (v-in : IsSum (rowsOf plate) v) (v-has : bit v p ≡ b) where
+  -- where some word has the bit, the best has it
+  module _ (v : ℕ) (v-in : IsWord plate v) (v-has : bit v p ≡ b) where
     not-other : (bit (answer .word) p ≡ b → ⊥) → ⊥
     not-other n =
         far-apart (others v) (others (answer .word)) forcing (others-small v) (others-small (answer .word))
@@ -131,17 +134,17 @@ module _ (plate : Plate) (given : IsPrepared plate) (ys : List ℤ) (size : leng
     top : answer .metric ≡ others (answer .word) +ℤ pos forcing
     top = winner .metric ∙ forced-with (answer .word) won
 
-    reached : bestWith (sectionOf (rowsOf plate)) ys p b ≡ others (answer .word) +ℤ signed b (getD ys p (pos 0))
+    reached : bestWith (sectionOf (rowsOf plate)) (restOf plate) ys p b ≡ others (answer .word) +ℤ signed b (getD ys p (pos 0))
     reached = ap (λ (z : ℤ). z +ℤ signed b (getD ys p (pos 0))) (ap (λ (z : ℤ). z -ℤ pos forcing) top ∙ +ℤ-negℤ-cancel (others (answer .word)) (pos forcing))
 
-    pub best-among : BestAmong plate ys p b (bestWith (sectionOf (rowsOf plate)) ys p b)
+    pub best-among : BestAmong (IsWord plate) ys p b (bestWith (sectionOf (rowsOf plate)) (restOf plate) ys p b)
     best-among = record {
       word = answer .word;
       codeword = winner .codeword;
       has = won;
       metric = own (answer .word) won ∙ sym reached;
       greatest = λ w g e.
-          subst (λ (x : ℤ). x ≤ℤ bestWith (sectionOf (rowsOf plate)) ys p b) (sym (own w e))
+          subst (λ (x : ℤ). x ≤ℤ bestWith (sectionOf (rowsOf plate)) (restOf plate) ys p b) (sym (own w e))
           (subst (λ (x : ℤ). (others w +ℤ signed b (getD ys p (pos 0))) ≤ℤ x) (sym reached)
           (add-le (signed b (getD ys p (pos 0))) (others w) (others (answer .word))
           (cancel-le (pos forcing) (others w) (others (answer .word)) (subst (λ (x : ℤ). x ≤ℤ (others (answer .word) +ℤ pos forcing)) (forced-with w e) (subst (λ (x : ℤ). metricOf gains w ≤ℤ x) top (winner .greatest w g))))));

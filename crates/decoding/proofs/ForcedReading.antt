@@ -1,7 +1,7 @@
 -- The reading of a position from the rows and from both forced metrics, whose difference the machine has.
 use lib.IntN.{_-ℤ_, natAbs, ℤ}
 use mathlib.Core.List.{List}
-use mathlib.Core.Path.{ap, ap₂, refl, _∙_, _≡_}
+use mathlib.Core.Path.{ap, ap₂, _∙_, _≡_}
 use mir.Syntax.{w32}
 use mir.Val.{SFits, ofZ, toZ}
 use native.Mathlib.Omega.{arith}
@@ -11,6 +11,7 @@ use Rattle.decoding.proofs.SweepEnds.{kept-refl, kept-trans}
 use Rattle.decoding.specs.declared.firmness.Reading.the-variants.{Fixed, Open}
 use Rattle.decoding.specs.declared.sweep.Sizes.{Sizes}
 use Rattle.decoding.specs.Forcing.{BestForced, FirstWith, ReadAt}
+use Rattle.words.specs.Word.{bit}
 
 -- the machine's difference of two metrics that are small
 module _ (m n : ℤ) (m-small : natAbs m ≤ 2 ^ 28) (n-small : natAbs n ≤ 2 ^ 28) where
@@ -22,8 +23,8 @@ module _ (m n : ℤ) (m-small : natAbs m ≤ 2 ^ 28) (n-small : natAbs n ≤ 2 ^
 
 module _ (table : List ℕ) (z : Sizes) (samples metrics : List ℤ) (decisions : List ℕ) (p row : ℕ)
     (found : FirstWith table (z .k) p row) where
-  pub fixed-read : z .k ≤ row → ReadAt table z samples p metrics decisions metrics decisions (Fixed 0)
-  fixed-read h = record { reads = (refl, λ j l. found .before j (omega arith)); kept = kept-refl z metrics decisions }
+  pub fixed-read : z .k ≤ row → (b : ℕ) → b ≡ bit (z .rest) p → ReadAt table z samples p metrics decisions metrics decisions (Fixed b)
+  fixed-read h b e = record { reads = (e, λ j l. found .before j (omega arith)); kept = kept-refl z metrics decisions }
 
   module _ (left : row < z .k) (metrics′ metrics″ : List ℤ) (decisions′ decisions″ : List ℕ) (m n : ℤ)
       (zero-forced : BestForced table z samples p 0 metrics decisions metrics′ decisions′ m)

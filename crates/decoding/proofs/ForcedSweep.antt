@@ -12,7 +12,7 @@ use Rattle.decoding.proofs.ForcedMetrics.{within-set}
 use Rattle.decoding.proofs.Integers.{abs-add, abs-neg, back, difference-fits, difference-is, sum-fits, sum-is}
 use Rattle.decoding.proofs.MetricBounds.{best-within, signed-size}
 use Rattle.decoding.proofs.Preference.{sign-copy}
-use Rattle.decoding.proofs.SearchEnds.{from-small, metric-is, metric-there}
+use Rattle.decoding.proofs.SearchEnds.{from-small, metric-is, metric-there, rooms-turned}
 use Rattle.decoding.specs.Backward.{best}
 use Rattle.decoding.specs.declared.sweep.Sizes.{Sizes}
 use Rattle.decoding.specs.declared.sweep.Standing.{Standing}
@@ -21,6 +21,7 @@ use Rattle.decoding.specs.LiveRows.{EndsAre}
 use Rattle.decoding.specs.Stepping.{gainLimit}
 use Rattle.decoding.specs.Sweeping.{RoomsFit, SectionSwept, SizesFit}
 use Rattle.decoding.specs.Taking.{signed}
+use Rattle.decoding.specs.Turning.{turnedBy}
 use Rattle.trellises.specs.SectionOf.{sectionOf}
 use Rattle.trellises.specs.States.{table}
 
@@ -44,29 +45,29 @@ module _ (table : List ℕ) (z : Sizes) (samples metrics : List ℤ) (decisions 
 
   -- the forcing gain as the code has it
   module _ (g : ℤ) (gain-is : g ≡ signed b (pos forcing)) where
-    pub rooms-forced : RoomsFit z (set samples p g) metrics decisions
-    rooms-forced = record {
+    pub rooms-forced : RoomsFit z (turnedBy (z .rest) (set samples p g)) metrics decisions
+    rooms-forced = rooms-turned {samples = set samples p g} (z .rest) (record {
       size = length-set samples p g ∙ rooms .size;
       within = within-set gainLimit samples p g (rooms .within) (omega (arith, ap natAbs gain-is, signed-size b (pos forcing)));
       metric-room = rooms .metric-room;
       decision-room = rooms .decision-room;
-    }
+    })
 
     module _ (ends : List ℕ) (ends-are : EndsAre (take (z .k) table) ends) (metrics′ : List ℤ) (decisions′ : List ℕ) (s : Standing)
-        (w : SectionSwept table z (set samples p g) 0 metrics decisions metrics′ decisions′ s) where
-      best-is : getD metrics′ (s .from) (pos 0) ≡ best (sectionOf (take (z .k) table)) (set samples p g) 0 0
-      best-is = metric-is table z (set samples p g) metrics decisions fit rooms-forced ends ends-are metrics′ decisions′ s w
+        (w : SectionSwept table z (turnedBy (z .rest) (set samples p g)) 0 metrics decisions metrics′ decisions′ s) where
+      best-is : getD metrics′ (s .from) (pos 0) ≡ best (sectionOf (take (z .k) table)) (turnedBy (z .rest) (set samples p g)) 0 0
+      best-is = metric-is table z (turnedBy (z .rest) (set samples p g)) metrics decisions fit rooms-forced ends ends-are metrics′ decisions′ s w
 
       pub from-there : s .from < length metrics′
-      from-there = metric-there table z (set samples p g) metrics decisions fit rooms-forced ends ends-are metrics′ decisions′ s w
+      from-there = metric-there table z (turnedBy (z .rest) (set samples p g)) metrics decisions fit rooms-forced ends ends-are metrics′ decisions′ s w
 
       pub from-few : s .from ≤ z .half
-      from-few = from-small table z (set samples p g) metrics decisions fit rooms-forced ends ends-are metrics′ decisions′ s w
+      from-few = from-small table z (turnedBy (z .rest) (set samples p g)) metrics decisions fit rooms-forced ends ends-are metrics′ decisions′ s w
 
       pub best-small : natAbs (getD metrics′ (s .from) (pos 0)) ≤ 2 ^ 26
       best-small =
-          let few : length (set samples p g) ≤ 64 = omega (arith, rooms-forced .size, fit .short) in
-          omega (arith, ap natAbs best-is, best-within (sectionOf (take (z .k) table)) gainLimit (set samples p g) (rooms-forced .within) 0 0, mul-le-mul-left gainLimit few)
+          let few : length (turnedBy (z .rest) (set samples p g)) ≤ 64 = omega (arith, rooms-forced .size, fit .short) in
+          omega (arith, ap natAbs best-is, best-within (sectionOf (take (z .k) table)) gainLimit (turnedBy (z .rest) (set samples p g)) (rooms-forced .within) 0 0, mul-le-mul-left gainLimit few)
 
       -- the machine's difference and sum; o is the position's own part as the code has it
       metric-copy : toZ w32 (ofZ w32 (getD metrics′ (s .from) (pos 0))) ≡ getD metrics′ (s .from) (pos 0)
@@ -94,7 +95,7 @@ module _ (table : List ℕ) (z : Sizes) (samples metrics : List ℤ) (decisions 
           metric =
               total-is
               ∙ ap (λ (x : ℤ). x -ℤ pos forcing +ℤ signed b (getD samples p (pos 0)))
-              (best-is ∙ ap (λ (x : ℤ). best (sectionOf (take (z .k) table)) (set samples p x) 0 0) gain-is);
+              (best-is ∙ ap (λ (x : ℤ). best (sectionOf (take (z .k) table)) (turnedBy (z .rest) (set samples p x)) 0 0) gain-is);
           small = omega (arith, ap natAbs total-is, abs-add (getD metrics′ (s .from) (pos 0) -ℤ pos forcing) (signed b (getD samples p (pos 0))), less-small, own-small);
           kept = w .kept;
         }

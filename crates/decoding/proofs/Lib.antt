@@ -5,8 +5,10 @@ pub mod StateChoice
 pub mod Leaving
 pub mod BestWay
 pub mod PlateWays
-pub mod BestWord
 pub mod MetricBounds
+pub mod RestOfWords
+pub mod TurnedSamples
+pub mod MaskedWords
 pub mod CountSteps
 pub mod SameChoice
 pub mod Parts
@@ -37,7 +39,9 @@ pub mod Filled
 pub mod WidestStates
 pub mod SumsAdded
 pub mod StatesEntered
+pub mod MaskedCounts
 pub mod BranchesCounted
+pub mod BestWord
 pub mod ExampleCounted
 pub mod SampleLimits
 pub mod SearchEnds
@@ -63,3 +67,4 @@ pub mod FirmnessRead
 pub mod FirmnessCalls
 pub mod FirmnessDetermined
 pub mod FirmnessMargin
+pub mod MaskedDecoding

@@ -9,6 +9,7 @@ use native.Mathlib.Omega.{arith}
 use Prim.Native.Nat.{_*_, _-_, _/_, _<_, _^_, max, suc, zero, zero-le, ℕ, _≤_}
 use Rattle.decoding.proofs.BegunRows.{all-begun}
 use Rattle.decoding.proofs.LiveMarks.{in-order, none-live-last}
+use Rattle.decoding.proofs.MaskedWords.{restOf}
 use Rattle.decoding.proofs.PlateRowsOf.{plate-rows-of}
 use Rattle.decoding.proofs.PlateWays.{plate-chain}
 use Rattle.decoding.proofs.WidestStates.{widest-least, widest-most}
@@ -48,17 +49,21 @@ module _ (plate : Plate) (given : IsPrepared plate) where
   pub profile-fits : ProfileFits (plate .profile) (plate .n)
   profile-fits t h = omega (arith, sound given .profile t h, sound given .narrow t h)
 
-  -- the sizes of the plate
-  abbrev pub plateSizes : Sizes
-  plateSizes = record { n = plate .n; k = plate .k; half = 2 ^ widest plate; words = sectionWords plate }
+  pub rows-there : plate .k ≤ length (plate .rows)
+  rows-there = omega (arith, sound given .few, sound given .table)
 
-  entry-widest : widestEntry (plate .profile) (plate .n) ≡ widest plate
+  -- the sizes of the plate, and the rest of its mask
+  abbrev pub plateSizes : Sizes
+  plateSizes = record { n = plate .n; k = plate .k; half = 2 ^ widest plate; words = sectionWords plate; rest = restOf plate }
+
+  pub entry-widest : widestEntry (plate .profile) (plate .n) ≡ widest plate
   entry-widest = widest-same (plate .profile) (rowsOf plate) (plate .n) (sound given .profile)
 
-  pub sizes-are : (z : Sizes) → SizesOf (plate .n) (plate .k) (plate .profile) z → z ≡ plateSizes
+  pub sizes-are : (z : Sizes) → SizesOf (plate .n) (plate .k) (plate .mask) (plate .rows) (plate .profile) z → z ≡ plateSizes
   sizes-are z o =
-      ap₂ (λ (a b : ℕ). record { n = a; k = b; half = z .half; words = z .words }) (o .n-is) (o .k-is)
-      ∙ ap₂ (λ (a b : ℕ). record { n = plate .n; k = plate .k; half = a; words = b })
+      ap₂ (λ (a b : ℕ). record { n = a; k = b; half = z .half; words = z .words; rest = z .rest }) (o .n-is) (o .k-is)
+      ∙ ap (λ (a : ℕ). record { n = plate .n; k = plate .k; half = z .half; words = z .words; rest = a }) (o .rest-is)
+      ∙ ap₂ (λ (a b : ℕ). record { n = plate .n; k = plate .k; half = a; words = b; rest = restOf plate })
       (o .half-is ∙ ap (λ (m : ℕ). 2 ^ m) entry-widest) (o .words-is ∙ ap (λ (m : ℕ). max 1 (2 ^ m / 64)) entry-widest)
 
   widest-small : widest plate ≤ 12

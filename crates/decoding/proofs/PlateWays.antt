@@ -17,7 +17,7 @@ use Rattle.trellises.proofs.PlateTrellis.{plate-path-ends, plate-spans, plate-s
 use Rattle.trellises.proofs.SectionAgrees.{Agrees, chosen, section-agrees}
 use Rattle.trellises.proofs.SectionBranches.{has-number, number-has}
 use Rattle.trellises.proofs.SectionFits.{narrow, begun, column-small, ending-live, narrow}
-use Rattle.trellises.specs.Branching.{trellisOf}
+use Rattle.trellises.specs.Branching.{codeTrellis}
 use Rattle.trellises.specs.declared.Section.{Section}
 use Rattle.trellises.specs.Graph.{Has, Path}
 use Rattle.trellises.specs.Numbers.{leadsTo}
@@ -52,7 +52,7 @@ module _ (plate : Plate) (given : IsPrepared plate) where
 
   -- ---- a path is a way
 
-  path-way : (w : ℕ) → w < 2 ^ plate .n → (p : Path (trellisOf plate) (plate .n) w) (ys : List ℤ) (t : ℕ) → t + length ys ≡ plate .n
+  path-way : (w : ℕ) → w < 2 ^ plate .n → (p : Path (codeTrellis plate) (plate .n) w) (ys : List ℤ) (t : ℕ) → t + length ys ≡ plate .n
       → Way (sectionOf (rowsOf plate)) ys t (p .state t) (w / 2 ^ t)
   path-way w h p [] t e = shr-all (subst (λ (x : ℕ). w < 2 ^ x) (sym (omega arith)) h)
     where
@@ -94,17 +94,17 @@ module _ (plate : Plate) (given : IsPrepared plate) where
       (way-inside ys (suc t) _ (w / 2) (a .4) (omega arith) (plate-chain .leads t (omega arith) (a .0) (a .1)) d (omega arith))
 
   way-branch : (ys : List ℤ) (t i w : ℕ) (a : Way (sectionOf (rowsOf plate)) ys t i w) → t + length ys ≡ plate .n
-      → (d : ℕ) → d < length ys → Has (trellisOf plate) (t + d) (after ys t i w a d) (bit w d) (after ys t i w a (suc d))
+      → (d : ℕ) → d < length ys → Has (codeTrellis plate) (t + d) (after ys t i w a d) (bit w d) (after ys t i w a (suc d))
   unfolding after
   way-branch [] t i w a e d k = absurd (omega arith)
   way-branch (y ∷ ys) t i w a e zero k =
       let z : t ≡ t + 0 = omega arith in
-      subst (λ (x : ℕ). Has (trellisOf plate) x i (w % 2) (after ys (suc t) (leadsTo (sections t) (a .0)) (w / 2) (a .4) 0)) z
+      subst (λ (x : ℕ). Has (codeTrellis plate) x i (w % 2) (after ys (suc t) (leadsTo (sections t) (a .0)) (w / 2) (a .4) 0)) z
       (number-has (rowsOf plate) t (sections t) (agrees t) i (w % 2) _
       (record { number = a .0; below = a .1; leaving = a .2; spells = a .3; leads = sym (after-start ys (suc t) _ (w / 2) (a .4)) }))
   way-branch (y ∷ ys) t i w a e (suc d) k =
       let z : suc t + d ≡ t + suc d = omega arith in
-      subst (λ (x : ℕ). Has (trellisOf plate) x (after ys (suc t) (leadsTo (sections t) (a .0)) (w / 2) (a .4) d) (bit (w / 2) d) (after ys (suc t) (leadsTo (sections t) (a .0)) (w / 2) (a .4) (suc d))) z
+      subst (λ (x : ℕ). Has (codeTrellis plate) x (after ys (suc t) (leadsTo (sections t) (a .0)) (w / 2) (a .4) d) (bit (w / 2) d) (after ys (suc t) (leadsTo (sections t) (a .0)) (w / 2) (a .4) (suc d))) z
       (way-branch ys (suc t) _ (w / 2) (a .4) (omega arith) d (omega arith))
 
   way-below : (ys : List ℤ) (t i w : ℕ) → Way (sectionOf (rowsOf plate)) ys t i w → w < 2 ^ length ys
@@ -134,7 +134,7 @@ module _ (plate : Plate) (given : IsPrepared plate) where
         inside : (t : ℕ) → t ≤ length ys → after ys 0 0 w a t < 2 ^ (sections t) .live
         inside t h = let z : 0 + t ≡ t = omega arith in subst (λ (x : ℕ). after ys 0 0 w a t < 2 ^ (sections x) .live) z (way-inside ys 0 0 w a (omega arith) start-state t h)
 
-        branch : (t : ℕ) → t < length ys → Has (trellisOf plate) t (after ys 0 0 w a t) (bit w t) (after ys 0 0 w a (suc t))
+        branch : (t : ℕ) → t < length ys → Has (codeTrellis plate) t (after ys 0 0 w a t) (bit w t) (after ys 0 0 w a (suc t))
         branch t h =
             let z : 0 + t ≡ t = omega arith in
-            subst (λ (x : ℕ). Has (trellisOf plate) x (after ys 0 0 w a t) (bit w t) (after ys 0 0 w a (suc t))) z (way-branch ys 0 0 w a (omega arith) t h)
+            subst (λ (x : ℕ). Has (codeTrellis plate) x (after ys 0 0 w a t) (bit w t) (after ys 0 0 w a (suc t))) z (way-branch ys 0 0 w a (omega arith) t h)

@@ -10,10 +10,12 @@ use Rattle.decoding.specs.Totals.{branchTotal, entering, enteringLessOne
 use Rattle.plates.specs.declared.Plate.{Plate}
 use Rattle.plates.specs.Prepare.{IsPrepared, rowsOf}
 use Rattle.plates.specs.Profile.{live, liveAt}
+use Rattle.trellises.proofs.MaskedGraph.{has-on, masked-branch}
 use Rattle.trellises.proofs.PathsOnce.{path-state}
 use Rattle.trellises.proofs.PlateTrellis.{branches-number, plate-spans, plate-spells}
 use Rattle.trellises.proofs.TrellisSpells.{table-at}
-use Rattle.trellises.specs.Branching.{trellisOf}
+use Rattle.trellises.proofs.WordsTrellis.{words-branches}
+use Rattle.trellises.specs.Branching.{codeTrellis, trellisOf}
 use Rattle.trellises.specs.Graph.{Branch, Graph, Path, branchAt}
 use Rattle.trellises.specs.Smallest.{activeAt}
 use Rattle.words.proofs.Choice.{gather-lt, spread-gather, spread-injective}
@@ -50,7 +52,7 @@ gather-spread k P v h = spread-injective k P _ v (gather-lt k P (spread k P v)) 
 
 module _ (plate : Plate) (given : IsPrepared plate) where
   -- every state lies on the path of a codeword: of the sum of the live rows that its digits say
-  state-used : (t j : ℕ) → t ≤ plate .n → j < trellisOf plate .states t → (w : ℕ) × (p : Path (trellisOf plate) (plate .n) w) × (p .state t ≡ j)
+  state-used : (t j : ℕ) → t ≤ plate .n → j < codeTrellis plate .states t → (w : ℕ) × (p : Path (codeTrellis plate) (plate .n) w) × (p .state t ≡ j)
   state-used t j h k =
       let u : ℕ = spread (length (rowsOf plate)) (live (firsts (rowsOf plate)) (lasts (rowsOf plate)) t) j in
       let p = plate-spells plate given .exact (sumOf (rowsOf plate) u) .0 (record { by = u; sum = refl }) .1 in
@@ -60,14 +62,16 @@ module _ (plate : Plate) (given : IsPrepared plate) where
   pub state-entered : (t : ℕ) → t < plate .n → (j : ℕ) → j < trellisOf plate .states (suc t) → 1 ≤ entering (trellisOf plate) t j
   state-entered t h j k =
       let p = state-used (suc t) j h k in
-      let b = p .1 .branch t h in
+      let b = has-on (plate .mask) (codeTrellis plate) (p .1 .branch t h) in
       leading-some (trellisOf plate .branches t) j (b .place) (b .there) (b .leads ∙ p .2)
 
   -- a branch leads to a state
   branch-leads : (t : ℕ) → t < plate .n → (i : ℕ) → i < length (trellisOf plate .branches t) → branchAt (trellisOf plate) t i .to < trellisOf plate .states (suc t)
   branch-leads t h i k =
-      let l : i < 2 ^ activeAt (rowsOf plate) t = omega (arith, branches-number plate given t) in
-      subst (λ (b : Branch). b .to < 2 ^ liveAt (rowsOf plate) (suc t)) (sym (table-at (2 ^ activeAt (rowsOf plate) t) _ i l)) (gather-lt (length (rowsOf plate)) _ _)
+      let l : i < 2 ^ activeAt (rowsOf plate) t = omega (arith, words-branches plate given t) in
+      let m : i < length (codeTrellis plate .branches t) = omega (arith, branches-number plate given t) in
+      subst (λ (b : Branch). b .to < 2 ^ liveAt (rowsOf plate) (suc t)) (sym (masked-branch (plate .mask) (codeTrellis plate) t i m))
+      (subst (λ (b : Branch). b .to < 2 ^ liveAt (rowsOf plate) (suc t)) (sym (table-at (2 ^ activeAt (rowsOf plate) t) _ i l)) (gather-lt (length (rowsOf plate)) _ _))
 
   -- the branches entering less one come to the branches less the states
   pub plate-entering : enteringLessOne (trellisOf plate) (plate .n) + stateTotal (rowsOf plate) (plate .n) ≡ branchTotal (trellisOf plate) (plate .n)

@@ -6,20 +6,19 @@ use lib.Signed.{_≤ℤ_}
 use mathlib.Core.List.{List, [], _∷_, _++_}
 use mathlib.Core.Logic.{_⊎_}
 use mathlib.Core.Path.{_≡_}
-use Rattle.words.specs.Sum.{IsSum}
 use Rattle.words.specs.Word.{Earlier}
 use Rattle.plates.specs.declared.Plate.{Plate}
 use Rattle.plates.specs.declared.Refusal.{Refusal}
-use Rattle.plates.specs.Prepare.{notPrepared, rowsOf}
+use Rattle.plates.specs.Prepare.{IsWord, notPrepared}
 use Rattle.plates.specs.Refusals.{Refuses, Passes}
-use Rattle.trellises.specs.SectionOf.{sectionOf}
+use Rattle.trellises.specs.Branching.{trellisOf}
 use Rattle.decoding.specs.declared.apart.Selection.{Selection}
 use Rattle.decoding.specs.declared.apart.Chosen.{Chosen}
 use Rattle.decoding.specs.declared.apart.Measure.{Measure}
 use Rattle.decoding.specs.declared.apart.Measured.{Measured}
-use Rattle.decoding.specs.Backward.{counted}
 use Rattle.decoding.specs.Decode.{SampleOver, Zeroed, decodeConditions, metricNeed, metricRoom, sampleCount}
 use Rattle.decoding.specs.Metric.{metricOf}
+use Rattle.decoding.specs.Totals.{branchTotal, enteringLessOne}
 use Rattle.decoding.specs.declared.apart.Chosen.the-variants as C
 use Rattle.decoding.specs.declared.apart.Measured.the-variants as M
 
@@ -29,13 +28,18 @@ use Rattle.decoding.specs.declared.apart.Measured.the-variants as M
 abbrev pub metricConditions : Plate → List ℤ → List ℤ → List (Refusal → Type 0)
 metricConditions plate samples metrics = notPrepared plate ∷ sampleCount plate samples ∷ SampleOver samples ∷ metricRoom plate metrics ∷ []
 
--- The greatest correlation of any codeword, and what the steps counted
-pub record BestMetric (plate : Plate) (samples : List ℤ) (m : Measure) : Type 0 where
+-- The greatest correlation of any of the words C, and the counts of the plate's trellis
+pub record BestMetricIn (C : ℕ → Type 0) (plate : Plate) (samples : List ℤ) (m : Measure) : Type 0 where
   pub word : ℕ
-  pub codeword : IsSum (rowsOf plate) word
+  pub codeword : C word
   pub metric : m .metric ≡ metricOf samples word
-  pub greatest : (w : ℕ) → IsSum (rowsOf plate) w → metricOf samples w ≤ℤ m .metric
-  pub counts : m .counts ≡ counted (sectionOf (rowsOf plate)) samples 0
+  pub greatest : (w : ℕ) → C w → metricOf samples w ≤ℤ m .metric
+  pub additions : m .counts .additions ≡ branchTotal (trellisOf plate) (plate .n)
+  pub comparisons : m .counts .comparisons ≡ enteringLessOne (trellisOf plate) (plate .n)
+
+-- of any word of the plate
+abbrev pub BestMetric : Plate → List ℤ → Measure → Type 0
+BestMetric plate samples m = BestMetricIn (IsWord plate) plate samples m
 
 -- What the metric call replies: the first refusal in order with the room unchanged, or the best metric with the needed room, the first so
 -- many places, all zero and the rest unchanged
@@ -47,12 +51,17 @@ Measures plate samples metrics metrics′ (M.Found m) =
 
 -- ---- the word
 
--- The codeword of greatest correlation, of equals the one with 0 at the first difference; and what the steps counted
-pub record BestSelection (plate : Plate) (samples : List ℤ) (c : Selection) : Type 0 where
-  pub codeword : IsSum (rowsOf plate) (c .word)
-  pub greatest : (w : ℕ) → IsSum (rowsOf plate) w → metricOf samples w ≤ℤ metricOf samples (c .word)
-  pub earliest : (w : ℕ) → IsSum (rowsOf plate) w → metricOf samples w ≡ metricOf samples (c .word) → (c .word ≡ w) ⊎ Earlier (c .word) w
-  pub counts : c .counts ≡ counted (sectionOf (rowsOf plate)) samples 0
+-- The word of greatest correlation among the words C, of equals the one with 0 at the first difference; and the counts of the plate's trellis
+pub record BestSelectionIn (C : ℕ → Type 0) (plate : Plate) (samples : List ℤ) (c : Selection) : Type 0 where
+  pub codeword : C (c .word)
+  pub greatest : (w : ℕ) → C w → metricOf samples w ≤ℤ metricOf samples (c .word)
+  pub earliest : (w : ℕ) → C w → metricOf samples w ≡ metricOf samples (c .word) → (c .word ≡ w) ⊎ Earlier (c .word) w
+  pub additions : c .counts .additions ≡ branchTotal (trellisOf plate) (plate .n)
+  pub comparisons : c .counts .comparisons ≡ enteringLessOne (trellisOf plate) (plate .n)
+
+-- the best of the plate's words
+abbrev pub BestSelection : Plate → List ℤ → Selection → Type 0
+BestSelection plate samples c = BestSelectionIn (IsWord plate) plate samples c
 
 -- What the word call replies: the first refusal in order, 5 to 9, with both rooms unchanged, or the best word with the needed room zeroed
 abbrev pub Chooses : Plate → List ℤ → List ℤ → List ℕ → List ℤ → List ℕ → Chosen → Type 0

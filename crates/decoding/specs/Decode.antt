@@ -6,20 +6,19 @@ use lib.Signed.{_≤ℤ_}
 use mathlib.Core.List.{List, [], _∷_, _++_}
 use mathlib.Core.Logic.{_⊎_}
 use mathlib.Core.Path.{_≡_}
-use Rattle.words.specs.Sum.{IsSum}
 use Rattle.words.specs.Word.{Earlier}
 use Rattle.plates.specs.declared.Plate.{Plate}
 use Rattle.plates.specs.declared.Refusal.{Refusal}
 use Rattle.plates.specs.declared.Refusal.the-variants.{SampleCount, SampleRange, MetricRoom, DecisionRoom}
-use Rattle.plates.specs.Prepare.{notPrepared, rowsOf}
+use Rattle.plates.specs.Prepare.{IsWord, notPrepared, rowsOf}
 use Rattle.plates.specs.Profile.{liveAt}
 use Rattle.plates.specs.Refusals.{Refuses, Passes}
-use Rattle.trellises.specs.SectionOf.{sectionOf}
+use Rattle.trellises.specs.Branching.{trellisOf}
 use Rattle.decoding.specs.declared.Decoded.{Decoded}
 use Rattle.decoding.specs.declared.Decoded.the-variants.{Found, Refused}
 use Rattle.decoding.specs.declared.Answer.{Answer}
-use Rattle.decoding.specs.Backward.{counted}
 use Rattle.decoding.specs.Metric.{limit, metricOf}
+use Rattle.decoding.specs.Totals.{branchTotal, enteringLessOne}
 
 -- ---- the working room
 
@@ -72,13 +71,19 @@ decodeConditions plate samples metrics decisions =
 
 -- ---- the reply
 
--- The codeword of greatest correlation, of equals the one with 0 at the first difference; its metric; and what the steps counted
-pub record Best (plate : Plate) (samples : List ℤ) (a : Answer) : Type 0 where
-  pub codeword : IsSum (rowsOf plate) (a .word)
+-- The word of greatest correlation among the words C, of equals the one with 0 at the first difference; its metric; and the counts of the
+-- plate's trellis: an addition for each branch, and for each state past the start one comparison fewer than the branches entering it
+pub record BestIn (C : ℕ → Type 0) (plate : Plate) (samples : List ℤ) (a : Answer) : Type 0 where
+  pub codeword : C (a .word)
   pub metric : a .metric ≡ metricOf samples (a .word)
-  pub greatest : (w : ℕ) → IsSum (rowsOf plate) w → metricOf samples w ≤ℤ a .metric
-  pub earliest : (w : ℕ) → IsSum (rowsOf plate) w → metricOf samples w ≡ a .metric → (a .word ≡ w) ⊎ Earlier (a .word) w
-  pub counts : a .counts ≡ counted (sectionOf (rowsOf plate)) samples 0
+  pub greatest : (w : ℕ) → C w → metricOf samples w ≤ℤ a .metric
+  pub earliest : (w : ℕ) → C w → metricOf samples w ≡ a .metric → (a .word ≡ w) ⊎ Earlier (a .word) w
+  pub additions : a .counts .additions ≡ branchTotal (trellisOf plate) (plate .n)
+  pub comparisons : a .counts .comparisons ≡ enteringLessOne (trellisOf plate) (plate .n)
+
+-- the best of the plate's words
+abbrev pub Best : Plate → List ℤ → Answer → Type 0
+Best plate samples a = BestIn (IsWord plate) plate samples a
 
 -- the needed room, the first so many places of each, is all zero, and the rest unchanged
 pub record Zeroed (plate : Plate) (metrics metrics′ : List ℤ) (decisions decisions′ : List ℕ) : Type 0 where

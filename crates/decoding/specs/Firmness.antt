@@ -5,12 +5,11 @@ use lib.Signed.{_≤ℤ_}
 use mathlib.Core.Bool.{Bool, true, false}
 use mathlib.Core.List.{List, [], _∷_}
 use mathlib.Core.Path.{_≡_}
-use Rattle.words.specs.Sum.{IsSum}
 use Rattle.words.specs.Word.{bit}
 use Rattle.plates.specs.declared.Plate.{Plate}
 use Rattle.plates.specs.declared.Refusal.{Refusal}
 use Rattle.plates.specs.declared.Refusal.the-variants.{PositionBeyond}
-use Rattle.plates.specs.Prepare.{notPrepared, rowsOf}
+use Rattle.plates.specs.Prepare.{IsWord, notPrepared}
 use Rattle.plates.specs.Refusals.{Refuses, Passes}
 use Rattle.decoding.specs.declared.firmness.Flag.{Flag}
 use Rattle.decoding.specs.declared.firmness.Judged.{Judged}
@@ -32,37 +31,37 @@ abbrev pub value : Reading → ℤ
 value (Fixed b) = pos b
 value (Open margin) = margin
 
--- ---- what they mean
+-- ---- what they mean among the words C
 
--- fixed: every codeword has that bit there
-abbrev pub Always : Plate → ℕ → ℤ → Type 0
-Always plate position b = (w : ℕ) → IsSum (rowsOf plate) w → pos (bit w position) ≡ b
+-- fixed: every word has that bit there
+abbrev pub Always : (ℕ → Type 0) → ℕ → ℤ → Type 0
+Always C position b = (w : ℕ) → C w → pos (bit w position) ≡ b
 
--- m is the best metric among the codewords with bit b there
-pub record BestAmong (plate : Plate) (samples : List ℤ) (position b : ℕ) (m : ℤ) : Type 0 where
+-- m is the best metric among the words with bit b there
+pub record BestAmong (C : ℕ → Type 0) (samples : List ℤ) (position b : ℕ) (m : ℤ) : Type 0 where
   pub word : ℕ
-  pub codeword : IsSum (rowsOf plate) word
+  pub codeword : C word
   pub has : bit word position ≡ b
   pub metric : metricOf samples word ≡ m
-  pub greatest : (w : ℕ) → IsSum (rowsOf plate) w → bit w position ≡ b → metricOf samples w ≤ℤ m
+  pub greatest : (w : ℕ) → C w → bit w position ≡ b → metricOf samples w ≤ℤ m
 
--- open: the best metric among codewords with 0 there minus the best among those with 1
-pub record Margin (plate : Plate) (samples : List ℤ) (position : ℕ) (margin : ℤ) : Type 0 where
+-- open: the best metric among words with 0 there minus the best among those with 1
+pub record Margin (C : ℕ → Type 0) (samples : List ℤ) (position : ℕ) (margin : ℤ) : Type 0 where
   pub with-zero : ℤ
   pub with-one : ℤ
-  pub zero-best : BestAmong plate samples position 0 with-zero
-  pub one-best : BestAmong plate samples position 1 with-one
+  pub zero-best : BestAmong C samples position 0 with-zero
+  pub one-best : BestAmong C samples position 1 with-one
   pub is : margin ≡ with-zero -ℤ with-one
 
 -- what a value means where the reading is fixed, and where it is open
-abbrev pub Means : Plate → List ℤ → ℕ → Bool → ℤ → Type 0
-Means plate samples position true v = Always plate position v
-Means plate samples position false v = Margin plate samples position v
+abbrev pub Means : (ℕ → Type 0) → List ℤ → ℕ → Bool → ℤ → Type 0
+Means C samples position true v = Always C position v
+Means C samples position false v = Margin C samples position v
 
 -- the position asked for, and its reading
-pub record FlagOf (plate : Plate) (samples : List ℤ) (position : ℕ) (flag : Flag) : Type 0 where
+pub record FlagOf (C : ℕ → Type 0) (samples : List ℤ) (position : ℕ) (flag : Flag) : Type 0 where
   pub position-is : flag .position ≡ position
-  pub reading : Means plate samples position (isFixed (flag .reading)) (value (flag .reading))
+  pub reading : Means C samples position (isFixed (flag .reading)) (value (flag .reading))
 
 -- ---- the reply
 
@@ -75,10 +74,11 @@ abbrev pub firmnessConditions : Plate → List ℤ → ℕ → List ℤ → List
 firmnessConditions plate samples position metrics decisions =
     notPrepared plate ∷ sampleCount plate samples ∷ SampleOver samples ∷ positionBeyond plate position ∷ metricRoom plate metrics ∷ decisionRoom plate decisions ∷ []
 
--- What judging a position replies: the first refusal in order with both rooms unchanged, or the flag with the needed room zeroed
+-- What judging a position replies: the first refusal in order with both rooms unchanged, or the flag among the plate's words with the needed
+-- room zeroed
 abbrev pub Judges : Plate → List ℤ → ℕ → List ℤ → List ℕ → List ℤ → List ℕ → Judged → Type 0
 Judges plate samples position metrics decisions metrics′ decisions′ (Refused q) =
     Refuses (firmnessConditions plate samples position metrics decisions) q × (metrics′ ≡ metrics) × (decisions′ ≡ decisions)
 Judges plate samples position metrics decisions metrics′ decisions′ (Found flag) =
-    Passes (firmnessConditions plate samples position metrics decisions) × FlagOf plate samples position flag
+    Passes (firmnessConditions plate samples position metrics decisions) × FlagOf (IsWord plate) samples position flag
     × Zeroed plate metrics metrics′ decisions decisions′

@@ -1,4 +1,6 @@
 pub mod Taking
+pub mod Cosets
+pub mod Turning
 pub mod Stepping
 pub mod Metric
 pub mod Backward

@@ -14,6 +14,7 @@ use Rattle.decoding.specs.declared.walk.Walk.{Walk}
 use Rattle.decoding.specs.Backward.{Chain, best, counted, decided, wordFrom}
 use Rattle.decoding.specs.LiveRows.{EndsAre, LiveAt, PlateRows, Taken, begunBefore, liveMarks}
 use Rattle.decoding.specs.Stepping.{gainLimit, olds}
+use Rattle.decoding.specs.Turning.{turnedBy}
 
 -- the sizes of a decode fit its rows: half the metric room has a place for each state, and a section's decision words, where it has any,
 -- a bit for each; a section without decision words is one whose decisions are not wanted
@@ -31,11 +32,15 @@ pub record SizesFit (table : List ℕ) (z : Sizes) : Type 0 where
 
 -- the same sizes where decisions are not wanted
 abbrev pub undecided : Sizes → Sizes
-undecided z = record { n = z .n; k = z .k; half = z .half; words = 0 }
+undecided z = record { n = z .n; k = z .k; half = z .half; words = 0; rest = z .rest }
 
--- the gains with which the sections are taken: the samples, but at the forced position its own gain; beyond the samples nothing is forced
+-- the samples, but at the forced position its own gain; beyond the samples nothing is forced
 abbrev pub forcedTo : List ℤ → Forced → List ℤ
 forcedTo samples f = set samples (f .position) (f .gain)
+
+-- the gains with which the sections are taken: those, turned by the rest
+abbrev pub gainsOf : Sizes → List ℤ → Forced → List ℤ
+gainsOf z samples f = turnedBy (z .rest) (forcedTo samples f)
 
 -- the gains are n, each within what a step takes, and the rooms are long enough
 pub record RoomsFit (z : Sizes) (samples metrics : List ℤ) (decisions : List ℕ) : Type 0 where

@@ -21,19 +21,19 @@ pub enum Measured {
     Refused(Refusal),
 }
 
-// The best codeword, and what the steps counted.
+// The best word, and what the steps counted.
 pub struct Selection {
     pub word: u64,
     pub counts: Counts,
 }
 
-// The best codeword of a plate, or why there is none.
+// The best word of a plate, or why there is none.
 pub enum Chosen {
     Found(Selection),
     Refused(Refusal),
 }
 
-// The greatest correlation that any codeword of a prepared plate has with the samples; no decision is kept.
+// The greatest correlation that any word of a prepared plate has with the samples; no decision is kept.
 pub fn best_metric(plate: Plate, samples: &[i16], metrics: &mut [i32]) -> Measured
     ensures { λ r. ⌜ Measures plate (now (samples .entry)) (now (metrics .entry)) (now (metrics .exit)) r ⌝ }
 {
@@ -48,7 +48,7 @@ pub fn best_metric(plate: Plate, samples: &[i16], metrics: &mut [i32]) -> Measur
     if over < n {
         return Measured::Refused(Refusal::SampleRange(over));
     }
-    let sizes = sizes_of(n, plate.k, &plate.profile);
+    let sizes = sizes_of(n, plate.k, plate.mask, &plate.rows, &plate.profile);
     let metric_need = sizes.half + sizes.half;
     if metrics.len() < metric_need {
         return Measured::Refused(Refusal::MetricRoom);
@@ -58,7 +58,7 @@ pub fn best_metric(plate: Plate, samples: &[i16], metrics: &mut [i32]) -> Measur
     Measured::Found(measure)
 }
 
-// The codeword that decoding finds, without its metric.
+// The word that decoding finds, without its metric.
 pub fn best_word(
     plate: Plate,
     samples: &[i16],

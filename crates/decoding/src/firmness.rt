@@ -21,7 +21,7 @@ ghost use Rattle.decoding.specs.Sweeping.{RoomsFit, SizesFit};
 // What forces a position: more than all other positions together can add or take.
 const FORCING: i32 = 262144;
 
-// A position's reading: the bit that every codeword has there, or the margin by which 0 scores more there than 1.
+// A position's reading: the bit that every word has there, or the margin by which 0 scores more there than 1.
 pub enum Reading {
     Fixed(u64),
     Open(i32),
@@ -54,7 +54,7 @@ fn first_with(rows: &[u64; 64], k: usize, position: usize) -> usize
     j
 }
 
-// The best metric among the codewords that have a bit at a position: the position is forced to the bit, and its own sample added.
+// The best metric among the words that have a bit at a position: the position is forced to the bit, and its own sample added.
 fn best_with(
     rows: &[u64; 64],
     sizes: Sizes,
@@ -106,7 +106,7 @@ fn reading_at(
 {
     let row = first_with(rows, sizes.k, position);
     if sizes.k <= row {
-        return Reading::Fixed(0);
+        return Reading::Fixed(words::bit_at(sizes.rest, position));
     }
     let ends = ending_rows(rows, sizes.k);
     let zero = best_with(
@@ -133,8 +133,8 @@ fn reading_at(
     Reading::Open(margin)
 }
 
-// How firmly a position was received: its bit where every codeword has the same there, else the best metric among the codewords with 0
-// there minus the best among those with 1.
+// How firmly a position was received: its bit where every word has the same there, else the best metric among the words with 0 there minus
+// the best among those with 1.
 pub fn firmness(
     plate: Plate,
     samples: &[i16],
@@ -155,7 +155,7 @@ pub fn firmness(
     if over < n {
         return Judged::Refused(Refusal::SampleRange(over));
     }
-    let sizes = sizes_of(n, plate.k, &plate.profile);
+    let sizes = sizes_of(n, plate.k, plate.mask, &plate.rows, &plate.profile);
     let metric_need = sizes.half + sizes.half;
     let decision_need = n * sizes.words;
     if n <= position {

@@ -1,4 +1,4 @@
-// Decoding: the codeword of greatest correlation with soft samples.
+// Decoding: the word of a plate that has the greatest correlation with soft samples.
 use crate::rooms::clear_decisions;
 use crate::rooms::clear_metrics;
 use crate::rooms::sizes_of;
@@ -11,6 +11,7 @@ ghost use Rattle.decoding.specs.Decode.{Decodes};
 pub mod apart;
 mod blocks;
 mod choices;
+pub mod cosets;
 pub mod firmness;
 mod live;
 mod patterns;
@@ -30,7 +31,7 @@ pub struct Counts {
     pub comparisons: u64,
 }
 
-// The best codeword, its metric, and what the steps counted.
+// The best word, its metric, and what the steps counted.
 pub struct Answer {
     pub word: u64,
     pub metric: i32,
@@ -43,7 +44,7 @@ pub enum Decoded {
     Refused(Refusal),
 }
 
-// The codeword of a prepared plate that has the greatest correlation with the samples, of equals the one with 0 at the first difference.
+// The word of a prepared plate that has the greatest correlation with the samples, of equals the one with 0 at the first difference.
 pub fn decode(plate: Plate, samples: &[i16], metrics: &mut [i32], decisions: &mut [u64]) -> Decoded
     ensures { λ r. ⌜ Decodes plate (now (samples .entry)) (now (metrics .entry)) (now (decisions .entry)) (now (metrics .exit)) (now (decisions .exit)) r ⌝ }
 {
@@ -58,7 +59,7 @@ pub fn decode(plate: Plate, samples: &[i16], metrics: &mut [i32], decisions: &mu
     if over < n {
         return Decoded::Refused(Refusal::SampleRange(over));
     }
-    let sizes = sizes_of(n, plate.k, &plate.profile);
+    let sizes = sizes_of(n, plate.k, plate.mask, &plate.rows, &plate.profile);
     let metric_need = sizes.half + sizes.half;
     let decision_need = n * sizes.words;
     if metrics.len() < metric_need {

@@ -1,4 +1,5 @@
-// The working rooms: how much of them a decode needs, and putting that much to zero.
+// The working rooms: how much of them a decode needs, and putting that much to zero. What is left of the mask goes with the sizes.
+use crate::cosets::rest_of;
 use crate::sweep::Sizes;
 ghost use lib.IntN.{pos};
 ghost use lib.ListN.{drop, getD, length, replicate};
@@ -34,17 +35,19 @@ fn widest(profile: &[u8; 65], n: usize) -> usize
     most
 }
 
-// How large a decode of a plate is.
-pub fn sizes_of(n: usize, k: usize, profile: &[u8; 65]) -> Sizes
-    requires { ⌜ (n ≤ 64) × ProfileFits (now profile) n ⌝ }
-    ensures { λ r. ⌜ SizesOf n k (now (profile .entry)) r ⌝ }
+// How large a decode of a plate is, and what is left of its mask.
+pub fn sizes_of<'a>(n: usize, k: usize, mask: u64, rows: &'a [u64], profile: &'a [u8; 65]) -> Sizes
+    requires { ⌜ (n ≤ 64) × ProfileFits (now profile) n × (k ≤ length (now rows)) ⌝ }
+    ensures { λ r. ⌜ SizesOf n k mask (now (rows .entry)) (now (profile .entry)) r ⌝ }
 {
+    let rest = rest_of(&rows[..k], mask);
     let half = 1 << widest(profile, n);
     Sizes {
         n,
         k,
         half,
         words: greater(1, half / 64),
+        rest,
     }
 }
 

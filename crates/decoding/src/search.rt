@@ -1,4 +1,4 @@
-// The best codeword of a plate, or its metric alone, before the rooms are put to zero.
+// The best word of a plate, or its metric alone, before the rooms are put to zero.
 use crate::Answer;
 use crate::apart::Measure;
 use crate::live::ending_rows;
@@ -11,7 +11,7 @@ ghost use Prim.Native.Nat.{_<_};
 ghost use Rattle.decoding.specs.Searching.{MetricSearched, Searched};
 ghost use Rattle.decoding.specs.Sweeping.{RoomsFit, SizesFit, undecided};
 
-// The best codeword, its metric and what was counted; decisions are wanted.
+// The best word, its metric and what was counted; decisions are wanted.
 pub fn search(
     rows: &[u64; 64],
     sizes: Sizes,
@@ -66,6 +66,7 @@ pub fn search_metric(
         k: sizes.k,
         half: sizes.half,
         words: 0,
+        rest: sizes.rest,
     };
     let none = Forced {
         position: sizes.n,

@@ -1,9 +1,10 @@
-// The word read off the decisions, from the start to the far end.
+// The codeword read off the decisions, from the start to the far end, and its word.
 use crate::live::leads;
 use crate::live::mark_of;
 use crate::live::row_beginning;
 use crate::states::power;
 use crate::sweep::Sizes;
+ghost use lib.Bits.{bitXor};
 ghost use lib.Dec.{eqb};
 ghost use lib.ListN.{getD, length, take};
 ghost use mathlib.Core.Bool.{cond};
@@ -12,6 +13,7 @@ ghost use Prim.Native.Nat.{suc, _+_, _-_, _*_, _/_, _%_, _^_, _≤_, _<_};
 ghost use Rattle.decoding.specs.Backward.{wordFrom};
 ghost use Rattle.decoding.specs.LiveRows.{endingCount};
 ghost use Rattle.decoding.specs.Sweeping.{BeforeWalk, WalkFits, Walked};
+ghost use Rattle.decoding.specs.Turning.{turnedBy};
 ghost use Rattle.trellises.specs.SectionOf.{sectionOf};
 ghost use Rattle.words.specs.Word.{bit};
 
@@ -81,8 +83,8 @@ fn walk_section(
     t: usize,
     at: Walk,
 ) -> Walk
-    requires { ⌜ BeforeWalk (now rows) sizes (now ends) (now samples) (now decisions) t at ⌝ }
-    ensures { λ r. ⌜ Walked (take (sizes .k) (now (rows .entry))) (now (samples .entry)) (suc t) r ⌝ }
+    requires { ⌜ BeforeWalk (now rows) sizes (now ends) (turnedBy (sizes .rest) (now samples)) (now decisions) t at ⌝ }
+    ensures { λ r. ⌜ Walked (take (sizes .k) (now (rows .entry))) (turnedBy (sizes .rest) (now (samples .entry))) (suc t) r ⌝ }
 {
     let beginning = row_beginning(rows, sizes.k, at.next, t);
     let row = beginning.row;
@@ -101,7 +103,7 @@ fn walk_section(
     }
 }
 
-// All sections: the word decided.
+// All sections: the word decided, which is the codeword plus rest.
 pub fn read_off(
     rows: &[u64; 64],
     sizes: Sizes,
@@ -109,8 +111,8 @@ pub fn read_off(
     samples: &[i16],
     decisions: &[u64],
 ) -> u64
-    requires { ⌜ WalkFits (now rows) sizes (now ends) (now samples) (now decisions) ⌝ }
-    ensures { λ r. ⌜ r ≡ wordFrom (sectionOf (take (sizes .k) (now (rows .entry)))) (now (samples .entry)) 0 0 ⌝ }
+    requires { ⌜ WalkFits (now rows) sizes (now ends) (turnedBy (sizes .rest) (now samples)) (now decisions) ⌝ }
+    ensures { λ r. ⌜ r ≡ bitXor (wordFrom (sectionOf (take (sizes .k) (now (rows .entry)))) (turnedBy (sizes .rest) (now (samples .entry))) 0 0) (sizes .rest) ⌝ }
 {
     let mut at = Walk {
         word: 0,
@@ -125,5 +127,5 @@ pub fn read_off(
         at = walk_section(rows, sizes, ends, samples, decisions, t, at);
         t += 1;
     }
-    at.word
+    at.word ^ sizes.rest
 }

@@ -24,7 +24,7 @@ use Rattle.demands.proofs.Demand1.{decode-numbers, its-number}
 use Rattle.demands.proofs.StepCounts.{steps-additions, steps-comparisons}
 use Rattle.demands.specs.Refusing.{Numbered, RefusesExactly}
 use Rattle.plates.proofs.Refusing.{never-both}
-use Rattle.plates.specs.Code.{InCode}
+use Rattle.plates.specs.Code.{InCode, Masked}
 use Rattle.plates.specs.declared.Kind.{Kind}
 use Rattle.plates.specs.declared.Plate.{Plate}
 use Rattle.plates.specs.declared.Prepared.{Prepared}
@@ -33,7 +33,7 @@ use Rattle.plates.specs.declared.Refusal.the-variants.{DecisionRoom}
 use Rattle.plates.specs.declared.Verdict.the-variants.{Accepted}
 use Rattle.plates.specs.Prepare.{IsPrepared, Prepares}
 use Rattle.plates.specs.Refusals.{Passes, Refuses, number}
-use Rattle.trellises.proofs.AcceptedIsPrepared.{accepted-code}
+use Rattle.trellises.proofs.WordsTrellis.{accepted-words}
 use Rattle.trellises.specs.Branching.{trellisOf}
 use Rattle.decoding.specs.declared.apart.Chosen.the-variants as C
 use Rattle.decoding.specs.declared.apart.Measured.the-variants as M
@@ -56,8 +56,10 @@ module _ (plate : Plate) (samples metrics : List ℤ) where
   module _ (metrics′ : List ℤ) (r : Measured) (p : Measures plate samples metrics metrics′ r) where
     -- refused exactly under them
     pub metric-refuses-exactly : RefusesExactly M.Refused (metricConditions plate samples metrics) r
-    metric-refuses-exactly q =
-        ((λ e. subst (Measures plate samples metrics metrics′) e p .0), λ h. metric-determined plate samples metrics r (M.Refused q) metrics′ metrics p (h, refl) .0)
+    metric-refuses-exactly q = (
+      (λ e. subst (Measures plate samples metrics metrics′) e p .0),
+      λ h. metric-determined plate samples metrics r (M.Refused q) metrics′ metrics p (h, refl) .0,
+    )
 
     -- where none of them holds the metric is found
     pub metric-passed-found : Passes (metricConditions plate samples metrics) → (m : Measure) × (r ≡ M.Found m)
@@ -128,7 +130,8 @@ module _ (plate : Plate) (samples : List ℤ) where
   -- the two replies make up a reply of decode, with the rooms that the word call leaves; their counts are the same
   pub both-are-decode : (room room′ metrics metrics′ : List ℤ) (decisions decisions′ : List ℕ) (m : Measure) (c : Selection)
       → Measures plate samples room room′ (M.Found m) → Chooses plate samples metrics decisions metrics′ decisions′ (C.Found c)
-      → Decodes plate samples metrics decisions metrics′ decisions′ (D.Found (record { word = c .word; metric = m .metric; counts = c .counts })) × (m .counts ≡ c .counts)
+      → Decodes plate samples metrics decisions metrics′ decisions′ (D.Found (record { word = c .word; metric = m .metric; counts = c .counts }))
+      × (m .counts ≡ c .counts)
   both-are-decode = together plate samples
 
   -- what refuses the metric call refuses decode so
@@ -141,26 +144,27 @@ module _ (plate : Plate) (samples : List ℤ) where
       → Refuses (metricConditions plate samples metrics) q ⊎ ((length decisions < decisionNeed plate) × (q ≡ DecisionRoom))
   decode-refused-metric-refused = decode-refusal plate samples
 
--- ---- over the code of a matrix that preparing accepts
+-- ---- over the words that a mask makes of the code of a matrix, where preparing both accepts
 
-module _ (n : ℕ) (kind : Kind) (rows : List ℕ) (r : Prepared) (p : Prepares n kind rows r) (e : r .verdict ≡ Accepted) (samples metrics metrics′ : List ℤ) where
+module _ (n : ℕ) (kind : Kind) (rows : List ℕ) (mask : ℕ) (r : Prepared) (p : Prepares n kind rows mask r) (e : r .verdict ≡ Accepted)
+    (samples metrics metrics′ : List ℤ) where
   module _ (m : Measure) (d : Measures (r .plate) samples metrics metrics′ (M.Found m)) where
     size : length samples ≡ r .plate .n
     size = samples-are-n (r .plate) samples (d .0 .1 .0)
 
-    -- the metric is that of a codeword, and no codeword has a greater one
-    pub metric-attained : (w : ℕ) × InCode kind n rows w × (m .metric ≡ metricOf samples w)
-    metric-attained = (d .1 .word, accepted-code n kind rows r p e (d .1 .word) .1 (d .1 .codeword), d .1 .metric)
+    -- the metric is that of a word, and no word has a greater one
+    pub metric-attained : (w : ℕ) × Masked (InCode kind n rows) mask w × (m .metric ≡ metricOf samples w)
+    metric-attained = (d .1 .word, accepted-words n kind rows mask r p e (d .1 .word) .1 (d .1 .codeword), d .1 .metric)
 
-    pub metric-greatest : (w : ℕ) → InCode kind n rows w → metricOf samples w ≤ℤ m .metric
-    metric-greatest w c = d .1 .greatest w (accepted-code n kind rows r p e w .0 c)
+    pub metric-greatest : (w : ℕ) → Masked (InCode kind n rows) mask w → metricOf samples w ≤ℤ m .metric
+    metric-greatest w c = d .1 .greatest w (accepted-words n kind rows mask r p e w .0 c)
 
     -- one addition for each branch, and for each state past the start one comparison fewer than the branches entering it
     pub metric-additions : m .counts .additions ≡ branchTotal (trellisOf (r .plate)) n
-    metric-additions = steps-additions n kind rows r p e samples size (m .counts) (d .1 .counts)
+    metric-additions = steps-additions n kind rows mask r p e samples size (m .counts) (d .1 .additions) (d .1 .comparisons)
 
     pub metric-comparisons : m .counts .comparisons ≡ enteringLessOne (trellisOf (r .plate)) n
-    metric-comparisons = steps-comparisons n kind rows r p e samples size (m .counts) (d .1 .counts)
+    metric-comparisons = steps-comparisons n kind rows mask r p e samples size (m .counts) (d .1 .additions) (d .1 .comparisons)
 
   module _ (decisions decisions′ : List ℕ) (c : Selection) (d : Chooses (r .plate) samples metrics decisions metrics′ decisions′ (C.Found c)) where
     counted-n : length samples ≡ r .plate .n
@@ -168,7 +172,7 @@ module _ (n : ℕ) (kind : Kind) (rows : List ℕ) (r : Prepared) (p : Prepares 
 
     -- the same of the word call
     pub word-additions : c .counts .additions ≡ branchTotal (trellisOf (r .plate)) n
-    word-additions = steps-additions n kind rows r p e samples counted-n (c .counts) (d .1 .counts)
+    word-additions = steps-additions n kind rows mask r p e samples counted-n (c .counts) (d .1 .additions) (d .1 .comparisons)
 
     pub word-comparisons : c .counts .comparisons ≡ enteringLessOne (trellisOf (r .plate)) n
-    word-comparisons = steps-comparisons n kind rows r p e samples counted-n (c .counts) (d .1 .counts)
+    word-comparisons = steps-comparisons n kind rows mask r p e samples counted-n (c .counts) (d .1 .additions) (d .1 .comparisons)

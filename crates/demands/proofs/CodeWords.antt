@@ -1,5 +1,6 @@
--- Tests of the words of a code, one after the other.
+-- Tests of the words of a code and of a plate, one after the other.
 use borrow.Author.Tests.{eq-eqb}
+use lib.Bits.{bitXor}
 use lib.Dec.{T, eqb, eqb→eq}
 use lib.ListN.{getD, length}
 use mathlib.Core.Bool.{_&&_, Bool, not, true}
@@ -8,11 +9,15 @@ use mathlib.Core.Logic.{inl, inr, _↔_}
 use mathlib.Core.Path.{ap₂, refl, subst, _∙_, _≡_}
 use native.Mathlib.Omega.{arith}
 use Prim.Native.Nat.{_<_, _^_, suc, suc-le-suc, zero, zero-le, ℕ}
+use Rattle.coding.proofs.PlateWords.{made-is-word, mask-twice}
+use Rattle.coding.specs.Coding.{wordOf}
 use Rattle.demands.proofs.Checking.{Check, both, by, each, either, equal, left, less, right, some}
 use Rattle.plates.proofs.OneDimension.{sum-trim, trim, trim-lt}
 use Rattle.plates.specs.Code.{Checked, InCode}
 use Rattle.plates.specs.declared.Kind.{Kind}
 use Rattle.plates.specs.declared.Kind.the-variants.{G, H}
+use Rattle.plates.specs.declared.Plate.{Plate}
+use Rattle.plates.specs.Prepare.{IsWord, rowsOf}
 use Rattle.words.specs.Parity.{parity}
 use Rattle.words.specs.Sum.{IsSum, sumOf}
 
@@ -79,3 +84,18 @@ words H n rows c = checkedWords n rows c
 abbrev pub sameCode : (kind : Kind) (n : ℕ) (rows plate : List ℕ) → Check ((w : ℕ) → InCode kind n rows w ↔ IsSum plate w)
 sameCode kind n rows plate =
     by (λ p w. (p .0 w, p .1 w)) (both (words kind n rows (λ w. sum plate w)) (sums plate (λ w. word kind n rows w)))
+
+-- ---- the words of a plate
+
+-- w is a word of the plate
+abbrev pub plateWord : (plate : Plate) (w : ℕ) → Check (IsWord plate w)
+plateWord plate w = sum (rowsOf plate) (bitXor w (plate .mask))
+
+-- some word of the plate
+abbrev pub somePlateWord : (plate : Plate) {P : ℕ → Type 0} → ((w : ℕ) → Check (P w)) → Check ((w : ℕ) × IsWord plate w × P w)
+somePlateWord plate c = by (λ s. (wordOf plate (s .0), made-is-word plate (s .0), s .2)) (some (2 ^ length (rowsOf plate)) (λ u. c (wordOf plate u)))
+
+-- P holds of each word of the plate
+abbrev pub plateWords : (plate : Plate) {P : ℕ → Type 0} → ((w : ℕ) → Check (P w)) → Check ((w : ℕ) → IsWord plate w → P w)
+plateWords plate {P} c =
+    by (λ h w g. subst P (mask-twice w (plate .mask)) (h (bitXor w (plate .mask)) g)) (sums (rowsOf plate) (λ v. c (bitXor v (plate .mask))))

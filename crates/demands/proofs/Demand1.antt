@@ -20,7 +20,8 @@ use Rattle.demands.specs.Refusing.{Numbered, RefusesExactly, WriteRefuse
 use Rattle.listings.proofs.Determined.{must-refuse}
 use Rattle.listings.specs.declared.Written.{Written}
 use Rattle.listings.specs.Lines.{endLine, plateLine, profileLine, refusedLine, wordLine}
-use Rattle.listings.specs.Writing.{Writes, WritesAs, WritesEnd, WritesLine, WritesOf, WritesPlate, WritesProfile, WritesRefused, WritesWord, entriesOf, lineRoom}
+use Rattle.listings.specs.Writing.{Writes, WritesAs, WritesEnd, WritesLine, WritesOf, WritesPlate, WritesProfile, WritesRefused, WritesWord}
+use Rattle.listings.specs.Writing.{entriesOf, lineRoom}
 use Rattle.plates.proofs.PrepareDetermined.{prepare-determined}
 use Rattle.plates.proofs.Refusing.{Single, never-both}
 use Rattle.plates.specs.Code.{InCode}
@@ -28,8 +29,7 @@ use Rattle.plates.specs.declared.Kind.{Kind}
 use Rattle.plates.specs.declared.Plate.{Plate}
 use Rattle.plates.specs.declared.Prepared.{Prepared}
 use Rattle.plates.specs.declared.Refusal.{Refusal}
-use Rattle.plates.specs.Filling.{Holds}
-use Rattle.plates.specs.Prepare.{IsPrepared, Prepares, PreparesAs, notPrepared, prepareConditions}
+use Rattle.plates.specs.Prepare.{IsPrepared, Prepares, PreparesAs, notPrepared, prepareConditions, zeroPlate}
 use Rattle.plates.specs.Refusals.{Passes, number}
 use Rattle.plates.specs.Replying.{refusedWith}
 use Rattle.trellises.proofs.BranchDetermined.{branch-determined}
@@ -49,19 +49,24 @@ its-number q c = ap number (c .1)
 once : {Holds : Type 0} {refusal : Refusal} (p q : Refusal) → Holds × (p ≡ refusal) → Holds × (q ≡ refusal) → p ≡ q
 once p q x y = x .1 ∙ sym (y .1)
 
--- ---- prepare: 1 to 4
+-- ---- prepare: 1 to 3, 23, 4
 
-module _ (n : ℕ) (kind : Kind) (rows : List ℕ) where
-  -- the conditions, in order
-  pub prepare-numbers : Numbered (prepareConditions n kind rows) (1 ∷ 2 ∷ 3 ∷ 4 ∷ [])
-  prepare-numbers = (its-number, (its-number, ((λ q c. ap number (c .is)), ((λ q c. ap number (c .is)), tt))))
+module _ (n : ℕ) (kind : Kind) (rows : List ℕ) (mask : ℕ) where
+  -- the conditions, in order: 23 stands after 3 and before 4
+  pub prepare-numbers : Numbered (prepareConditions n kind rows mask) (1 ∷ 2 ∷ 3 ∷ 23 ∷ 4 ∷ [])
+  prepare-numbers = (its-number, (its-number, ((λ q c. ap number (c .is)), (its-number, ((λ q c. ap number (c .is)), tt)))))
 
-  -- refused exactly under them
-  pub prepare-refuses-exactly : (r : Prepared) → Prepares n kind rows r → RefusesExactly P.Refused (prepareConditions n kind rows) (r .verdict)
-  prepare-refuses-exactly r p q = (
-    (λ e. subst (PreparesAs (prepareConditions n kind rows) (InCode kind n rows) n (r .plate)) e (p .reply) .0),
-    λ h. ap (λ (x : Prepared). x .verdict) (prepare-determined n kind rows r (refusedWith q) p (record { reply = (h, refl) })),
-  )
+  module _ (r : Prepared) (p : Prepares n kind rows mask r) where
+    -- refused exactly under them
+    pub prepare-refuses-exactly : RefusesExactly P.Refused (prepareConditions n kind rows mask) (r .verdict)
+    prepare-refuses-exactly q = (
+      (λ e. subst (PreparesAs (prepareConditions n kind rows mask) (InCode kind n rows) n mask (r .plate)) e (p .reply) .0),
+      λ h. ap (λ (x : Prepared). x .verdict) (prepare-determined n kind rows mask r (refusedWith q) p (record { reply = (h, refl) })),
+    )
+
+    -- a refused preparing has the zero plate beside it
+    pub prepare-refused-zero : (q : Refusal) → r .verdict ≡ P.Refused q → r .plate ≡ zeroPlate
+    prepare-refused-zero q e = subst (PreparesAs (prepareConditions n kind rows mask) (InCode kind n rows) n mask (r .plate)) e (p .reply) .1
 
 -- ---- branch: 5, 12
 

@@ -14,7 +14,9 @@ use Rattle.coding.specs.declared.ReadBack.{ReadBack}
 use Rattle.decoding.proofs.ApartDetermined.{metric-determined, word-determined}
 use Rattle.decoding.proofs.DecodeDetermined.{decode-determined}
 use Rattle.decoding.proofs.FirmnessDetermined.{firmness-determined}
+use Rattle.decoding.proofs.RestOfWords.{rest-determined}
 use Rattle.decoding.specs.Apart.{Chooses, Measures}
+use Rattle.decoding.specs.Cosets.{takenOff}
 use Rattle.decoding.specs.declared.apart.Chosen.{Chosen}
 use Rattle.decoding.specs.declared.apart.Measured.{Measured}
 use Rattle.decoding.specs.declared.Decoded.{Decoded}
@@ -73,8 +75,8 @@ refusal-place refusal r s x y = x ∙ sym y
 pub refusal-field : (refusal : Refusal) (r s : ℕ) → r ≡ field refusal → s ≡ field refusal → r ≡ s
 refusal-field refusal r s x y = x ∙ sym y
 
--- preparing a matrix
-pub prepare : (n : ℕ) (kind : Kind) (rows : List ℕ) (r s : Prepared) → Prepares n kind rows r → Prepares n kind rows s → r ≡ s
+-- preparing a matrix and a mask
+pub prepare : (n : ℕ) (kind : Kind) (rows : List ℕ) (mask : ℕ) (r s : Prepared) → Prepares n kind rows mask r → Prepares n kind rows mask s → r ≡ s
 prepare = prepare-determined
 
 -- the test of a plate
@@ -97,7 +99,7 @@ section-of rows t r s x y = x ∙ sym y
 pub encode : (plate : Plate) (information : ℕ) (r s : Encoded) → Encodes plate information r → Encodes plate information s → r ≡ s
 encode = encode-determined
 
--- reading a codeword back
+-- reading a word back
 pub read-back : (plate : Plate) (word : ℕ) (r s : ReadBack) → ReadsBack plate word r → ReadsBack plate word s → r ≡ s
 read-back = read-back-determined
 
@@ -122,6 +124,10 @@ best-word = word-determined
 pub firmness : (plate : Plate) (samples : List ℤ) (position : ℕ) (metrics : List ℤ) (decisions : List ℕ) (r s : Judged) (m n : List ℤ) (d e : List ℕ)
     → Judges plate samples position metrics decisions m d r → Judges plate samples position metrics decisions n e s → (r ≡ s) × (m ≡ n) × (d ≡ e)
 firmness = firmness-determined
+
+-- what is left of a word once rows are taken off it
+pub rest-of : (rows : List ℕ) (word r s : ℕ) → r ≡ takenOff rows word → s ≡ takenOff rows word → r ≡ s
+rest-of = rest-determined
 
 -- why a word was not chosen, with both rooms
 pub why-not : (plate : Plate) (samples : List ℤ) (w : ℕ) (metrics : List ℤ) (decisions : List ℕ) (r s : Verdict) (m n : List ℤ) (d e : List ℕ)

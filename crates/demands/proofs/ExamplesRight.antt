@@ -1,4 +1,4 @@
--- The table of the paper's examples is right: each entry's test is computed, and shows that its reply and no other meets the promise.
+-- The table of examples is right: each entry's test is computed, and shows that its reply and no other meets the promise.
 use lib.Count.{leadingZeros, ones, onesIn, trailingZeros}
 use mathlib.Core.Bool.{true}
 use mathlib.Core.List.{List, [], _∷_}
@@ -9,9 +9,11 @@ use Rattle.demands.proofs.BlocksChecked.{decoded}
 use Rattle.demands.proofs.Checking.{Check, both, by}
 use Rattle.demands.proofs.LinesChecked.{lineIs, plateLineIs}
 use Rattle.demands.proofs.PlatesChecked.{accepted}
+use Rattle.demands.proofs.QuestionsChecked.{explained, judged}
 use Rattle.demands.proofs.RefusalsChecked.{refused}
 use Rattle.demands.proofs.WordsChecked.{answered, encoded, readBack}
-use Rattle.demands.specs.Examples.{AllRight, Exactly, Example, Right, accepts, asks, decodes, encodes, end-line, examples, plate-line, profile-line, reads, refuses, word-line}
+use Rattle.demands.specs.Examples.{AllRight, Exactly, Example, Right, examples}
+use Rattle.demands.specs.Examples.{accepts, asks, decodes, encodes, end-line, explains, judges, plate-line, profile-line, reads, refuses, word-line}
 use Rattle.listings.specs.Decimal.{decimal, signed}
 use Rattle.listings.specs.Lines.{endLine, plateLine, profileLine, wordLine}
 use Rattle.listings.specs.Writing.{entriesOf}
@@ -28,12 +30,15 @@ exactly Promise reply determined holds r = ((λ x. determined r reply x holds), 
 
 -- the test of an entry
 abbrev pub entry : (e : Example) → Check (Right e)
-entry (accepts n kind rows plate) = by (exactly (Prepares n kind rows) _ (prepare-determined n kind rows)) (accepted n kind rows plate)
-entry (refuses n kind rows q) = by (exactly (Prepares n kind rows) _ (prepare-determined n kind rows)) (refused n kind rows q)
-entry (asks plate depth state bit r) = by (exactly (Branches plate depth state bit) r (branch-determined plate depth state bit)) (answered plate depth state bit r)
+entry (accepts n kind rows mask plate) = by (exactly (Prepares n kind rows mask) _ (prepare-determined n kind rows mask)) (accepted n kind rows mask plate)
+entry (refuses n kind rows mask q) = by (exactly (Prepares n kind rows mask) _ (prepare-determined n kind rows mask)) (refused n kind rows mask q)
+entry (asks plate depth state bit r) =
+    by (exactly (Branches plate depth state bit) r (branch-determined plate depth state bit)) (answered plate depth state bit r)
 entry (encodes plate information r) = by (exactly (Encodes plate information) r (encode-determined plate information)) (encoded plate information r)
 entry (reads plate word r) = by (exactly (ReadsBack plate word) r (read-back-determined plate word)) (readBack plate word r)
 entry (decodes plate samples a) = decoded plate samples a
+entry (judges plate samples position flag) = judged plate samples position flag
+entry (explains plate samples w reason) = explained plate samples w reason
 entry (plate-line plate line) = plateLineIs plate (plateLine (plate .n) (plate .k) (entriesOf plate)) line
 entry (profile-line plate line) = plateLineIs plate (profileLine (entriesOf plate)) line
 entry (word-line plate a line) =
@@ -45,7 +50,7 @@ abbrev pub entries : (es : List Example) → Check (AllRight es)
 entries [] = record { test = true; law = λ t. tt }
 entries (e ∷ es) = both (entry e) (entries es)
 
--- every example that the paper marks P
+-- every example that the paper marks P, and those of the masked sheet
 pub examples-right : AllRight examples
 unfolding first last trailingZeros leadingZeros withRow withActive plateLine profileLine wordLine endLine decimal signed ones onesIn
 examples-right = entries examples .law tt

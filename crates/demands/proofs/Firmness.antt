@@ -21,7 +21,7 @@ use Rattle.demands.specs.Refusing.{Numbered, RefusesExactly}
 use Rattle.plates.proofs.Refusing.{never-both}
 use Rattle.plates.specs.declared.Plate.{Plate}
 use Rattle.plates.specs.declared.Refusal.{Refusal}
-use Rattle.plates.specs.Prepare.{IsPrepared}
+use Rattle.plates.specs.Prepare.{IsPrepared, IsWord}
 use Rattle.plates.specs.Refusals.{Passes, number}
 use Rattle.words.specs.Word.{bit}
 use Rattle.decoding.specs.declared.Decoded.the-variants as D
@@ -32,8 +32,9 @@ module _ (plate : Plate) (samples : List ℤ) (position : ℕ) (metrics : List �
   firmness-numbers = (its-number, (its-number, ((λ q c. ap number (c .is)), (its-number, (its-number, (its-number, tt))))))
 
   -- where none of them holds: a prepared plate, n samples within the limit, a position below n, and rooms that are long enough
-  pub firmness-passes : IsPrepared plate → length samples ≡ plate .n → ((i : ℕ) → i < length samples → natAbs (getD samples i (pos 0)) ≤ limit) → position < plate .n
-      → metricNeed plate ≤ length metrics → decisionNeed plate ≤ length decisions → Passes (firmnessConditions plate samples position metrics decisions)
+  pub firmness-passes : IsPrepared plate → length samples ≡ plate .n → ((i : ℕ) → i < length samples → natAbs (getD samples i (pos 0)) ≤ limit)
+      → position < plate .n → metricNeed plate ≤ length metrics → decisionNeed plate ≤ length decisions
+      → Passes (firmnessConditions plate samples position metrics decisions)
   firmness-passes p size within there m d = (
     (λ q c. c .0 p),
     (
@@ -86,8 +87,9 @@ module _ (plate : Plate) (samples : List ℤ) (position : ℕ) (metrics : List �
     -- an open margin lies within 262,016 either way
     pub firmness-margin : (f : Flag) → r ≡ Found f → isFixed (f .reading) ≡ false → natAbs (value (f .reading)) ≤ 262016
     firmness-margin f e o =
-        margin-bounds plate samples position metrics decisions metrics′ decisions′ f (subst (Judges plate samples position metrics decisions metrics′ decisions′) e p) o
+        margin-bounds plate samples position metrics decisions metrics′ decisions′ f
+        (subst (Judges plate samples position metrics decisions metrics′ decisions′) e p) o
 
   -- no position is both fixed and open
-  pub fixed-or-open : (b m : ℤ) → Always plate position b → Margin plate samples position m → ⊥
+  pub fixed-or-open : (b m : ℤ) → Always (IsWord plate) position b → Margin (IsWord plate) samples position m → ⊥
   fixed-or-open = not-both-readings plate samples position

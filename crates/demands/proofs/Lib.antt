@@ -6,11 +6,14 @@ pub mod Determined
 pub mod Firmness
 pub mod Apart
 pub mod WhyNot
+pub mod Masks
+pub mod ZeroMasks
 pub mod Checking
 pub mod CodeWords
 pub mod PlatesChecked
 pub mod RefusalsChecked
 pub mod WordsChecked
 pub mod BlocksChecked
+pub mod QuestionsChecked
 pub mod LinesChecked
 pub mod ExamplesRight

@@ -71,9 +71,11 @@ module _ (plate : Plate) where
     pub positive : 1 ≤ plate .n
     pub short : plate .n ≤ 64
     pub few : plate .k ≤ 64
+    pub masked : plate .mask < 2 ^ plate .n
     pub table : length (plate .rows) ≡ 64
     pub entries : length (plate .profile) ≡ 65
-    pub row : (j : ℕ) → j < length (rowsOf plate) → (0 < getD (rowsOf plate) j 0) × ((getD (rowsOf plate) j 0 < 2 ^ 64) × (getD (rowsOf plate) j 0 < 2 ^ plate .n))
+    pub row : (j : ℕ) → j < length (rowsOf plate)
+        → (0 < getD (rowsOf plate) j 0) × ((getD (rowsOf plate) j 0 < 2 ^ 64) × (getD (rowsOf plate) j 0 < 2 ^ plate .n))
     pub two : (j : ℕ) → j < length (rowsOf plate) → (i : ℕ) → i < j → Apart₂ (getD (rowsOf plate) i 0) (getD (rowsOf plate) j 0)
     pub depth : (t : ℕ) → t < suc (plate .n) → (getD (plate .profile) t 0 ≡ liveAt (rowsOf plate) t) × (liveAt (rowsOf plate) t ≤ 12)
     pub no-rows : (i : ℕ) → getD (drop (plate .k) (plate .rows)) i 0 ≡ 0
@@ -86,8 +88,9 @@ module _ (plate : Plate) where
         positive = p .0 .0;
         short = p .0 .1 .0;
         few = p .0 .1 .1 .0;
-        table = p .0 .1 .1 .1 .0;
-        entries = p .0 .1 .1 .1 .1;
+        masked = p .0 .1 .1 .1 .0;
+        table = p .0 .1 .1 .1 .1 .0;
+        entries = p .0 .1 .1 .1 .1 .1;
         row = p .1 .0;
         two = p .1 .1 .0;
         depth = p .1 .1 .1 .0;
@@ -95,7 +98,10 @@ module _ (plate : Plate) where
         no-entries = p .1 .1 .1 .1 .1;
       })
       (both
-      (both (atMost 1 (plate .n)) (both (atMost (plate .n) 64) (both (atMost (plate .k) 64) (both (equal (length (plate .rows)) 64) (equal (length (plate .profile)) 65)))))
+      (both (atMost 1 (plate .n))
+      (both (atMost (plate .n) 64)
+      (both (atMost (plate .k) 64)
+      (both (less (plate .mask) (2 ^ plate .n)) (both (equal (length (plate .rows)) 64) (equal (length (plate .profile)) 65))))))
       (both (each (length (rowsOf plate)) (λ j. goodRow (plate .n) (getD (rowsOf plate) j 0)))
       (both (each (length (rowsOf plate)) (λ j. each j (λ i. goodPair (getD (rowsOf plate) i 0) (getD (rowsOf plate) j 0))))
       (both (each (suc (plate .n)) (λ t. both (equal (getD (plate .profile) t 0) (liveAt (rowsOf plate) t)) (atMost (liveAt (rowsOf plate) t) 12)))
@@ -107,6 +113,7 @@ module _ (plate : Plate) where
     positive = p .positive;
     short = p .short;
     few = p .few;
+    masked = p .masked;
     table = p .table;
     below = λ j h.
         subst (λ (x : ℕ). x < 2 ^ plate .n) (used-row plate j h) (p .row j (omega (arith, used-rows plate (p .few) (p .table))) .1 .1);
@@ -125,11 +132,16 @@ isPrepared plate = by (λ p. prepared (tested-sound plate p)) (tested plate)
 -- ---- a matrix is accepted with a plate
 
 module _ (kind : Kind) (rows : List ℕ) (plate : Plate) where
-  -- refusals 1 to 4 do not meet it
+  -- refusals 1 to 3, 23 and 4 do not meet it
   passes : IsPrepared plate → length rows ≤ 64 → ((j : ℕ) → j < length rows → getD rows j 0 < 2 ^ plate .n)
-      → PlateOf (InCode kind (plate .n) rows) (plate .n) plate → Passes (prepareConditions (plate .n) kind rows)
-  passes p few low a =
-      (p .same .reply .0 .0, ((λ q b. omega (arith, b .0, few)), ((λ q w. omega (arith, w .over, low (w .row) (w .there))), (wide, tt))))
+      → PlateOf (InCode kind (plate .n) rows) (plate .n) (plate .mask) plate → Passes (prepareConditions (plate .n) kind rows (plate .mask))
+  passes p few low a = (
+    p .same .reply .0 .0,
+    (
+      (λ q b. omega (arith, b .0, few)),
+      ((λ q w. omega (arith, w .over, low (w .row) (w .there))), ((λ q m. omega (arith, m .0, sound p .masked)), (wide, tt))),
+    ),
+  )
     where
       wide : (q : Refusal) → Wide (InCode kind (plate .n) rows) (plate .n) q → ⊥
       wide q w =
@@ -139,15 +151,21 @@ module _ (kind : Kind) (rows : List ℕ) (plate : Plate) where
 
   -- a sound plate whose rows generate the code is what preparing replies
   pub accepted-with : IsPrepared plate → length rows ≤ 64 → ((j : ℕ) → j < length rows → getD rows j 0 < 2 ^ plate .n)
-      → ((w : ℕ) → InCode kind (plate .n) rows w ↔ IsSum (rowsOf plate) w) → Prepares (plate .n) kind rows (record { verdict = Accepted; plate = plate })
+      → ((w : ℕ) → InCode kind (plate .n) rows w ↔ IsSum (rowsOf plate) w)
+      → Prepares (plate .n) kind rows (plate .mask) (record { verdict = Accepted; plate = plate })
   accepted-with p few low e =
-      let a = plate-same (IsSum (rowsOf plate)) (InCode kind (plate .n) rows) (λ w. Iff·symm (e w)) (plate .n) plate (p .same .reply .1) in record { reply = (passes p few low a, a) }
+      let a = plate-same (IsSum (rowsOf plate)) (InCode kind (plate .n) rows) (λ w. Iff·symm (e w)) (plate .n) (plate .mask) plate (p .same .reply .1) in
+      record { reply = (passes p few low a, a) }
 
--- the test of a matrix with its plate
-abbrev pub accepted : (n : ℕ) (kind : Kind) (rows : List ℕ) (plate : Plate) → Check (Prepares n kind rows (record { verdict = Accepted; plate = plate }))
-accepted n kind rows plate =
-    by (λ p. subst (λ (x : ℕ). Prepares x kind rows (record { verdict = Accepted; plate = plate })) (p .0) (accepted-with kind rows plate (p .1 .0) (p .1 .1 .0) (p .1 .1 .1 .0) (p .1 .1 .1 .1)))
-    (both (equal (plate .n) n)
+-- the test of a matrix and a mask with their plate
+abbrev pub accepted : (n : ℕ) (kind : Kind) (rows : List ℕ) (mask : ℕ) (plate : Plate)
+    → Check (Prepares n kind rows mask (record { verdict = Accepted; plate = plate }))
+accepted n kind rows mask plate =
+    by (λ p.
+    subst (λ (x : ℕ). Prepares x kind rows mask (record { verdict = Accepted; plate = plate })) (p .0 .0)
+    (subst (λ (x : ℕ). Prepares (plate .n) kind rows x (record { verdict = Accepted; plate = plate })) (p .0 .1)
+    (accepted-with kind rows plate (p .1 .0) (p .1 .1 .0) (p .1 .1 .1 .0) (p .1 .1 .1 .1))))
+    (both (both (equal (plate .n) n) (equal (plate .mask) mask))
     (both (isPrepared plate)
     (both (atMost (length rows) 64)
     (both (each (length rows) (λ j. less (getD rows j 0) (2 ^ plate .n))) (sameCode kind (plate .n) rows (rowsOf plate))))))

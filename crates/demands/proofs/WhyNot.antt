@@ -20,16 +20,16 @@ use Rattle.decoding.specs.Decode.{Decodes, decisionNeed, decodeConditions, metr
 use Rattle.demands.proofs.Demand1.{decode-numbers}
 use Rattle.demands.specs.Refusing.{Numbered, RefusesExactly}
 use Rattle.plates.proofs.Refusing.{never-both}
-use Rattle.plates.specs.Code.{InCode}
+use Rattle.plates.specs.Code.{InCode, Masked}
 use Rattle.plates.specs.declared.Kind.{Kind}
 use Rattle.plates.specs.declared.Plate.{Plate}
 use Rattle.plates.specs.declared.Prepared.{Prepared}
 use Rattle.plates.specs.declared.Refusal.{Refusal}
 use Rattle.plates.specs.declared.Verdict.the-variants.{Accepted}
-use Rattle.plates.specs.Prepare.{IsPrepared, Prepares, rowsOf}
+use Rattle.plates.specs.Prepare.{IsPrepared, IsWord, Prepares}
 use Rattle.plates.specs.Refusals.{Passes}
-use Rattle.trellises.proofs.AcceptedIsPrepared.{accepted-code, accepted-length}
-use Rattle.words.specs.Sum.{IsSum}
+use Rattle.trellises.proofs.AcceptedIsPrepared.{accepted-length}
+use Rattle.trellises.proofs.WordsTrellis.{accepted-words}
 use Rattle.words.specs.Word.{bit}
 use Rattle.decoding.specs.declared.Decoded.the-variants as D
 
@@ -84,25 +84,25 @@ module _ (plate : Plate) (samples : List ℤ) (a : Answer) (asked : Asked plate 
   pub difference-lies : (d : ℤ) → Less plate samples a w d → (pos 0 <ℤ d) × (natAbs d ≤ 262016)
   difference-lies = difference-bounds plate samples a asked w
 
--- ---- over the code of a matrix that preparing accepts
+-- ---- over the words that a mask makes of the code of a matrix, where preparing both accepts
 
-module _ (n : ℕ) (kind : Kind) (rows : List ℕ) (r : Prepared) (p : Prepares n kind rows r) (e : r .verdict ≡ Accepted) (w position : ℕ)
+module _ (n : ℕ) (kind : Kind) (rows : List ℕ) (mask : ℕ) (r : Prepared) (p : Prepares n kind rows mask r) (e : r .verdict ≡ Accepted) (w position : ℕ)
     (x : NoCodewordAt (r .plate) w position) where
-  -- the word is not in the code
-  pub told-no-codeword : InCode kind n rows w → ⊥
-  told-no-codeword c = x .none (accepted-code n kind rows r p e w .0 c)
+  -- the word is not among them
+  pub told-no-codeword : Masked (InCode kind n rows) mask w → ⊥
+  told-no-codeword c = x .none (accepted-words n kind rows mask r p e w .0 c)
 
-  -- at every earlier position some codeword continues its beginning
-  pub continued-sooner : (i : ℕ) → i < position → (c : ℕ) × InCode kind n rows c × ((j : ℕ) → j ≤ i → bit c j ≡ bit w j)
-  continued-sooner i h = let s = x .sooner i h in (s .by, accepted-code n kind rows r p e (s .by) .1 (s .codeword), s .same)
+  -- at every earlier position one of them continues its beginning
+  pub continued-sooner : (i : ℕ) → i < position → (c : ℕ) × Masked (InCode kind n rows) mask c × ((j : ℕ) → j ≤ i → bit c j ≡ bit w j)
+  continued-sooner i h = let s = x .sooner i h in (s .by, accepted-words n kind rows mask r p e (s .by) .1 (s .codeword), s .same)
 
   -- at this one, if it is below n, none does
-  pub continued-no-more : position < n → (c : ℕ) → InCode kind n rows c → ((j : ℕ) → j ≤ position → bit c j ≡ bit w j) → ⊥
+  pub continued-no-more : position < n → (c : ℕ) → Masked (InCode kind n rows) mask c → ((j : ℕ) → j ≤ position → bit c j ≡ bit w j) → ⊥
   continued-no-more h c g same =
-      x .stops (subst (λ (m : ℕ). position < m) (sym (accepted-length n kind rows r p e)) h)
-      (record { by = c; codeword = accepted-code n kind rows r p e c .0 g; same = same })
+      x .stops (subst (λ (m : ℕ). position < m) (sym (accepted-length n kind rows mask r p e)) h)
+      (record { by = c; codeword = accepted-words n kind rows mask r p e c .0 g; same = same })
 
--- a word is no codeword at n exactly if some codeword has its bits below n, and it has a one at n or beyond
-pub no-codeword-at-n : (plate : Plate) → IsPrepared plate → (w c : ℕ) → IsSum (rowsOf plate) c → ((i : ℕ) → i < plate .n → bit c i ≡ bit w i)
+-- where some word of the plate has its bits below n, a word is no codeword at n exactly if it has a one at n or beyond
+pub no-codeword-at-n : (plate : Plate) → IsPrepared plate → (w c : ℕ) → IsWord plate c → ((i : ℕ) → i < plate .n → bit c i ≡ bit w i)
     → NoCodewordAt plate w (plate .n) ↔ (2 ^ plate .n ≤ w)
 no-codeword-at-n plate given w c g same = (at-n-beyond given w, beyond-at-n given w c g same)

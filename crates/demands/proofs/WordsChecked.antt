@@ -1,25 +1,25 @@
 -- Tests of the replies of branch, encode and read back.
 use lib.ListN.{length}
 use mathlib.Core.Logic.{inl, inr, _⊎_}
-use mathlib.Core.Path.{refl}
+use mathlib.Core.Path.{refl, subst}
 use native.Mathlib.Omega.{arith}
 use Prim.Native.Nat.{_<_, _^_, ℕ, _≤_}
-use Rattle.coding.specs.Coding.{Encodes, ReadsBack}
+use Rattle.coding.proofs.PlateWords.{made-is-word}
+use Rattle.coding.specs.Coding.{Encodes, ReadsBack, wordOf}
 use Rattle.coding.specs.declared.Encoded.{Encoded}
 use Rattle.coding.specs.declared.ReadBack.{ReadBack}
 use Rattle.demands.proofs.Checking.{Check, atMost, both, by, each, either, equal, less, some, unequal}
-use Rattle.demands.proofs.CodeWords.{sums}
+use Rattle.demands.proofs.CodeWords.{plateWords}
 use Rattle.demands.proofs.PlatesChecked.{isPrepared}
 use Rattle.demands.proofs.RefusalsChecked.{refusal}
 use Rattle.plates.specs.declared.Plate.{Plate}
 use Rattle.plates.specs.declared.Refusal.the-variants.{Information, NoCodeword, NoSuchBranch}
-use Rattle.plates.specs.Prepare.{IsPrepared, rowsOf}
+use Rattle.plates.specs.Prepare.{IsPrepared, IsWord, rowsOf}
 use Rattle.plates.specs.Profile.{liveAt}
 use Rattle.plates.specs.Refusals.{Passes}
 use Rattle.trellises.specs.Branching.{Branches, branchConditions, trellisOf}
 use Rattle.trellises.specs.declared.Next.{Next}
 use Rattle.trellises.specs.Graph.{Has, branchAt}
-use Rattle.words.specs.Sum.{sumOf}
 use Rattle.coding.specs.declared.Encoded.the-variants as E
 use Rattle.coding.specs.declared.ReadBack.the-variants as R
 use Rattle.trellises.specs.declared.Next.the-variants as N
@@ -70,11 +70,11 @@ module _ (plate : Plate) (depth state bit : ℕ) where
 
 -- ---- encode
 
--- the codeword, or refusal 13
+-- the word, or refusal 13
 abbrev pub encoded : (plate : Plate) (information : ℕ) (r : Encoded) → Check (Encodes plate information r)
 encoded plate information (E.Word word) =
     by (λ p. (((λ q c. c .0 (p .0)), ((λ q c. omega (arith, c .0, p .1 .0)), tt)), p .1 .1))
-    (both (isPrepared plate) (both (less information (2 ^ plate .k)) (equal word (sumOf (rowsOf plate) information))))
+    (both (isPrepared plate) (both (less information (2 ^ plate .k)) (equal word (wordOf plate information))))
 encoded plate information (E.Refused q) =
     by (λ p. inr ((λ x c. c .0 (p .0)), inl (p .1))) (both (isPrepared plate) (both (atMost (2 ^ plate .k) information) (refusal q Information)))
 
@@ -83,8 +83,8 @@ encoded plate information (E.Refused q) =
 -- the information, or refusal 14
 abbrev pub readBack : (plate : Plate) (word : ℕ) (r : ReadBack) → Check (ReadsBack plate word r)
 readBack plate word (R.Information information) =
-    by (λ p. (((λ q c. c .0 (p .0)), ((λ q c. c .0 (record { by = information; sum = p .1 .1 })), tt)), p .1 .0, p .1 .1))
-    (both (isPrepared plate) (both (less information (2 ^ plate .k)) (equal (sumOf (rowsOf plate) information) word)))
+    by (λ p. (((λ q c. c .0 (p .0)), ((λ q c. c .0 (subst (IsWord plate) (p .1 .1) (made-is-word plate information))), tt)), p .1 .0, p .1 .1))
+    (both (isPrepared plate) (both (less information (2 ^ plate .k)) (equal (wordOf plate information) word)))
 readBack plate word (R.Refused q) =
     by (λ p. inr ((λ x c. c .0 (p .0)), inl ((λ g. p .1 .0 word g refl), p .1 .1)))
-    (both (isPrepared plate) (both (sums (rowsOf plate) (λ w. unequal w word)) (refusal q NoCodeword)))
+    (both (isPrepared plate) (both (plateWords plate (λ w. unequal w word)) (refusal q NoCodeword)))

@@ -1,32 +1,41 @@
--- The examples that the paper marks P, as one table: each entry names a call, its inputs and the reply. One statement says of every entry
--- that a reply meets the promise of its call exactly if it is the one in the table.
+-- The examples that the paper marks P, and those of its sheet with a mask (document 02, A11), as one table: each entry names a call, its
+-- inputs and the reply. One statement says of every entry that a reply meets the promise of its call exactly if it is the one in the table.
 use lib.IntN.{negℤ, pos, ℤ}
 use lib.ListN.{drop, length, replicate}
 use mathlib.Core.List.{_++_, List, [], _∷_}
 use mathlib.Core.Logic.{_↔_}
 use mathlib.Core.Path.{_≡_}
 use Prim.Native.Nat.{_-_, ℕ, _≤_}
+use Rattle.asking.specs.Asking.{Asks}
+use Rattle.asking.specs.declared.Reason.{Reason}
+use Rattle.asking.specs.declared.Reason.the-variants.{Chosen, ScoresLess, TiesAndLoses}
+use Rattle.asking.specs.declared.Verdict.the-variants.{Explained}
 use Rattle.coding.specs.Coding.{Encodes, ReadsBack}
 use Rattle.coding.specs.declared.Encoded.{Encoded}
 use Rattle.coding.specs.declared.ReadBack.{ReadBack}
 use Rattle.decoding.specs.declared.Answer.{Answer}
-use Rattle.decoding.specs.declared.Decoded.{Decoded}
 use Rattle.decoding.specs.declared.Decoded.the-variants.{Found}
+use Rattle.decoding.specs.declared.firmness.Flag.{Flag}
+use Rattle.decoding.specs.declared.firmness.Reading.the-variants.{Open}
 use Rattle.decoding.specs.Decode.{Decodes, decisionNeed, metricNeed}
+use Rattle.decoding.specs.Firmness.{Judges}
+use Rattle.demands.specs.Masks.{withMask}
 use Rattle.listings.specs.declared.Written.{Written}
 use Rattle.listings.specs.Writing.{WritesEnd, WritesPlate, WritesProfile, WritesWord}
 use Rattle.plates.specs.declared.Kind.{Kind}
 use Rattle.plates.specs.declared.Kind.the-variants.{G, H}
 use Rattle.plates.specs.declared.Plate.{Plate}
 use Rattle.plates.specs.declared.Refusal.{Refusal}
-use Rattle.plates.specs.declared.Refusal.the-variants.{Information, Length, NoCodeword, NoSuchBranch, RowBeyond}
+use Rattle.plates.specs.declared.Refusal.the-variants.{Information, Length, MaskBeyond, NoCodeword, NoSuchBranch, RowBeyond}
 use Rattle.plates.specs.declared.Verdict.the-variants.{Accepted}
 use Rattle.plates.specs.Prepare.{Prepares}
 use Rattle.plates.specs.Replying.{refusedWith}
 use Rattle.trellises.specs.Branching.{Branches}
 use Rattle.trellises.specs.declared.Next.{Next}
+use Rattle.asking.specs.declared.Reason.the-variants as Y
 use Rattle.coding.specs.declared.Encoded.the-variants as E
 use Rattle.coding.specs.declared.ReadBack.the-variants as R
+use Rattle.decoding.specs.declared.firmness.Judged.the-variants as J
 use Rattle.trellises.specs.declared.Next.the-variants as N
 use Rattle.listings.specs.declared.Written.the-variants as W
 
@@ -34,10 +43,10 @@ use Rattle.listings.specs.declared.Written.the-variants as W
 
 -- a call with its inputs, and the reply
 pub data Example : Type 0 where
-  -- prepare accepts: n, kind and rows; the plate
-  accepts : ℕ → Kind → List ℕ → Plate → Example
-  -- prepare refuses: n, kind and rows; the refusal
-  refuses : ℕ → Kind → List ℕ → Refusal → Example
+  -- prepare accepts: n, kind, rows and mask; the plate
+  accepts : ℕ → Kind → List ℕ → ℕ → Plate → Example
+  -- prepare refuses: n, kind, rows and mask; the refusal
+  refuses : ℕ → Kind → List ℕ → ℕ → Refusal → Example
   -- branch: a plate, depth, state and bit; the reply
   asks : Plate → ℕ → ℕ → ℕ → Next → Example
   -- encode: a plate and information; the reply
@@ -46,6 +55,10 @@ pub data Example : Type 0 where
   reads : Plate → ℕ → ReadBack → Example
   -- decode, with rooms that are long enough: a plate and samples; the word, its metric and the counts
   decodes : Plate → List ℤ → Answer → Example
+  -- firmness, with such rooms: a plate, samples and a position; the flag
+  judges : Plate → List ℤ → ℕ → Flag → Example
+  -- why not, with such rooms: a plate, samples and a word; the reason
+  explains : Plate → List ℤ → ℕ → Reason → Example
   -- write the line plate, profile, word or end, with a room that is long enough: its values; the bytes
   plate-line : Plate → List ℕ → Example
   profile-line : Plate → List ℕ → Example
@@ -63,20 +76,22 @@ abbrev pub Writing : (List ℕ → Written → List ℕ → Type 0) → List ℕ
 Writing Promise line = (room : List ℕ) → length line ≤ length room
     → Exactly (λ (x : Written × List ℕ). Promise room (x .0) (x .1)) (W.Length (length line), line ++ drop (length line) room)
 
--- a decode, with any rooms that are long enough: the answer is found, and the needed room is zero after it
-abbrev pub Decoding : Plate → List ℤ → Answer → Type 0
-Decoding plate samples a = (metrics : List ℤ) (decisions : List ℕ) → metricNeed plate ≤ length metrics → decisionNeed plate ≤ length decisions
-    → Exactly (λ (x : Decoded × List ℤ × List ℕ). Decodes plate samples metrics decisions (x .1) (x .2) (x .0))
-    (Found a, replicate (metricNeed plate) (pos 0) ++ drop (metricNeed plate) metrics, replicate (decisionNeed plate) 0 ++ drop (decisionNeed plate) decisions)
+-- a call that is lent the two working rooms, with any that are long enough: its reply, and the needed room is zero after it
+abbrev pub InRooms : {R : Type 0} → Plate → (List ℤ → List ℕ → List ℤ → List ℕ → R → Type 0) → R → Type 0
+InRooms {R} plate Promise reply = (metrics : List ℤ) (decisions : List ℕ) → metricNeed plate ≤ length metrics → decisionNeed plate ≤ length decisions
+    → Exactly (λ (x : R × List ℤ × List ℕ). Promise metrics decisions (x .1) (x .2) (x .0))
+    (reply, replicate (metricNeed plate) (pos 0) ++ drop (metricNeed plate) metrics, replicate (decisionNeed plate) 0 ++ drop (decisionNeed plate) decisions)
 
 -- what an entry says
 abbrev pub Right : Example → Type 0
-Right (accepts n kind rows plate) = Exactly (Prepares n kind rows) (record { verdict = Accepted; plate = plate })
-Right (refuses n kind rows q) = Exactly (Prepares n kind rows) (refusedWith q)
+Right (accepts n kind rows mask plate) = Exactly (Prepares n kind rows mask) (record { verdict = Accepted; plate = plate })
+Right (refuses n kind rows mask q) = Exactly (Prepares n kind rows mask) (refusedWith q)
 Right (asks plate depth state bit reply) = Exactly (Branches plate depth state bit) reply
 Right (encodes plate information reply) = Exactly (Encodes plate information) reply
 Right (reads plate word reply) = Exactly (ReadsBack plate word) reply
-Right (decodes plate samples a) = Decoding plate samples a
+Right (decodes plate samples a) = InRooms plate (Decodes plate samples) (Found a)
+Right (judges plate samples position flag) = InRooms plate (Judges plate samples position) (J.Found flag)
+Right (explains plate samples w reason) = InRooms plate (Asks plate samples w) (Explained reason)
 Right (plate-line plate line) = Writing (WritesPlate plate) line
 Right (profile-line plate line) = Writing (WritesProfile plate) line
 Right (word-line plate a line) = Writing (WritesWord plate (a .word) (a .metric) (a .counts .additions) (a .counts .comparisons)) line
@@ -89,11 +104,12 @@ AllRight (e ∷ es) = Right e × AllRight es
 
 -- ---- the table
 
--- a plate of length n with these rows and profile, and zero in the unused places
+-- a plate of length n with these rows and profile, a zero mask, and zero in the unused places
 abbrev pub plateWith : ℕ → List ℕ → List ℕ → Plate
 plateWith n rows profile = record {
   n = n;
   k = length rows;
+  mask = 0;
   rows = rows ++ replicate (64 - length rows) 0;
   profile = profile ++ replicate (65 - length profile) 0;
 }
@@ -141,21 +157,21 @@ sheetAnswer = answer 15 (pos 19) 44 11
 -- the codes and their decoded blocks
 abbrev pub codes : List Example
 codes =
-    accepts 1 G [] zeroPlate1
+    accepts 1 G [] 0 zeroPlate1
     ∷ decodes zeroPlate1 (minus 5 ∷ []) (answer 0 (minus 5) 1 0)
-    ∷ accepts 1 H [] fullPlate1
+    ∷ accepts 1 H [] 0 fullPlate1
     ∷ decodes fullPlate1 (minus 5 ∷ []) (answer 1 (pos 5) 2 1)
-    ∷ accepts 3 H (7 ∷ []) evenPlate3
+    ∷ accepts 3 H (7 ∷ []) 0 evenPlate3
     ∷ decodes evenPlate3 (minus 1 ∷ minus 1 ∷ minus 1 ∷ []) (answer 6 (pos 1) 8 3)
-    ∷ accepts 3 G (7 ∷ []) repeatPlate3
+    ∷ accepts 3 G (7 ∷ []) 0 repeatPlate3
     ∷ decodes repeatPlate3 (pos 2 ∷ minus 1 ∷ minus 1 ∷ []) (answer 0 (pos 0) 6 1)
     ∷ []
 
 -- the sheet, its plate as G and as H, and its listing: plate 8 4 3, profile 0 1 2 3 2 3 2 1 0, word 11110000 19 44 11, end 1
 abbrev pub sheet : List Example
 sheet =
-    accepts 8 G sheetRows sheetPlate
-    ∷ accepts 8 H sheetRows sheetPlate
+    accepts 8 G sheetRows 0 sheetPlate
+    ∷ accepts 8 H sheetRows 0 sheetPlate
     ∷ decodes sheetPlate sheetBlock sheetAnswer
     ∷ plate-line sheetPlate (112 ∷ 108 ∷ 97 ∷ 116 ∷ 101 ∷ 9 ∷ 56 ∷ 9 ∷ 52 ∷ 9 ∷ 51 ∷ 10 ∷ [])
     ∷ profile-line sheetPlate
@@ -186,8 +202,76 @@ words =
 
 -- n=8, a row of 256: refusal 3, place 0; n=0 and n=65: 1
 abbrev pub refusals : List Example
-refusals = refuses 8 G (256 ∷ []) (RowBeyond 0) ∷ refuses 0 G [] Length ∷ refuses 65 G [] Length ∷ []
+refusals = refuses 8 G (256 ∷ []) 0 (RowBeyond 0) ∷ refuses 0 G [] 0 Length ∷ refuses 65 G [] 0 Length ∷ []
 
--- all of them
+-- ---- the sheet with the mask 10000001 (document 02, A11)
+
+-- its plate: that of the sheet but for the mask
+abbrev pub maskedPlate : Plate
+maskedPlate = withMask 129 sheetPlate
+
+-- word 01000010, 21, 44, 11
+abbrev pub maskedAnswer : Answer
+maskedAnswer = answer 66 (pos 21) 44 11
+
+-- eight samples of zero: every word has the metric 0
+abbrev pub zeroBlock : List ℤ
+zeroBlock = replicate 8 (pos 0)
+
+-- a position and its margin
+abbrev pub openFlag : ℕ → ℤ → Flag
+openFlag position margin = record { position = position; reading = Open margin }
+
+-- the plate, as G and as H; the block; of the zero samples the earliest word, 00010111, which is not the earliest codeword plus mask; the listing's
+-- line word 01000010 21 44 11
+abbrev pub maskedSheet : List Example
+maskedSheet =
+    accepts 8 G sheetRows 129 maskedPlate
+    ∷ accepts 8 H sheetRows 129 maskedPlate
+    ∷ decodes maskedPlate sheetBlock maskedAnswer
+    ∷ decodes maskedPlate zeroBlock (answer 232 (pos 0) 44 11)
+    ∷ word-line maskedPlate maskedAnswer
+    (119 ∷ 111 ∷ 114 ∷ 100 ∷ 9 ∷ 48 ∷ 49 ∷ 48 ∷ 48 ∷ 48 ∷ 48 ∷ 49 ∷ 48 ∷ 9 ∷ 50 ∷ 49 ∷ 9 ∷ 52 ∷ 52 ∷ 9 ∷ 49 ∷ 49 ∷ 10 ∷ [])
+    ∷ []
+
+-- its branches at depths 0 and 7, where the mask has ones, have the other bit than without it; one at depth 4 has the same
+abbrev pub maskedBranches : List Example
+maskedBranches =
+    asks maskedPlate 0 0 0 (N.State 1)
+    ∷ asks maskedPlate 0 0 1 (N.State 0)
+    ∷ asks maskedPlate 7 0 1 (N.State 0)
+    ∷ asks maskedPlate 7 0 0 N.NoBranch
+    ∷ asks maskedPlate 7 1 0 (N.State 0)
+    ∷ asks maskedPlate 7 1 1 N.NoBranch
+    ∷ asks maskedPlate 4 1 0 (N.State 5)
+    ∷ []
+
+-- information 9 encodes to 01111110, which is read back as 9; 11111111 read back is 14
+abbrev pub maskedWords : List Example
+maskedWords = encodes maskedPlate 9 (E.Word 126) ∷ reads maskedPlate 126 (R.Information 9) ∷ reads maskedPlate 255 (R.Refused NoCodeword) ∷ []
+
+-- 11110000: no word of the plate begins so at position 3; 01000010 was chosen, and with a one at position 8 besides is no word at 8; 10110010
+-- scores less by 4; of the zero samples 10000001 ties and loses at position 0. Positions 0 and 1 are open, with the margins 4 and -4
+abbrev pub maskedQuestions : List Example
+maskedQuestions =
+    explains maskedPlate sheetBlock 15 (Y.NoCodeword 3)
+    ∷ explains maskedPlate sheetBlock 66 Chosen
+    ∷ explains maskedPlate sheetBlock 322 (Y.NoCodeword 8)
+    ∷ explains maskedPlate sheetBlock 77 (ScoresLess (pos 4))
+    ∷ explains maskedPlate zeroBlock 129 (TiesAndLoses 0)
+    ∷ judges maskedPlate sheetBlock 0 (openFlag 0 (pos 4))
+    ∷ judges maskedPlate sheetBlock 1 (openFlag 1 (minus 4))
+    ∷ []
+
+-- a mask of 256 with n=8: 23; a row of 256 is told before it
+abbrev pub maskRefusals : List Example
+maskRefusals = refuses 8 G sheetRows 256 MaskBeyond ∷ refuses 8 G (256 ∷ []) 256 (RowBeyond 0) ∷ []
+
+-- all of these
+abbrev pub maskedExamples : List Example
+maskedExamples = maskedSheet ++ maskedBranches ++ maskedWords ++ maskedQuestions ++ maskRefusals
+
+-- ---- all of them
+
 abbrev pub examples : List Example
-examples = codes ++ sheet ++ branches ++ words ++ refusals
+examples = codes ++ sheet ++ branches ++ words ++ refusals ++ maskedExamples

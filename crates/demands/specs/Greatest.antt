@@ -8,7 +8,7 @@ use Prim.Native.Nat.{ℕ}
 use Rattle.decoding.specs.Metric.{metricOf}
 use Rattle.words.specs.Word.{Earlier}
 
--- Of the code C, the codeword of greatest correlation with the samples, of equals the one with 0 at the first difference, and its metric
+-- Of the words C, the one of greatest correlation with the samples, of equals the one with 0 at the first difference, and its metric
 pub record Greatest (C : ℕ → Type 0) (samples : List ℤ) (word : ℕ) (metric : ℤ) : Type 0 where
   pub codeword : C word
   pub own : metric ≡ metricOf samples word

@@ -1,3 +1,5 @@
 pub mod Refusing
 pub mod Greatest
+pub mod Masks
+pub mod Unmasked
 pub mod Examples

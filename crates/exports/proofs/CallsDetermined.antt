@@ -51,9 +51,9 @@ SameCell r s a b = _≡_ {A = Crossing (List ℕ)} (record { code = r; cells = a
 abbrev pub SameRuns : ℕ → ℕ → List ℕ → List ℕ → List ℕ → List ℕ → Type 0
 SameRuns r s a b c d = _≡_ {A = Crossing (List ℕ × List ℕ)} (record { code = r; cells = (a, b) }) (record { code = s; cells = (c, d) })
 
-pub prepare-call-determined : (n kind : ℕ) (rows run at : List ℕ) (r s : ℕ) (a b c d : List ℕ) → CallsPrepare n kind rows run at r a b → CallsPrepare n kind rows run at s c d
-    → SameRuns r s a b c d
-prepare-call-determined n kind rows run at r s a b c d = calls-determined (prepare-determined n (kindOf kind) rows)
+pub prepare-call-determined : (n kind : ℕ) (rows : List ℕ) (mask : ℕ) (run at : List ℕ) (r s : ℕ) (a b c d : List ℕ)
+    → CallsPrepare n kind rows mask run at r a b → CallsPrepare n kind rows mask run at s c d → SameRuns r s a b c d
+prepare-call-determined n kind rows mask run at r s a b c d = calls-determined (prepare-determined n (kindOf kind) rows mask)
 
 module _ (words cell : List ℕ) (r s : ℕ) (a b : List ℕ) where
   pub branch-call-determined : (depth state digit : ℕ) → CallsBranch words depth state digit cell r a → CallsBranch words depth state digit cell s b

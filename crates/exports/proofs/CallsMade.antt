@@ -53,7 +53,7 @@ kind-other zero n = absurd (n refl)
 kind-other (suc kind) n = refl
 
 module _ (run at : List ℕ) (plate : Plate) {verdict : Verdict} where
-  pub crossed-accepted : {run′ : List ℕ} → verdict ≡ Accepted → run′ ≡ flat plate ++ drop 131 run
+  pub crossed-accepted : {run′ : List ℕ} → verdict ≡ Accepted → run′ ≡ flat plate ++ drop 132 run
       → _≡_ {A = Crossing (List ℕ × List ℕ)} (record { code = done; cells = (run′, set at 0 0) }) (preparedAs run at plate verdict)
   crossed-accepted e laid = ap (λ (l : List ℕ). record { code = done; cells = (l, set at 0 0) }) laid ∙ sym (ap (preparedAs run at plate) e)
 

@@ -17,17 +17,20 @@ use Rattle.exports.specs.Flat.{StandsFor}
 use Rattle.exports.specs.Judging.{CallsFirmness, FirmnessCells, FirmnessShape, FixedFits, Judging, JudgesTo, ReadingPut, firmnessCells, judged, judgedAs}
 use Rattle.plates.specs.declared.Plate.{Plate}
 use Rattle.plates.specs.declared.Refusal.{Refusal}
-use Rattle.plates.specs.Prepare.{rowsOf}
+use Rattle.plates.specs.Prepare.{IsWord, rowsOf}
 use Rattle.words.proofs.Sums.{in-zero}
-use Rattle.words.proofs.Word.{bit-zero}
+use Rattle.words.proofs.Word.{bit-lt, xor-self}
+use Rattle.words.specs.Sum.{IsSum}
 use Rattle.words.specs.Word.{bit}
 
--- a fixed bit is a digit: that of the zero word
-fixed-fits : (plate : Plate) (samples : List ℤ) (position : ℕ) (r : Reading) → Means plate samples position (isFixed r) (value r) → FixedFits r
+-- a fixed bit is a digit: that of the mask, which is a word of the plate
+fixed-fits : (plate : Plate) (samples : List ℤ) (position : ℕ) (r : Reading) → Means (IsWord plate) samples position (isFixed r) (value r)
+    → FixedFits r
 fixed-fits plate samples position (Fixed b) h =
-    let e : pos (bit 0 position) ≡ pos b = h 0 (in-zero (rowsOf plate)) in
-    let f : bit 0 position ≡ b = cc in
-    omega (arith, f, bit-zero position)
+    let own : IsWord plate (plate .mask) = subst (IsSum (rowsOf plate)) (sym (xor-self (plate .mask))) (in-zero (rowsOf plate)) in
+    let e : pos (bit (plate .mask) position) ≡ pos b = h (plate .mask) own in
+    let f : bit (plate .mask) position ≡ b = cc in
+    omega (arith, f, bit-lt position (plate .mask))
 fixed-fits plate samples position (Open margin) h = tt
 
 -- the reading of a flag that is found fits its cells

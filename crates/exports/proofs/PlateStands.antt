@@ -1,6 +1,6 @@
 -- The plate read from a run stands for it: an entry over a byte is in no prepared plate.
-use lib.ListN.{drop, getD, length, set, take}
-use lib.Seq.{drop-at, drop-drop, paste, take-all, take-at}
+use lib.ListN.{drop, getD, length, length-append, set, take}
+use lib.Seq.{drop-at, drop-cons, drop-drop, drop-set-lt, getD-at, getD-set-same, lt-length-set, paste, take-all, take-at}
 use mathlib.Core.List.{_++_, List, [], append-assoc, _∷_}
 use mathlib.Core.Logic.{inr}
 use mathlib.Core.Path.{ap, ap₂, refl, sym, _∙_, _≡_}
@@ -12,14 +12,13 @@ use Rattle.exports.specs.Flat.{EntriesFit, StandsFor, flat, plateOf}
 use Rattle.plates.proofs.SoundIsPrepared.{sound}
 use Rattle.plates.specs.declared.Plate.{Plate}
 use Rattle.plates.specs.Prepare.{IsPrepared}
-use Rattle.trellises.proofs.Digits.{rest}
 
 -- a plate of length 0 is not prepared
 pub empty-not-prepared : {plate : Plate} → plate .n ≡ 0 → IsPrepared plate → ⊥
 empty-not-prepared e p = omega (arith, sound p .positive)
 
 -- the entries of a prepared plate fit bytes
-pub entries-of-prepared : (words : List ℕ) → 131 ≤ length words → IsPrepared (plateOf words) → EntriesFit words
+pub entries-of-prepared : (words : List ℕ) → 132 ≤ length words → IsPrepared (plateOf words) → EntriesFit words
 entries-of-prepared words long p t h = go (decLt (plateOf words .n) t)
   where
     entry : getD words (66 + t) 0 ≡ getD (plateOf words .profile) t 0
@@ -30,7 +29,7 @@ entries-of-prepared words long p t h = go (decLt (plateOf words .n) t)
     go (no l) = omega (arith, entry, sound p .profile t (omega arith), sound p .narrow t (omega arith))
 
 -- where an entry is over a byte, any plate of length 0 stands for the run
-pub stands-empty : (words : List ℕ) (plate : Plate) → 131 ≤ length words → (EntriesFit words → ⊥) → plate .n ≡ 0 → StandsFor words plate
+pub stands-empty : (words : List ℕ) (plate : Plate) → 132 ≤ length words → (EntriesFit words → ⊥) → plate .n ≡ 0 → StandsFor words plate
 stands-empty words plate long over e = record { either = inr (empty-not-prepared e, λ p. over (entries-of-prepared words long p)) }
 
 -- ---- into a run
@@ -52,7 +51,13 @@ headed [] n k h = absurd (omega arith)
 headed (x ∷ []) n k h = absurd (omega arith)
 headed (x ∷ y ∷ run) n k h = refl
 
-module _ (run : List ℕ) (plate : Plate) (rows : length (plate .rows) ≡ 64) (entries : length (plate .profile) ≡ 65) where
+-- the mask's place and what follows it
+masked-tail : (run : List ℕ) (mask : ℕ) → 132 ≤ length run → drop 131 (set run 131 mask) ≡ mask ∷ drop 132 run
+masked-tail run mask h =
+    drop-cons (set run 131 mask) 131 0 (lt-length-set run 131 mask (omega arith))
+    ∙ ap₂ (λ (m : ℕ) (l : List ℕ). m ∷ l) (getD-set-same run 131 mask 0 (omega arith)) (drop-set-lt 132 run 131 mask (omega arith))
+
+module _ (run : List ℕ) (plate : Plate) (rows : length (plate .rows) ≡ 64) (entries : length (plate .profile) ≡ 65) (long : 132 ≤ length run) where
   -- n, k and the rows
   abbrev front : List ℕ
   front = plate .n ∷ plate .k ∷ plate .rows
@@ -61,19 +66,40 @@ module _ (run : List ℕ) (plate : Plate) (rows : length (plate .rows) ≡ 64) (
   front-length = omega (arith, rows)
 
   -- the three steps of putting a plate into a run
-  pub put-whole : (run₁ run₂ run₃ : List ℕ) → run₁ ≡ plate .n ∷ plate .k ∷ drop 2 run → run₂ ≡ paste run₁ 2 (plate .rows) 64 → run₃ ≡ paste run₂ 66 (plate .profile) 65
-      → run₃ ≡ flat plate ++ drop 131 run
+  pub put-whole : (run₁ run₂ run₃ : List ℕ) → run₁ ≡ plate .n ∷ plate .k ∷ drop 2 (set run 131 (plate .mask)) → run₂ ≡ paste run₁ 2 (plate .rows) 64
+      → run₃ ≡ paste run₂ 66 (plate .profile) 65 → run₃ ≡ flat plate ++ drop 132 run
   put-whole run₁ run₂ run₃ e₁ e₂ e₃ =
-      continued run run₃ front (plate .profile) 66 65 front-length entries (e₃ ∙ ap (λ (x : List ℕ). paste x 66 (plate .profile) 65) after-rows)
+      continued masked run₃ front (plate .profile) 66 65 front-length entries (e₃ ∙ ap (λ (x : List ℕ). paste x 66 (plate .profile) 65) after-rows)
+      ∙ ap (λ (x : List ℕ). front ++ plate .profile ++ x) (masked-tail run (plate .mask) long)
+      ∙ sym (append-assoc (front ++ plate .profile) (plate .mask ∷ []) (drop 132 run))
     where
-      after-rows : run₂ ≡ front ++ drop 66 run
-      after-rows = continued run run₂ (plate .n ∷ plate .k ∷ []) (plate .rows) 2 64 refl rows (e₂ ∙ ap (λ (x : List ℕ). paste x 2 (plate .rows) 64) e₁)
+      masked : List ℕ
+      masked = set run 131 (plate .mask)
+
+      after-rows : run₂ ≡ front ++ drop 66 masked
+      after-rows = continued masked run₂ (plate .n ∷ plate .k ∷ []) (plate .rows) 2 64 refl rows (e₂ ∙ ap (λ (x : List ℕ). paste x 2 (plate .rows) 64) e₁)
 
 -- what is put into a run is the plate that the run then holds
 pub put-then-read : (plate : Plate) (rest : List ℕ) → length (plate .rows) ≡ 64 → length (plate .profile) ≡ 65 → plateOf (flat plate ++ rest) ≡ plate
 put-then-read plate rest rows entries =
-    ap₂ (λ (r p : List ℕ). record { n = plate .n; k = plate .k; rows = r; profile = p })
-    (ap (take 64) (append-assoc (plate .rows) (plate .profile) rest) ∙ take-at (plate .rows) (plate .profile ++ rest) 64 rows)
-    (ap (λ (l : List ℕ). take 65 (drop 64 l)) (append-assoc (plate .rows) (plate .profile) rest)
-    ∙ ap (take 65) (drop-at (plate .rows) (plate .profile ++ rest) 64 rows)
-    ∙ take-at (plate .profile) rest 65 entries)
+    ap (λ (m : ℕ). record { n = plate .n; k = plate .k; mask = m; rows = take 64 whole; profile = take 65 (drop 64 whole) }) mask-read
+    ∙ ap₂ (λ (r p : List ℕ). record { n = plate .n; k = plate .k; mask = plate .mask; rows = r; profile = p })
+    (ap (take 64) parted ∙ take-at (plate .rows) (plate .profile ++ (plate .mask ∷ rest)) 64 rows)
+    (ap (λ (l : List ℕ). take 65 (drop 64 l)) parted
+    ∙ ap (take 65) (drop-at (plate .rows) (plate .profile ++ (plate .mask ∷ rest)) 64 rows)
+    ∙ take-at (plate .profile) (plate .mask ∷ rest) 65 entries)
+  where
+    whole : List ℕ
+    whole = plate .rows ++ plate .profile ++ (plate .mask ∷ []) ++ rest
+
+    tables : length (plate .rows ++ plate .profile) ≡ 129
+    tables = omega (arith, length-append (plate .rows) (plate .profile))
+
+    before-mask : whole ≡ plate .rows ++ plate .profile ++ (plate .mask ∷ rest)
+    before-mask = append-assoc (plate .rows ++ plate .profile) (plate .mask ∷ []) rest
+
+    parted : whole ≡ plate .rows ++ (plate .profile ++ (plate .mask ∷ rest))
+    parted = before-mask ∙ append-assoc (plate .rows) (plate .profile) (plate .mask ∷ rest)
+
+    mask-read : getD (plate .n ∷ plate .k ∷ whole) 131 0 ≡ plate .mask
+    mask-read = ap (λ (l : List ℕ). getD l 129 0) before-mask ∙ getD-at (plate .rows ++ plate .profile) (plate .mask) rest 0 129 tables

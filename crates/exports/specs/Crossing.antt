@@ -27,7 +27,7 @@ use Rattle.trellises.specs.declared.Next.the-variants as N
 
 -- prepare: the plate's words from the start of their run, and place 0; or the place of the refusal alone
 abbrev pub preparedAs : List ℕ → List ℕ → Plate → Verdict → Crossing (List ℕ × List ℕ)
-preparedAs run at plate Accepted = record { code = done; cells = (flat plate ++ drop 131 run, set at 0 0) }
+preparedAs run at plate Accepted = record { code = done; cells = (flat plate ++ drop 132 run, set at 0 0) }
 preparedAs run at plate (Refused q) = record { code = number q; cells = (run, set at 0 (place q)) }
 
 abbrev pub prepared : List ℕ → List ℕ → Prepared → Crossing (List ℕ × List ℕ)

@@ -1,7 +1,7 @@
--- A plate as it crosses the interface: a flat run of 131 words, n, k, 64 rows and 65 profile entries.
+-- A plate as it crosses the interface: a flat run of 132 words, n, k, 64 rows, 65 profile entries and the mask.
 use lib.ListN.{drop, getD, take}
 use mathlib.Core.Bool.{Bool, false, true}
-use mathlib.Core.List.{_++_, List, _∷_}
+use mathlib.Core.List.{_++_, List, [], _∷_}
 use mathlib.Core.Logic.{_⊎_}
 use mathlib.Core.Path.{_≡_}
 use Prim.Native.Nat.{_+_, _<_, ℕ}
@@ -18,11 +18,11 @@ flatProfile words = take 65 (drop 66 words)
 
 -- the plate that a run of words holds; whatever the words are, the calls decide whether it is prepared
 abbrev pub plateOf : List ℕ → Plate
-plateOf words = record { n = getD words 0 0; k = getD words 1 0; rows = flatRows words; profile = flatProfile words }
+plateOf words = record { n = getD words 0 0; k = getD words 1 0; mask = getD words 131 0; rows = flatRows words; profile = flatProfile words }
 
--- the words of a plate
+-- the words of a plate, the mask last
 abbrev pub flat : Plate → List ℕ
-flat plate = plate .n ∷ plate .k ∷ (plate .rows ++ plate .profile)
+flat plate = plate .n ∷ plate .k ∷ (plate .rows ++ plate .profile ++ (plate .mask ∷ []))
 
 -- ---- reading a run of words as a plate
 

@@ -75,7 +75,7 @@ judged lent j = judgedAs lent (j .metrics) (j .decisions) (j .reply)
 
 -- how long the plate's run, the cells for the reading and that of the place must be
 abbrev pub FirmnessShape : ℕ → ℕ → ℕ → ℕ → Type 0
-FirmnessShape plate fixed value at = (131 ≤ plate) × (1 ≤ fixed) × (1 ≤ value) × (1 ≤ at)
+FirmnessShape plate fixed value at = (132 ≤ plate) × (1 ≤ fixed) × (1 ≤ value) × (1 ≤ at)
 
 -- what the test of these lengths replies
 pub record FirmnessTested (plate fixed value at : ℕ) (r : Bool) : Type 0 where

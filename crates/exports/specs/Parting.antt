@@ -22,7 +22,7 @@ use Rattle.decoding.specs.declared.apart.Measured.the-variants as M
 
 -- how long the plate's run, the cell for the metric or the word, those of the counts and that of the place must be
 abbrev pub PartShape : ℕ → ℕ → ℕ → ℕ → Type 0
-PartShape plate best counts at = (131 ≤ plate) × (1 ≤ best) × (2 ≤ counts) × (1 ≤ at)
+PartShape plate best counts at = (132 ≤ plate) × (1 ≤ best) × (2 ≤ counts) × (1 ≤ at)
 
 -- what the test of these lengths replies
 pub record PartTested (plate best counts at : ℕ) (r : Bool) : Type 0 where

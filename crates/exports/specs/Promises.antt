@@ -22,7 +22,7 @@ use Rattle.trellises.specs.Branching.{Branches}
 
 -- a run is long enough for a plate
 abbrev pub PlateLong : List ℕ → Type 0
-PlateLong words = 131 ≤ length words
+PlateLong words = 132 ≤ length words
 
 -- a run has a cell
 abbrev pub HasCell : List ℕ → Type 0
@@ -34,9 +34,9 @@ kindOf zero = G
 kindOf (suc kind) = H
 
 -- prepare: fixed are the kind, the plate's run and the cell of the place
-abbrev pub CallsPrepare : ℕ → ℕ → List ℕ → List ℕ → List ℕ → ℕ → List ℕ → List ℕ → Type 0
-CallsPrepare n kind rows run at r run′ at′ =
-    Calls ((kind ≤ 1) × PlateLong run × HasCell at) (run, at) (Prepares n (kindOf kind) rows) (prepared run at) (record { code = r; cells = (run′, at′) })
+abbrev pub CallsPrepare : ℕ → ℕ → List ℕ → ℕ → List ℕ → List ℕ → ℕ → List ℕ → List ℕ → Type 0
+CallsPrepare n kind rows mask run at r run′ at′ =
+    Calls ((kind ≤ 1) × PlateLong run × HasCell at) (run, at) (Prepares n (kindOf kind) rows mask) (prepared run at) (record { code = r; cells = (run′, at′) })
 
 -- branch, encode and read back: fixed are the plate's run and a cell for the answer
 abbrev pub CallsBranch : List ℕ → ℕ → ℕ → ℕ → List ℕ → ℕ → List ℕ → Type 0
@@ -62,7 +62,7 @@ decodeCells metrics decisions word metric counts at =
 
 -- how long the plate's run, the cells for the word, the metric and the counts, and that of the place must be
 abbrev pub DecodeShape : ℕ → ℕ → ℕ → ℕ → ℕ → Type 0
-DecodeShape plate word metric counts at = (131 ≤ plate) × (1 ≤ word) × (1 ≤ metric) × (2 ≤ counts) × (1 ≤ at)
+DecodeShape plate word metric counts at = (132 ≤ plate) × (1 ≤ word) × (1 ≤ metric) × (2 ≤ counts) × (1 ≤ at)
 
 -- what the test of these lengths replies
 pub record ShapeTested (plate word metric counts at : ℕ) (r : Bool) : Type 0 where

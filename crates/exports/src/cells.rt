@@ -40,7 +40,7 @@ pub fn kind_of(kind: u64) -> Kind
 pub fn decode_shaped(plate: usize, word: usize, metric: usize, counts: usize, at: usize) -> bool
     ensures { λ r. ⌜ ShapeTested plate word metric counts at r ⌝ }
 {
-    if plate < 131 {
+    if plate < 132 {
         return false;
     }
     if word < 1 {
@@ -59,7 +59,7 @@ pub fn decode_shaped(plate: usize, word: usize, metric: usize, counts: usize, at
 pub fn part_shaped(plate: usize, best: usize, counts: usize, at: usize) -> bool
     ensures { λ r. ⌜ PartTested plate best counts at r ⌝ }
 {
-    if plate < 131 {
+    if plate < 132 {
         return false;
     }
     if best < 1 {
@@ -75,7 +75,7 @@ pub fn part_shaped(plate: usize, best: usize, counts: usize, at: usize) -> bool
 pub fn firmness_shaped(plate: usize, fixed: usize, value: usize, at: usize) -> bool
     ensures { λ r. ⌜ FirmnessTested plate fixed value at r ⌝ }
 {
-    if plate < 131 {
+    if plate < 132 {
         return false;
     }
     if fixed < 1 {

@@ -1,15 +1,15 @@
-// A plate as a flat run of 131 words: n, k, 64 rows and 65 profile entries.
+// A plate as a flat run of 132 words: n, k, 64 rows, 65 profile entries and the mask.
 use plates::Plate;
 ghost use mathlib.Core.Path.{_≡_};
 ghost use mathlib.Core.List.{_++_, _∷_};
 ghost use Prim.Native.Nat.{_≤_};
-ghost use lib.ListN.{drop, length};
+ghost use lib.ListN.{drop, length, set};
 ghost use lib.Seq.{paste};
 ghost use Rattle.exports.specs.Flat.{EntriesFit, FitTested, StandsFor, flat, flatProfile, flatRows, plateOf};
 
 // Whether every profile entry fits a byte: all their ones together do. The loop stops nowhere, so that it takes several entries at a time.
 fn entries_fit(words: &[u64]) -> bool
-    requires { ⌜ 131 ≤ length (now words) ⌝ }
+    requires { ⌜ 132 ≤ length (now words) ⌝ }
     ensures { λ r. ⌜ FitTested (now (words .entry)) r ⌝ }
 {
     let mut ones: u64 = 0;
@@ -23,7 +23,7 @@ fn entries_fit(words: &[u64]) -> bool
 
 // The rows out of the run.
 fn load_rows(rows: &mut [u64; 64], words: &[u64])
-    requires { ⌜ (length (now rows) ≡ 64) × (131 ≤ length (now words)) ⌝ }
+    requires { ⌜ (length (now rows) ≡ 64) × (132 ≤ length (now words)) ⌝ }
     ensures { λ _. ⌜ now (rows .exit) ≡ flatRows (now (words .entry)) ⌝ }
 {
     let mut j = 0;
@@ -35,7 +35,7 @@ fn load_rows(rows: &mut [u64; 64], words: &[u64])
 
 // The profile out of the run, whose entries fit bytes.
 fn load_profile(profile: &mut [u8; 65], words: &[u64])
-    requires { ⌜ (length (now profile) ≡ 65) × (131 ≤ length (now words)) × EntriesFit (now words) ⌝ }
+    requires { ⌜ (length (now profile) ≡ 65) × (132 ≤ length (now words)) × EntriesFit (now words) ⌝ }
     ensures { λ _. ⌜ now (profile .exit) ≡ flatProfile (now (words .entry)) ⌝ }
 {
     let mut t = 0;
@@ -47,12 +47,13 @@ fn load_profile(profile: &mut [u8; 65], words: &[u64])
 
 // The plate of a run whose profile entries fit bytes.
 fn fitting_plate(words: &[u64]) -> Plate
-    requires { ⌜ (131 ≤ length (now words)) × EntriesFit (now words) ⌝ }
+    requires { ⌜ (132 ≤ length (now words)) × EntriesFit (now words) ⌝ }
     ensures { λ r. ⌜ r ≡ plateOf (now (words .entry)) ⌝ }
 {
     let mut plate = Plate {
         n: words[0] as usize,
         k: words[1] as usize,
+        mask: words[131],
         rows: [0; 64],
         profile: [0; 65],
     };
@@ -63,7 +64,7 @@ fn fitting_plate(words: &[u64]) -> Plate
 
 // The plate that stands for a run: one with an entry over a byte is not prepared, and nor is the zero plate.
 pub fn plate_of(words: &[u64]) -> Plate
-    requires { ⌜ 131 ≤ length (now words) ⌝ }
+    requires { ⌜ 132 ≤ length (now words) ⌝ }
     ensures { λ r. ⌜ StandsFor (now (words .entry)) r ⌝ }
 {
     if entries_fit(words) {
@@ -72,6 +73,7 @@ pub fn plate_of(words: &[u64]) -> Plate
     Plate {
         n: 0,
         k: 0,
+        mask: 0,
         rows: [0; 64],
         profile: [0; 65],
     }
@@ -79,7 +81,7 @@ pub fn plate_of(words: &[u64]) -> Plate
 
 // The rows into the run.
 fn put_rows(words: &mut [u64], rows: &[u64; 64])
-    requires { ⌜ (length (now rows) ≡ 64) × (131 ≤ length (now words)) ⌝ }
+    requires { ⌜ (length (now rows) ≡ 64) × (132 ≤ length (now words)) ⌝ }
     ensures { λ _. ⌜ now (words .exit) ≡ paste (now (words .entry)) 2 (now (rows .entry)) 64 ⌝ }
 {
     let mut j = 0;
@@ -98,7 +100,7 @@ fn wide(entry: u8) -> u64
 
 // The profile into the run.
 fn put_profile(words: &mut [u64], profile: &[u8; 65])
-    requires { ⌜ (length (now profile) ≡ 65) × (131 ≤ length (now words)) ⌝ }
+    requires { ⌜ (length (now profile) ≡ 65) × (132 ≤ length (now words)) ⌝ }
     ensures { λ _. ⌜ now (words .exit) ≡ paste (now (words .entry)) 66 (now (profile .entry)) 65 ⌝ }
 {
     let mut t = 0;
@@ -108,21 +110,22 @@ fn put_profile(words: &mut [u64], profile: &[u8; 65])
     }
 }
 
-// n and k to the start of the run.
-fn put_head(words: &mut [u64], n: usize, k: usize)
-    requires { ⌜ 131 ≤ length (now words) ⌝ }
-    ensures { λ _. ⌜ now (words .exit) ≡ n ∷ k ∷ drop 2 (now (words .entry)) ⌝ }
+// The mask to its place, n and k to the start of the run.
+fn put_numbers(words: &mut [u64], n: usize, k: usize, mask: u64)
+    requires { ⌜ 132 ≤ length (now words) ⌝ }
+    ensures { λ _. ⌜ now (words .exit) ≡ n ∷ k ∷ drop 2 (set (now (words .entry)) 131 mask) ⌝ }
 {
+    words[131] = mask;
     words[0] = n as u64;
     words[1] = k as u64;
 }
 
 // The plate to the start of the run.
 pub fn put_plate(words: &mut [u64], plate: Plate)
-    requires { ⌜ (length (plate .rows) ≡ 64) × (length (plate .profile) ≡ 65) × (131 ≤ length (now words)) ⌝ }
-    ensures { λ _. ⌜ now (words .exit) ≡ flat plate ++ drop 131 (now (words .entry)) ⌝ }
+    requires { ⌜ (length (plate .rows) ≡ 64) × (length (plate .profile) ≡ 65) × (132 ≤ length (now words)) ⌝ }
+    ensures { λ _. ⌜ now (words .exit) ≡ flat plate ++ drop 132 (now (words .entry)) ⌝ }
 {
-    put_head(words, plate.n, plate.k);
+    put_numbers(words, plate.n, plate.k, plate.mask);
     put_rows(words, &plate.rows);
     put_profile(words, &plate.profile);
 }

@@ -18,27 +18,28 @@ const MISSHAPEN: u64 = 101;
 // The reply where a state has no branch with the bit that was asked for.
 const NO_BRANCH: u64 = 100;
 
-// Turns a matrix into a plate.
+// Turns a matrix and a mask into a plate.
 #[no_mangle]
 pub extern "C" fn yendrufal_prepare(
     n: u64,
     kind: u64,
     rows: &[u64],
+    mask: u64,
     plate: &mut [u64],
     at: &mut [u64],
 ) -> u64
-    ensures { λ r. ⌜ CallsPrepare n kind (now (rows .entry)) (now (plate .entry)) (now (at .entry)) r (now (plate .exit)) (now (at .exit)) ⌝ }
+    ensures { λ r. ⌜ CallsPrepare n kind (now (rows .entry)) mask (now (plate .entry)) (now (at .entry)) r (now (plate .exit)) (now (at .exit)) ⌝ }
 {
     if 1 < kind {
         return MISSHAPEN;
     }
-    if plate.len() < 131 {
+    if plate.len() < 132 {
         return MISSHAPEN;
     }
     if at.len() < 1 {
         return MISSHAPEN;
     }
-    let made = plates::prepare(n as usize, cells::kind_of(kind), rows);
+    let made = plates::prepare(n as usize, cells::kind_of(kind), rows, mask);
     let verdict = made.verdict;
     match verdict {
         Verdict::Accepted => {
@@ -61,7 +62,7 @@ pub extern "C" fn yendrufal_branch(
 ) -> u64
     ensures { λ r. ⌜ CallsBranch (now (plate .entry)) depth state bit (now (next .entry)) r (now (next .exit)) ⌝ }
 {
-    if plate.len() < 131 {
+    if plate.len() < 132 {
         return MISSHAPEN;
     }
     if next.len() < 1 {
@@ -77,12 +78,12 @@ pub extern "C" fn yendrufal_branch(
     }
 }
 
-// The codeword of an information.
+// The word of an information.
 #[no_mangle]
 pub extern "C" fn yendrufal_encode(plate: &[u64], information: u64, word: &mut [u64]) -> u64
     ensures { λ r. ⌜ CallsEncode (now (plate .entry)) information (now (word .entry)) r (now (word .exit)) ⌝ }
 {
-    if plate.len() < 131 {
+    if plate.len() < 132 {
         return MISSHAPEN;
     }
     if word.len() < 1 {
@@ -97,12 +98,12 @@ pub extern "C" fn yendrufal_encode(plate: &[u64], information: u64, word: &mut [
     }
 }
 
-// The information of a codeword.
+// The information of a word.
 #[no_mangle]
 pub extern "C" fn yendrufal_read_back(plate: &[u64], word: u64, information: &mut [u64]) -> u64
     ensures { λ r. ⌜ CallsReadBack (now (plate .entry)) word (now (information .entry)) r (now (information .exit)) ⌝ }
 {
-    if plate.len() < 131 {
+    if plate.len() < 132 {
         return MISSHAPEN;
     }
     if information.len() < 1 {
@@ -122,7 +123,7 @@ pub extern "C" fn yendrufal_read_back(plate: &[u64], word: u64, information: &mu
 pub extern "C" fn yendrufal_write_plate(plate: &[u64], line: &mut [u8], written: &mut [u64]) -> u64
     ensures { λ r. ⌜ CallsWritePlate (now (plate .entry)) (now (line .entry)) (now (written .entry)) r (now (line .exit)) (now (written .exit)) ⌝ }
 {
-    if plate.len() < 131 {
+    if plate.len() < 132 {
         return MISSHAPEN;
     }
     if written.len() < 1 {
@@ -140,7 +141,7 @@ pub extern "C" fn yendrufal_write_profile(
 ) -> u64
     ensures { λ r. ⌜ CallsWriteProfile (now (plate .entry)) (now (line .entry)) (now (written .entry)) r (now (line .exit)) (now (written .exit)) ⌝ }
 {
-    if plate.len() < 131 {
+    if plate.len() < 132 {
         return MISSHAPEN;
     }
     if written.len() < 1 {
@@ -165,7 +166,7 @@ pub extern "C" fn yendrufal_write_word(
 ) -> u64
     ensures { λ r. ⌜ CallsWriteWord (now (plate .entry)) word metric additions comparisons (now (line .entry)) (now (written .entry)) r (now (line .exit)) (now (written .exit)) ⌝ }
 {
-    if plate.len() < 131 {
+    if plate.len() < 132 {
         return MISSHAPEN;
     }
     if written.len() < 1 {

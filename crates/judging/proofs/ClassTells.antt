@@ -1,5 +1,6 @@
 -- The class of a state of theirs tells the state of ours with the same ways, section by section from the far end.
 use borrow.Author.Tests.{eq-eqb, eqb-true}
+use lib.Bits.{bitXor, xor-lt}
 use lib.Dec.{eqb}
 use mathlib.Core.Bool.{Bool, cond, false, false≢true, true}
 use mathlib.Core.Path.{ap, refl, subst, sym, _∙_, _≡_}
@@ -14,8 +15,10 @@ use Rattle.trellises.specs.declared.Section.{Section}
 use Rattle.trellises.specs.Graph.{Graph}
 use Rattle.trellises.specs.Numbers.{bitOf}
 use Rattle.trellises.specs.SectionOf.{sectionOf}
-use Rattle.judging.proofs.OurStates.{our-apart, our-branch, our-leads, our-small, our-way}
-use Rattle.judging.proofs.Tells.{tells-step}
+use Rattle.words.proofs.Word.{bit-lt}
+use Rattle.words.specs.Word.{bit}
+use Rattle.judging.proofs.OurStates.{code-leads, our-apart, our-branch, our-leads, our-small, our-way}
+use Rattle.judging.proofs.Tells.{tells-flipped}
 use Rattle.judging.specs.Ours.{Classed, follows, ours, suits}
 use Rattle.judging.specs.Ways.{Leads, Same, Tells}
 
@@ -39,13 +42,13 @@ leads-once g t u b (suc c) w p q = let x = p .some c refl in sym (q .all (x .0) 
 
 module _ {plate : Plate} (s : Sound plate) (A : Graph) where
   -- what is no state has the ways of no state of ours
-  pub tells-none : (d t : ℕ) → t + d ≡ plate .n → Tells A (ours (rowsOf plate)) d t 0 0
+  pub tells-none : (d t : ℕ) → t + d ≡ plate .n → Tells A (ours (rowsOf plate) (plate .mask)) d t 0 0
   tells-none d t e = record {
-    to = λ y l q. subst (λ (y : ℕ). Same A (ours (rowsOf plate)) d t 0 y) q (λ w. ((λ f. f), λ f. f));
+    to = λ y l q. subst (λ (y : ℕ). Same A (ours (rowsOf plate) (plate .mask)) d t 0 y) q (λ w. ((λ f. f), λ f. f));
     from = λ y l h. go y l h;
   }
     where
-      go : (y : ℕ) → y ≤ 2 ^ liveAt (rowsOf plate) t → Same A (ours (rowsOf plate)) d t 0 y → 0 ≡ y
+      go : (y : ℕ) → y ≤ 2 ^ liveAt (rowsOf plate) t → Same A (ours (rowsOf plate) (plate .mask)) d t 0 y → 0 ≡ y
       go zero l h = refl
       go (suc a) l h = let x = our-way s d t a e (omega arith) in absurd (h (x .0) .1 (x .1))
 
@@ -56,17 +59,21 @@ module _ {plate : Plate} (s : Sound plate) (A : Graph) where
     size : 2 ^ c .live ≡ 2 ^ liveAt (rowsOf plate) t
     size = ap (λ (m : ℕ). 2 ^ m) (live-count t (rowsOf plate))
 
-    leads : (y b : ℕ) → y ≤ 2 ^ liveAt (rowsOf plate) t → b < 2 → Leads (ours (rowsOf plate)) t y b (follows c y b)
-    leads = our-leads s t h
+    -- the mask's bit
+    abbrev flip : ℕ
+    flip = bit (plate .mask) t
+
+    leads : (y b : ℕ) → y ≤ 2 ^ liveAt (rowsOf plate) t → b < 2 → Leads (ours (rowsOf plate) (plate .mask)) t y (bitXor b flip) (follows c y b)
+    leads = code-leads s t h
 
     abbrev Hit : ℕ → Type 0
-    Hit y = Leads (ours (rowsOf plate)) t y 0 x0 × Leads (ours (rowsOf plate)) t y 1 x1 × (x0 ≤ 2 ^ liveAt (rowsOf plate) (suc t)) × (x1 ≤ 2 ^ liveAt (rowsOf plate) (suc t))
+    Hit y = Leads (ours (rowsOf plate) (plate .mask)) t y (bitXor 0 flip) x0 × Leads (ours (rowsOf plate) (plate .mask)) t y (bitXor 1 flip) x1 × (x0 ≤ 2 ^ liveAt (rowsOf plate) (suc t)) × (x1 ≤ 2 ^ liveAt (rowsOf plate) (suc t))
 
     -- a number whose branches lead there
     hit-by : (y : ℕ) → y ≤ 2 ^ liveAt (rowsOf plate) t → follows c y 0 ≡ x0 → follows c y 1 ≡ x1 → Hit y
     hit-by y l p q = (
-      subst (Leads (ours (rowsOf plate)) t y 0) p (leads y 0 l (omega arith)),
-      subst (Leads (ours (rowsOf plate)) t y 1) q (leads y 1 l (omega arith)),
+      subst (Leads (ours (rowsOf plate) (plate .mask)) t y (bitXor 0 flip)) p (leads y 0 l (omega arith)),
+      subst (Leads (ours (rowsOf plate) (plate .mask)) t y (bitXor 1 flip)) q (leads y 1 l (omega arith)),
       subst (λ (z : ℕ). z ≤ 2 ^ liveAt (rowsOf plate) (suc t)) p (our-small s t h y 0 l (omega arith)),
       subst (λ (z : ℕ). z ≤ 2 ^ liveAt (rowsOf plate) (suc t)) q (our-small s t h y 1 l (omega arith)),
     )
@@ -87,11 +94,11 @@ module _ {plate : Plate} (s : Sound plate) (A : Graph) where
         both (suc zero) l u v = v
         both (suc (suc b)) l u v = absurd (omega arith)
 
-    finds : (y : ℕ) → y ≤ 2 ^ liveAt (rowsOf plate) t → Leads (ours (rowsOf plate)) t y 0 x0 → Leads (ours (rowsOf plate)) t y 1 x1 → x ≡ y
+    finds : (y : ℕ) → y ≤ 2 ^ liveAt (rowsOf plate) t → Leads (ours (rowsOf plate) (plate .mask)) t y (bitXor 0 flip) x0 → Leads (ours (rowsOf plate) (plate .mask)) t y (bitXor 1 flip) x1 → x ≡ y
     finds zero l p q = is-zero x refl (p .none refl) (q .none refl) (omega (arith, size, k .dead (p .none refl) (q .none refl)))
     finds (suc a) l p q =
-        let e0 : follows c (suc a) 0 ≡ x0 = leads-once (ours (rowsOf plate)) t (suc a) 0 _ _ (leads (suc a) 0 l (omega arith)) p in
-        let e1 : follows c (suc a) 1 ≡ x1 = leads-once (ours (rowsOf plate)) t (suc a) 1 _ _ (leads (suc a) 1 l (omega arith)) q in
+        let e0 : follows c (suc a) 0 ≡ x0 = leads-once (ours (rowsOf plate) (plate .mask)) t (suc a) (bitXor 0 flip) _ _ (leads (suc a) 0 l (omega arith)) p in
+        let e1 : follows c (suc a) 1 ≡ x1 = leads-once (ours (rowsOf plate) (plate .mask)) t (suc a) (bitXor 1 flip) _ _ (leads (suc a) 1 l (omega arith)) q in
         let f = k .finds a (omega (arith, size)) (true-suits c (suc a) x0 x1 e0 e1) in
         let n = suits-true c (suc (f .0)) x0 x1 (k .found (f .0) (f .1) (f .2)) in
         f .2 ∙ ap suc (our-apart s t h (f .0) a (omega (arith, f .1, size)) (omega arith) (both (f .0) (n .0 ∙ sym e0) (n .1 ∙ sym e1)))
@@ -102,8 +109,9 @@ module _ {plate : Plate} (s : Sound plate) (A : Graph) where
         both z u v (suc (suc b)) m = absurd (omega arith)
 
     -- what the next states tell decides what a state tells
-    pub class-tells : (d u u0 u1 : ℕ) → Leads A t u 0 u0 → Leads A t u 1 u1 → Tells A (ours (rowsOf plate)) d (suc t) u0 x0
-        → Tells A (ours (rowsOf plate)) d (suc t) u1 x1 → Tells A (ours (rowsOf plate)) (suc d) t u x
+    pub class-tells : (d u u0 u1 : ℕ) → Leads A t u (bitXor 0 (bit (plate .mask) t)) u0 → Leads A t u (bitXor 1 (bit (plate .mask) t)) u1
+        → Tells A (ours (rowsOf plate) (plate .mask)) d (suc t) u0 x0 → Tells A (ours (rowsOf plate) (plate .mask)) d (suc t) u1 x1
+        → Tells A (ours (rowsOf plate) (plate .mask)) (suc d) t u x
     class-tells d u u0 u1 a0 a1 m0 m1 =
-        tells-step A (ours (rowsOf plate)) d t u u0 u1 a0 a1 x0 x1 x m0 m1 hits
-        (λ y b l m. (follows c y b, leads y b l m, our-small s t h y b l m)) finds
+        tells-flipped A (ours (rowsOf plate) (plate .mask)) flip (bit-lt t (plate .mask)) d t u u0 u1 a0 a1 x0 x1 x m0 m1 hits
+        (λ y b l m. (follows c y (bitXor b flip), our-leads s t h y b l m, our-small s t h y (bitXor b flip) l (xor-lt 1 b flip m (bit-lt t (plate .mask))))) finds

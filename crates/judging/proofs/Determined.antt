@@ -13,13 +13,12 @@ use Rattle.plates.proofs.Refusing.{Single, never-both, refuses-once}
 use Rattle.plates.specs.declared.Plate.{Plate}
 use Rattle.plates.specs.declared.Refusal.{Refusal}
 use Rattle.plates.specs.declared.Refusal.the-variants.{BranchFault, BranchTwice}
-use Rattle.plates.specs.Prepare.{rowsOf}
+use Rattle.plates.specs.Prepare.{IsWord, rowsOf}
 use Rattle.sheets.specs.declared.listed.BranchLine.{BranchLine}
 use Rattle.sheets.specs.declared.listed.Entry.{Entry}
 use Rattle.sheets.specs.Listed.{entries, entryAt}
 use Rattle.trellises.specs.Graph.{Graph, Path, Spells}
 use Rattle.words.proofs.Word.{bit-cases}
-use Rattle.words.specs.Sum.{IsSum}
 use Rattle.words.specs.Word.{Earlier, bit}
 use Rattle.judging.proofs.NoFewer.{fits}
 use Rattle.judging.specs.declared.Judged.{Judged}
@@ -148,7 +147,7 @@ module _ (plate : Plate) (es : List BranchLine) (room : List ℕ) where
   g = graphAgainst plate es
 
   abbrev C : ℕ → Type 0
-  C = IsSum (rowsOf plate)
+  C = IsWord plate
 
   verdict-once : {room′ room″ : List ℕ} (v w : Judged) → JudgesBy plate es room room′ v → JudgesBy plate es room room″ w → (v ≡ w) × (room′ ≡ room″)
   verdict-once (Refused p) (Refused q) x y = (ap Refused (refuses-once conditions single p q (x .0) (y .0)), x .1 ∙ sym (y .1))
@@ -203,14 +202,14 @@ not-right : (v : Judged) → NotRight v → v ≡ Right → ⊥
 not-right v n e = subst NotRight e n
 
 pub right-exactly : (plate : Plate) (text room room′ : List ℕ) (r : Judgement) → Judges plate text room room′ r → ((q : Refusal) → r .verdict ≡ Refused q → ⊥)
-    → (r .verdict ≡ Right) ↔ Spells (graphAgainst plate (entries (plate .n) text)) (plate .n) (IsSum (rowsOf plate))
+    → (r .verdict ≡ Right) ↔ Spells (graphAgainst plate (entries (plate .n) text)) (plate .n) (IsWord plate)
 right-exactly plate text room room′ r x d = go (r .verdict) (x .reply) d
   where
     go : (v : Judged) → JudgesBy plate (entries (plate .n) text) room room′ v → ((q : Refusal) → v ≡ Refused q → ⊥)
-        → (v ≡ Right) ↔ Spells (graphAgainst plate (entries (plate .n) text)) (plate .n) (IsSum (rowsOf plate))
+        → (v ≡ Right) ↔ Spells (graphAgainst plate (entries (plate .n) text)) (plate .n) (IsWord plate)
     go Right y d = ((λ e. y .1), λ s. refl)
     go (SpelledWrongly w) y d =
-        ((λ e. absurd (not-right (SpelledWrongly w) tt e)), λ s. absurd (right-not-wrongly (graphAgainst plate (entries (plate .n) text)) (plate .n) (IsSum (rowsOf plate)) w s (y .1)))
+        ((λ e. absurd (not-right (SpelledWrongly w) tt e)), λ s. absurd (right-not-wrongly (graphAgainst plate (entries (plate .n) text)) (plate .n) (IsWord plate) w s (y .1)))
     go (NotSpelled w) y d =
-        ((λ e. absurd (not-right (NotSpelled w) tt e)), λ s. absurd (right-not-missing (graphAgainst plate (entries (plate .n) text)) (plate .n) (IsSum (rowsOf plate)) w s (y .1)))
+        ((λ e. absurd (not-right (NotSpelled w) tt e)), λ s. absurd (right-not-missing (graphAgainst plate (entries (plate .n) text)) (plate .n) (IsWord plate) w s (y .1)))
     go (Refused q) y d = absurd (d q refl)

@@ -9,14 +9,13 @@ use native.Mathlib.Omega.{arith}
 use Prim.Native.Nat.{_<_, suc, ℕ, _≤_}
 use Rattle.plates.proofs.SoundIsPrepared.{prepared}
 use Rattle.plates.specs.declared.Plate.{Plate}
-use Rattle.plates.specs.Prepare.{rowsOf}
+use Rattle.plates.specs.Prepare.{IsWord, rowsOf}
 use Rattle.plates.specs.Sound.{Sound}
-use Rattle.trellises.proofs.PlateTrellis.{plate-spells}
+use Rattle.trellises.proofs.WordsTrellis.{words-spelled}
 use Rattle.sheets.specs.declared.listed.Branch.{Branch}
 use Rattle.sheets.specs.declared.listed.BranchLine.{BranchLine}
 use Rattle.trellises.specs.Graph.{Graph, Spells}
 use Rattle.trellises.specs.Graph as Graphs
-use Rattle.words.specs.Sum.{IsSum}
 use Rattle.judging.proofs.CleanLines.{branch-ranged, listed-is}
 use Rattle.judging.proofs.OurStates.{one-end, one-start, our-inside}
 use Rattle.judging.proofs.Theirs.{section-listed}
@@ -39,19 +38,19 @@ listed-ends {n} {es} k p = subst (λ (bs : List Branch). Ended (listedGraph n bs
 })
 
 module _ {plate : Plate} (s : Sound plate) where
-  our-ends : Ended (ours (rowsOf plate)) (plate .n)
+  our-ends : Ended (ours (rowsOf plate) (plate .mask)) (plate .n)
   our-ends = record { start = one-start s; end = one-end s; inside = λ t a b c l x. our-inside s t a b c x }
 
   -- the words are our ways from the start
-  word-way : (w : ℕ) → IsSum (rowsOf plate) w ↔ Way (ours (rowsOf plate)) (plate .n) 0 0 w
+  word-way : (w : ℕ) → IsWord plate w ↔ Way (ours (rowsOf plate) (plate .mask)) (plate .n) 0 0 w
   word-way w = (
-    (λ c. let x = plate-spells plate (prepared s) .exact w .0 c in path-way (ours (rowsOf plate)) (plate .n) our-ends w (x .0) (x .1)),
-    λ f. plate-spells plate (prepared s) .exact w .1 (way-below (ours (rowsOf plate)) (plate .n) 0 0 w f, way-path (ours (rowsOf plate)) (plate .n) our-ends w f),
+    (λ c. let x = words-spelled plate (prepared s) .exact w .0 c in path-way (ours (rowsOf plate) (plate .mask)) (plate .n) our-ends w (x .0) (x .1)),
+    λ f. words-spelled plate (prepared s) .exact w .1 (way-below (ours (rowsOf plate) (plate .mask)) (plate .n) 0 0 w f, way-path (ours (rowsOf plate) (plate .mask)) (plate .n) our-ends w f),
   )
 
   module _ (g : Graph) (e : Ended g (plate .n)) where
     -- the same ways: the full paths spell exactly the words
-    pub found-right : Same g (ours (rowsOf plate)) (plate .n) 0 1 1 → Spells g (plate .n) (IsSum (rowsOf plate))
+    pub found-right : Same g (ours (rowsOf plate) (plate .mask)) (plate .n) 0 1 1 → Spells g (plate .n) (IsWord plate)
     found-right h = record {
       start = e .start;
       end = e .end;
@@ -61,7 +60,7 @@ module _ {plate : Plate} (s : Sound plate) where
       );
     }
 
-    agrees : (w : ℕ) (b : Bool) → Differs g (ours (rowsOf plate)) (plate .n) 0 1 1 w b → AgreesBefore g (plate .n) (IsSum (rowsOf plate)) w
+    agrees : (w : ℕ) (b : Bool) → Differs g (ours (rowsOf plate) (plate .mask)) (plate .n) 0 1 1 w b → AgreesBefore g (plate .n) (IsWord plate) w
     agrees w b d = record {
       below = d .below;
       earlier = λ v l q. (
@@ -70,14 +69,14 @@ module _ {plate : Plate} (s : Sound plate) where
       );
     }
 
-    pub found-wrongly : (w : ℕ) → Differs g (ours (rowsOf plate)) (plate .n) 0 1 1 w true → Wrongly g (plate .n) (IsSum (rowsOf plate)) w
+    pub found-wrongly : (w : ℕ) → Differs g (ours (rowsOf plate) (plate .mask)) (plate .n) 0 1 1 w true → Wrongly g (plate .n) (IsWord plate) w
     found-wrongly w d = record {
       before = agrees w true d;
       spelled = way-path g (plate .n) e w (d .side .0);
       no-word = λ c. d .side .1 (word-way w .0 c);
     }
 
-    pub found-missing : (w : ℕ) → Differs g (ours (rowsOf plate)) (plate .n) 0 1 1 w false → Missing g (plate .n) (IsSum (rowsOf plate)) w
+    pub found-missing : (w : ℕ) → Differs g (ours (rowsOf plate) (plate .mask)) (plate .n) 0 1 1 w false → Missing g (plate .n) (IsWord plate) w
     found-missing w d = record {
       before = agrees w false d;
       word = word-way w .1 (d .side .0);

@@ -22,24 +22,24 @@ use Rattle.judging.specs.Ways.{Chain, Same, Tells}
 
 -- ---- the verdict
 
-module _ {rows : List ℕ} {n : ℕ} {room : List ℕ} {lines : ℕ} (p : VerdictAsks rows n room lines) where
-  pub start-asks : Asking rows n room lines 0
+module _ {rows : List ℕ} {mask n : ℕ} {room : List ℕ} {lines : ℕ} (p : VerdictAsks rows mask n room lines) where
+  pub start-asks : Asking rows mask n room lines 0
   start-asks = record { ready = p .ready; within = omega arith; told = λ h j m e. p .told j (omega arith) m }
 
   whole : n - 0 ≡ n
   whole = omega arith
 
-  pub start-same : (x : ℕ) → Tells (theirs n lines room) (ours rows) (n - 0) 0 1 x → x ≡ 1 → Same (theirs n lines room) (ours rows) n 0 1 1
+  pub start-same : (x : ℕ) → Tells (theirs n lines room) (ours rows mask) (n - 0) 0 1 x → x ≡ 1 → Same (theirs n lines room) (ours rows mask) n 0 1 1
   start-same x t e =
-      subst (λ (d : ℕ). Same (theirs n lines room) (ours rows) d 0 1 1) whole (t .to 1 (omega (arith, start-states (p .ready .plate))) e)
+      subst (λ (d : ℕ). Same (theirs n lines room) (ours rows mask) d 0 1 1) whole (t .to 1 (omega (arith, start-states (p .ready .plate))) e)
 
-  pub start-apart : (x : ℕ) → Tells (theirs n lines room) (ours rows) (n - 0) 0 1 x → (x ≡ 1 → ⊥) → Same (theirs n lines room) (ours rows) n 0 1 1 → ⊥
+  pub start-apart : (x : ℕ) → Tells (theirs n lines room) (ours rows mask) (n - 0) 0 1 x → (x ≡ 1 → ⊥) → Same (theirs n lines room) (ours rows mask) n 0 1 1 → ⊥
   start-apart x t d s =
-      d (t .from 1 (omega (arith, start-states (p .ready .plate))) (subst (λ (k : ℕ). Same (theirs n lines room) (ours rows) k 0 1 1) (sym whole) s))
+      d (t .from 1 (omega (arith, start-states (p .ready .plate))) (subst (λ (k : ℕ). Same (theirs n lines room) (ours rows mask) k 0 1 1) (sym whole) s))
 
 -- ---- a text
 
-module _ {rows : List ℕ} {n : ℕ} {text : List ℕ} {lines : ℕ} {room : List ℕ} (p : JudgedAsks rows n text lines room) (room1 : List ℕ)
+module _ {rows : List ℕ} {mask n : ℕ} {text : List ℕ} {lines : ℕ} {room : List ℕ} (p : JudgedAsks rows mask n text lines room) (room1 : List ℕ)
     (s : Stored (entries n text) (length (entries n text)) room1) (e : length room1 ≡ length room) where
   holds1 : Holds n lines room1
   holds1 = subst (λ (k : ℕ). Holds n k room1) (sym (p .count)) (clean-holds (p .clean) room1 (e ∙ p .size) s)
@@ -47,20 +47,20 @@ module _ {rows : List ℕ} {n : ℕ} {text : List ℕ} {lines : ℕ} {room : Lis
   graph1 : theirs n lines room1 ≡ listedGraph n (branchesOf (entries n text))
   graph1 = ap (λ (k : ℕ). theirs n k room1) (p .count) ∙ clean-graph (p .clean) room1 (e ∙ p .size) s
 
-  pub filled-ready : Ready rows n room1 lines
+  pub filled-ready : Ready rows mask n room1 lines
   filled-ready = record { plate = p .plate; holds = holds1 }
 
-  module _ (room2 : List ℕ) (a : AllTold n lines rows room1 room2) where
-    pub told-asks : VerdictAsks rows n room2 lines
+  module _ (room2 : List ℕ) (a : AllTold n lines rows mask room1 room2) where
+    pub told-asks : VerdictAsks rows mask n room2 lines
     told-asks = record {
       ready = record { plate = p .plate; holds = holds-same (a .same) holds1 };
-      told = λ j l m. subst (λ (g : Graph). ToldAt g rows n room2 j) (sym (theirs-same (a .same) n)) (a .told j l m);
+      told = λ j l m. subst (λ (g : Graph). ToldAt g rows mask n room2 j) (sym (theirs-same (a .same) n)) (a .told j l m);
     }
 
-    found-of : (r : Judged) → Found (theirs n lines room2) (ours rows) n r → Found (listedGraph n (branchesOf (entries n text))) (ours rows) n r
-    found-of r f = subst (λ (g : Graph). Found g (ours rows) n r) (theirs-same (a .same) n ∙ graph1) f
+    found-of : (r : Judged) → Found (theirs n lines room2) (ours rows mask) n r → Found (listedGraph n (branchesOf (entries n text))) (ours rows mask) n r
+    found-of r f = subst (λ (g : Graph). Found g (ours rows mask) n r) (theirs-same (a .same) n ∙ graph1) f
 
-    module _ (room3 : List ℕ) (m : AllMarked lines room2 room3 lines) (v : Judged) (f : Found (theirs n lines room2) (ours rows) n v) where
+    module _ (room3 : List ℕ) (m : AllMarked lines room2 room3 lines) (v : Judged) (f : Found (theirs n lines room2) (ours rows mask) n v) where
       marked : Marked n lines room2 room3 lines
       marked = m n (told-asks .ready .holds)
 
@@ -70,11 +70,11 @@ module _ {rows : List ℕ} {n : ℕ} {text : List ℕ} {lines : ℕ} {room : Lis
       graph3 : theirs n lines room3 ≡ theirs n lines room2
       graph3 = theirs-same same3 n
 
-      marked-asks : VerdictAsks rows n room3 lines
+      marked-asks : VerdictAsks rows mask n room3 lines
       marked-asks = record {
         ready = record { plate = p .plate; holds = holds-same same3 (told-asks .ready .holds) };
-        told = λ j l k. subst (λ (g : Graph). ToldAt g rows n room3 j) (sym graph3)
-            (told-moved (theirs n lines room2) rows n room2 room3 j (sym (marked .same .start j k)) (sym (marked .same .lead j k)) (sym (marked .same .told j k)) (told-asks .told j l k));
+        told = λ j l k. subst (λ (g : Graph). ToldAt g rows mask n room3 j) (sym graph3)
+            (told-moved (theirs n lines room2) rows mask n room2 room3 j (sym (marked .same .start j k)) (sym (marked .same .lead j k)) (sym (marked .same .told j k)) (told-asks .told j l k));
       }
 
       mark-right : (j : ℕ) → j < lines → MarkRight (theirs n lines room3) room3 (markAt room3 j) j
@@ -84,10 +84,11 @@ module _ {rows : List ℕ} {n : ℕ} {text : List ℕ} {lines : ℕ} {room : Lis
       })
 
       -- where the verdict is right, the surplus can be taken
-      asks-for : (v : Judged) → Found (theirs n lines room2) (ours rows) n v → SurplusFor v rows n room3 lines
+      asks-for : (v : Judged) → Found (theirs n lines room2) (ours rows mask) n v → SurplusFor v rows n room3 lines
       asks-for J.Right h = record {
+        mask = mask;
         asks = marked-asks;
-        right = subst (λ (g : Graph). Same g (ours rows) n 0 1 1) (sym graph3) h;
+        right = subst (λ (g : Graph). Same g (ours rows mask) n 0 1 1) (sym graph3) h;
         marks = mark-right;
       }
       asks-for (J.SpelledWrongly w) h = tt
@@ -97,9 +98,9 @@ module _ {rows : List ℕ} {n : ℕ} {text : List ℕ} {lines : ℕ} {room : Lis
       pub surplus-for : SurplusFor v rows n room3 lines
       surplus-for = asks-for v f
 
-      pub judged-to : (r : Judgement) → (r .verdict ≡ v) × SurplusIn (theirs n lines room3) n rows v (r .states) (r .branches) → JudgedTo (listedGraph n (branchesOf (entries n text))) rows n r
+      pub judged-to : (r : Judgement) → (r .verdict ≡ v) × SurplusIn (theirs n lines room3) n rows v (r .states) (r .branches) → JudgedTo (listedGraph n (branchesOf (entries n text))) rows mask n r
       judged-to r e = record {
-        found = subst (Found (listedGraph n (branchesOf (entries n text))) (ours rows) n) (sym (e .0)) (found-of v f);
+        found = subst (Found (listedGraph n (branchesOf (entries n text))) (ours rows mask) n) (sym (e .0)) (found-of v f);
         surplus =
             subst (λ (v : Judged). SurplusIn (listedGraph n (branchesOf (entries n text))) n rows v (r .states) (r .branches)) (sym (e .0))
             (subst (λ (g : Graph). SurplusIn g n rows v (r .states) (r .branches)) (graph3 ∙ theirs-same (a .same) n ∙ graph1) (e .1));

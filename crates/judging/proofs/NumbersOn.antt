@@ -21,24 +21,24 @@ use Rattle.judging.specs.Room.{Holds, ToldFrom, keyOf, startAt, theirs, 
 use Rattle.judging.specs.Surplus.{BranchOn, Number, StateOn}
 use Rattle.judging.specs.Ways.{Same}
 
-module _ (rows : List ℕ) (n : ℕ) (room : List ℕ) (lines : ℕ) (o : OfPlate rows n) (holds : Holds n lines room)
-    (told : ToldFrom (theirs n lines room) rows n lines room 0) (right : Same (theirs n lines room) (ours rows) n 0 1 1)
+module _ (rows : List ℕ) (mask n : ℕ) (room : List ℕ) (lines : ℕ) (o : OfPlate rows mask n) (holds : Holds n lines room)
+    (told : ToldFrom (theirs n lines room) rows mask n lines room 0) (right : Same (theirs n lines room) (ours rows mask) n 0 1 1)
     (ends : Ended (theirs n lines room) n) (marks : (j : ℕ) → j < lines → MarkRight (theirs n lines room) room (markAt room j) j) where
   -- ---- a line is counted exactly if it is on a full path
 
-  used-true : (t i : ℕ) → i < lines → usedTest room t i ≡ true → (startAt room i / 2048 ≡ t) × LineUsed rows n room lines o holds told right i
+  used-true : (t i : ℕ) → i < lines → usedTest room t i ≡ true → (startAt room i / 2048 ≡ t) × LineUsed rows mask n room lines o holds told right i
   used-true t i l e = go (eqb (startAt room i / 2048) t) refl (eqb (markAt room i) 1) refl e
     where
       go : (a : Bool) → eqb (startAt room i / 2048) t ≡ a → (b : Bool) → eqb (markAt room i) 1 ≡ b → cond a (cond b (ltb 0 (toldAt room i)) false) false ≡ true
-          → (startAt room i / 2048 ≡ t) × LineUsed rows n room lines o holds told right i
+          → (startAt room i / 2048 ≡ t) × LineUsed rows mask n room lines o holds told right i
       go true p true q r =
-          (eqb-true _ _ p, used-of rows n room lines o holds told right ends i l (marks i l .yes-is (eqb-true _ _ q)) (λ z. omega (arith, z, ltb-true 0 (toldAt room i) r)))
+          (eqb-true _ _ p, used-of rows mask n room lines o holds told right ends i l (marks i l .yes-is (eqb-true _ _ q)) (λ z. omega (arith, z, ltb-true 0 (toldAt room i) r)))
       go true p false q r = absurd (false≢true r)
       go false p b q r = absurd (false≢true r)
 
-  true-used : (t i : ℕ) → i < lines → startAt room i / 2048 ≡ t → LineUsed rows n room lines o holds told right i → usedTest room t i ≡ true
+  true-used : (t i : ℕ) → i < lines → startAt room i / 2048 ≡ t → LineUsed rows mask n room lines o holds told right i → usedTest room t i ≡ true
   true-used t i l e u =
-      let x = of-used rows n room lines o holds told right ends i l u in
+      let x = of-used rows mask n room lines o holds told right ends i l u in
       rw (eq-eqb (startAt room i / 2048) t e, eq-eqb (markAt room i) 1 (marks i l .no-is (x .0)), lt-ltb 0 (toldAt room i) (omega (arith, x .1)))
 
   -- the line that a full path takes in a section
@@ -51,7 +51,7 @@ module _ (rows : List ℕ) (n : ℕ) (room : List ℕ) (lines : ℕ) (o : OfPlat
       let d : startAt room (x .0) / 2048 ≡ t = omega (arith, x .2, two, small) in
       let f : startAt room (x .0) / 2 % 1024 ≡ p .state t = omega (arith, x .2, two, small) in
       let b : startAt room (x .0) % 2 ≡ bit w t = omega (arith, x .2, two, small) in
-      let u : LineUsed rows n room lines o holds told right (x .0) = record { word = w; path = p; state-is = ap (p .state) d ∙ sym f; bit-is = ap (bit w) d ∙ sym b } in
+      let u : LineUsed rows mask n room lines o holds told right (x .0) = record { word = w; path = p; state-is = ap (p .state) d ∙ sym f; bit-is = ap (bit w) d ∙ sym b } in
       (x .0, x .1, true-used t (x .0) (x .1) d u, x .2, small)
 
   -- two lines of one depth with the same rest of their starts are one

@@ -1,6 +1,6 @@
 -- Our states: where their branches lead, that each has a way to the end, and that no two have the same branches.
 use borrow.Author.Tests.{eq-eqb}
-use lib.Bits.{bitXor, differ}
+use lib.Bits.{bitXor, differ, xor-lt}
 use lib.Dec.{T}
 use lib.ListN.{getD, length}
 use mathlib.Core.List.{List}
@@ -18,21 +18,23 @@ use Rattle.plates.specs.Refusals.{Refuses}
 use Rattle.plates.specs.Sound.{Sound}
 use Rattle.trellises.proofs.Active.{active-is, is-active}
 use Rattle.trellises.proofs.BranchDetermined.{next-determined}
+use Rattle.trellises.proofs.MaskedGraph.{has-off, xor-twice}
 use Rattle.trellises.proofs.NextIsBranch.{next-branches}
 use Rattle.trellises.proofs.PathsOnce.{nth-branch}
 use Rattle.trellises.proofs.PlateTrellis.{plate-spans, plate-spells}
-use Rattle.trellises.specs.Branching.{Branches, branchConditions}
+use Rattle.trellises.specs.Branching.{Branches, branchConditions, codeTrellis}
 use Rattle.trellises.specs.declared.Next.{Next}
 use Rattle.trellises.specs.declared.Next.the-variants.{NoBranch, Refused, State}
 use Rattle.trellises.specs.Following.{nextOf}
 use Rattle.trellises.specs.Graph.{Branch, Has}
+use Rattle.trellises.specs.Masking.{turned}
 use Rattle.trellises.specs.Numbers.{bitOf}
 use Rattle.trellises.specs.SectionOf.{sectionOf}
 use Rattle.trellises.specs.States.{active, stateOf, trellis}
 use Rattle.words.proofs.Choice.{gather-lt, gather-same, gather-shows, spread-gather, spread-zero}
 use Rattle.words.proofs.Span.{zero-from}
 use Rattle.words.proofs.Sums.{sum-agree, sum-xor, sum-zero}
-use Rattle.words.proofs.Word.{bit-same, bit-xor, bit-zero, differ-self}
+use Rattle.words.proofs.Word.{bit-lt, bit-same, bit-xor, bit-zero, differ-self}
 use Rattle.words.specs.Choice.{gather, spread}
 use Rattle.words.specs.Ends.{firsts, lasts}
 use Rattle.words.specs.Span.{Spans}
@@ -122,11 +124,15 @@ module _ {plate : Plate} (s : Sound plate) where
   spans : Spans (rowsOf plate) (firsts (rowsOf plate)) (lasts (rowsOf plate))
   spans = plate-spans plate (prepared s)
 
+  -- the code's branch
+  own : {t a b c : ℕ} → Has (ours (rowsOf plate) (plate .mask)) t a b c → Has (codeTrellis plate) t a (turned (bit (plate .mask) t) b) c
+  own h = has-off (plate .mask) (codeTrellis plate) h
+
   -- a branch leads to a state of the next depth
-  pub our-inside : (t a b c : ℕ) → Has (ours (rowsOf plate)) t a b c → c < 2 ^ liveAt (rowsOf plate) (suc t)
+  pub our-inside : (t a b c : ℕ) → Has (ours (rowsOf plate) (plate .mask)) t a b c → c < 2 ^ liveAt (rowsOf plate) (suc t)
   our-inside t a b c h =
       subst (λ (x : ℕ). x < 2 ^ liveAt (rowsOf plate) (suc t))
-      (sym (ap (λ (b : Branch). b .to) (nth-branch (rowsOf plate) _ _ spans t (h .place) (h .there))) ∙ h .leads)
+      (sym (ap (λ (b : Branch). b .to) (nth-branch (rowsOf plate) _ _ spans t (own h .place) (own h .there))) ∙ own h .leads)
       (gather-lt (length (rowsOf plate)) _ _)
 
   pub one-start : 2 ^ liveAt (rowsOf plate) 0 ≡ 1
@@ -137,17 +143,17 @@ module _ {plate : Plate} (s : Sound plate) where
 
   module _ (t : ℕ) (h : t < plate .n) where
     -- by what the branch asked for is answered
-    by-next : (a b : ℕ) → a < 2 ^ liveAt (rowsOf plate) t → b ≤ 1 → (N : Next) → Branches plate t a b N → Leads (ours (rowsOf plate)) t (suc a) b (numberOf N)
+    by-next : (a b : ℕ) → a < 2 ^ liveAt (rowsOf plate) t → b ≤ 1 → (N : Next) → Branches plate t a b N → Leads (ours (rowsOf plate) (plate .mask)) t (suc a) b (numberOf N)
     by-next a b l m (State z) x = record {
       none = λ e. absurd (omega (arith, e));
       all = λ v k e q.
           let i : a ≡ v = omega (arith, e) in
-          ap suc (next-determined (rowsOf plate) _ _ spans t a b z k (x .1) (subst (λ (y : ℕ). Has (ours (rowsOf plate)) t y b k) (sym i) q));
-      some = λ k e. let i : z ≡ k = omega (arith, e) in (a, refl, subst (Has (ours (rowsOf plate)) t a b) i (x .1));
+          ap suc (next-determined (rowsOf plate) _ _ spans t a _ z k (own (x .1)) (own (subst (λ (y : ℕ). Has (ours (rowsOf plate) (plate .mask)) t y b k) (sym i) q)));
+      some = λ k e. let i : z ≡ k = omega (arith, e) in (a, refl, subst (Has (ours (rowsOf plate) (plate .mask)) t a b) i (x .1));
     }
     by-next a b l m NoBranch x = record {
       none = λ e. absurd (omega (arith, e));
-      all = λ v k e q. let i : a ≡ v = omega (arith, e) in absurd (x .1 k (subst (λ (y : ℕ). Has (ours (rowsOf plate)) t y b k) (sym i) q));
+      all = λ v k e q. let i : a ≡ v = omega (arith, e) in absurd (x .1 k (subst (λ (y : ℕ). Has (ours (rowsOf plate) (plate .mask)) t y b k) (sym i) q));
       some = λ k e. absurd (omega (arith, e));
     }
     by-next a b l m (Refused q) x = absurd (never x)
@@ -159,17 +165,27 @@ module _ {plate : Plate} (s : Sound plate) where
         never (inr (n, inl ((inr (inr y)), e))) = omega (arith, y, m)
         never (inr (n, inr (k, y))) = y
 
-    -- where our branches lead
-    pub our-leads : (y b : ℕ) → y ≤ 2 ^ liveAt (rowsOf plate) t → b < 2 → Leads (ours (rowsOf plate)) t y b (follows (sectionOf (rowsOf plate) t) y b)
+    -- where our branches lead: the bit of the code's branch is the mask's added
+    pub our-leads : (y b : ℕ) → y ≤ 2 ^ liveAt (rowsOf plate) t → b < 2
+        → Leads (ours (rowsOf plate) (plate .mask)) t y b (follows (sectionOf (rowsOf plate) t) y (bitXor b (bit (plate .mask) t)))
     our-leads zero b l m = record { none = λ e. refl; all = λ v k e q. absurd (omega (arith, e)); some = λ k e. absurd (omega (arith, e)) }
-    our-leads (suc a) b l m = by-next a b (omega arith) (omega arith) (nextOf (sectionOf (rowsOf plate) t) a b) (next-branches plate s t a b h (omega arith) (omega arith))
+    our-leads (suc a) b l m =
+        by-next a b (omega arith) (omega arith) (nextOf (sectionOf (rowsOf plate) t) a (bitXor b (bit (plate .mask) t)))
+        (next-branches plate s t a b h (omega arith) (omega arith))
+
+    -- the same by the bit of the code's branch
+    pub code-leads : (y b : ℕ) → y ≤ 2 ^ liveAt (rowsOf plate) t → b < 2
+        → Leads (ours (rowsOf plate) (plate .mask)) t y (bitXor b (bit (plate .mask) t)) (follows (sectionOf (rowsOf plate) t) y b)
+    code-leads y b l m =
+        subst (λ (d : ℕ). Leads (ours (rowsOf plate) (plate .mask)) t y (bitXor b (bit (plate .mask) t)) (follows (sectionOf (rowsOf plate) t) y d))
+        (xor-twice b (bit (plate .mask) t)) (our-leads y (bitXor b (bit (plate .mask) t)) l (xor-lt 1 b (bit (plate .mask) t) m (bit-lt t (plate .mask))))
 
     pub our-small : (y b : ℕ) → y ≤ 2 ^ liveAt (rowsOf plate) t → b < 2 → follows (sectionOf (rowsOf plate) t) y b ≤ 2 ^ liveAt (rowsOf plate) (suc t)
     our-small y b l m = go (follows (sectionOf (rowsOf plate) t) y b) refl
       where
         go : (z : ℕ) → follows (sectionOf (rowsOf plate) t) y b ≡ z → z ≤ 2 ^ liveAt (rowsOf plate) (suc t)
         go zero e = omega arith
-        go (suc k) e = let x = our-leads y b l m .some k e in omega (arith, our-inside t (x .0) b k (x .2))
+        go (suc k) e = let x = code-leads y b l m .some k e in omega (arith, our-inside t (x .0) _ k (x .2))
 
     -- each state has a branch
     pub our-branch : (a : ℕ) → follows (sectionOf (rowsOf plate) t) (suc a) (bitOf (sectionOf (rowsOf plate) t) a) ≡ 0 → ⊥
@@ -187,31 +203,36 @@ module _ {plate : Plate} (s : Sound plate) where
         go zero e = absurd (our-branch a e)
         go (suc k) e =
             let b = bitOf (sectionOf (rowsOf plate) t) a in
-            let x = our-leads (suc a) b (omega arith) two .some k e in
-            let y = our-leads (suc a′) b (omega arith) two .some k (sym (same b two) ∙ e) in
-            let p = branch-parts (rowsOf plate) _ _ spans t (x .0) b k (x .2) in
-            let q = branch-parts (rowsOf plate) _ _ spans t (y .0) b k (y .2) in
+            let x = code-leads (suc a) b (omega arith) two .some k e in
+            let y = code-leads (suc a′) b (omega arith) two .some k (sym (same b two) ∙ e) in
+            let p = branch-parts (rowsOf plate) _ _ spans t (x .0) _ k (own (x .2)) in
+            let q = branch-parts (rowsOf plate) _ _ spans t (y .0) _ k (own (y .2)) in
             let m : x .0 ≡ y .0 = sym (p .1) ∙ same-state (rowsOf plate) _ _ spans t (p .0) (q .0) (p .2 ∙ sym (q .2)) (p .3 ∙ sym (q .3)) ∙ q .1 in
             omega (arith, x .1, y .1, m)
 
   -- each state has a way to the end
-  pub our-way : (d t a : ℕ) → t + d ≡ plate .n → a < 2 ^ liveAt (rowsOf plate) t → (w : ℕ) × Way (ours (rowsOf plate)) d t a w
+  pub our-way : (d t a : ℕ) → t + d ≡ plate .n → a < 2 ^ liveAt (rowsOf plate) t → (w : ℕ) × Way (ours (rowsOf plate) (plate .mask)) d t a w
   our-way zero t a e l =
       let q : t ≡ plate .n = omega arith in
       (0, (omega (arith, subst (λ (t : ℕ). a < 2 ^ liveAt (rowsOf plate) t) q l, one-end), refl))
-  our-way (suc d) t a e l = go (λ k m. our-way d (suc t) k (omega arith) m) (follows (sectionOf (rowsOf plate) t) (suc a) (bitOf (sectionOf (rowsOf plate) t) a)) refl
+  our-way (suc d) t a e l =
+      go (λ k m. our-way d (suc t) k (omega arith) m) (follows (sectionOf (rowsOf plate) t) (suc a) (bitOf (sectionOf (rowsOf plate) t) a)) refl
     where
       two : bitOf (sectionOf (rowsOf plate) t) a < 2
       two = omega arith
 
-      go : ((k : ℕ) → k < 2 ^ liveAt (rowsOf plate) (suc t) → (w : ℕ) × Way (ours (rowsOf plate)) d (suc t) k w) → (z : ℕ) → follows (sectionOf (rowsOf plate) t) (suc a) (bitOf (sectionOf (rowsOf plate) t) a) ≡ z → (w : ℕ) × Way (ours (rowsOf plate)) (suc d) t a w
+      go : ((k : ℕ) → k < 2 ^ liveAt (rowsOf plate) (suc t) → (w : ℕ) × Way (ours (rowsOf plate) (plate .mask)) d (suc t) k w) → (z : ℕ)
+          → follows (sectionOf (rowsOf plate) t) (suc a) (bitOf (sectionOf (rowsOf plate) t) a) ≡ z → (w : ℕ) × Way (ours (rowsOf plate) (plate .mask)) (suc d) t a w
       go more zero q = absurd (our-branch t (omega arith) a q)
       go more (suc k) q =
-          let b = bitOf (sectionOf (rowsOf plate) t) a in
-          let x = our-leads t (omega arith) (suc a) b (omega arith) two .some k q in
+          let b : ℕ = bitXor (bitOf (sectionOf (rowsOf plate) t) a) (bit (plate .mask) t) in
+          let small : b < 2 = xor-lt 1 (bitOf (sectionOf (rowsOf plate) t) a) (bit (plate .mask) t) two (bit-lt t (plate .mask)) in
+          let x = code-leads t (omega arith) (suc a) (bitOf (sectionOf (rowsOf plate) t) a) (omega arith) two .some k q in
           let i : x .0 ≡ a = omega (arith, x .1) in
-          let h : Has (ours (rowsOf plate)) t a b k = subst (λ (y : ℕ). Has (ours (rowsOf plate)) t y b k) i (x .2) in
+          let h : Has (ours (rowsOf plate) (plate .mask)) t a b k = subst (λ (y : ℕ). Has (ours (rowsOf plate) (plate .mask)) t y b k) i (x .2) in
           let r = more k (our-inside t a b k h) in
-          let e0 : b ≡ (r .0 * 2 + b) % 2 = omega (arith, two) in
-          let e1 : r .0 ≡ (r .0 * 2 + b) / 2 = omega (arith, two) in
-          (r .0 * 2 + b, (k, subst (λ (y : ℕ). Has (ours (rowsOf plate)) t a y k) e0 h, subst (Way (ours (rowsOf plate)) d (suc t) k) e1 (r .1)))
+          let e0 : b ≡ (r .0 * 2 + b) % 2 = omega (arith, small) in
+          let e1 : r .0 ≡ (r .0 * 2 + b) / 2 = omega (arith, small) in (
+            r .0 * 2 + b,
+            (k, subst (λ (y : ℕ). Has (ours (rowsOf plate) (plate .mask)) t a y k) e0 h, subst (Way (ours (rowsOf plate) (plate .mask)) d (suc t) k) e1 (r .1)),
+          )

@@ -92,14 +92,14 @@ module _ (plate : Plate) (text room : List ℕ) where
             single = no-line es (repeatsAt es) g second single;
           }
 
-          pub of-this-plate : OfPlate (rowsOf plate) (plate .n)
-          of-this-plate = record { plate = plate; sound = sound given; rows-are = refl; length-is = refl }
+          pub of-this-plate : OfPlate (rowsOf plate) (plate .mask) (plate .n)
+          of-this-plate = record { plate = plate; sound = sound given; rows-are = refl; mask-is = refl; length-is = refl }
 
           module _ (enough : roomNeed (entries (plate .n) text) ≤ length room) where
             passes : Passes (judgingConditions plate es room)
             passes = (not-5, (not-28, (not-26, (not-27, ((λ q x. omega (arith, x .0, enough)), tt)))))
 
-            by-verdict : (v : Judged) → Found (listedGraph (plate .n) (branchesOf (entries (plate .n) text))) (ours (rowsOf plate)) (plate .n) v
+            by-verdict : (v : Judged) → Found (listedGraph (plate .n) (branchesOf (entries (plate .n) text))) (ours (rowsOf plate) (plate .mask)) (plate .n) v
                 → (room′ : List ℕ) → Zeroed (roomNeed (entries (plate .n) text)) room room′ → JudgesBy plate (entries (plate .n) text) room room′ v
             by-verdict J.Right h room′ z =
                 (passes, found-right (sound given) (listedGraph (plate .n) (branchesOf (entries (plate .n) text))) (listed-ends all-clean (sound given .positive)) h, z)
@@ -109,6 +109,6 @@ module _ (plate : Plate) (text room : List ℕ) where
                 (passes, found-missing (sound given) (listedGraph (plate .n) (branchesOf (entries (plate .n) text))) (listed-ends all-clean (sound given .positive)) w h, z)
             by-verdict (J.Refused q) h room′ z = absurd h
 
-            pub judged-reply : (r : Judgement) → JudgedTo (listedGraph (plate .n) (branchesOf (entries (plate .n) text))) (rowsOf plate) (plate .n) r
+            pub judged-reply : (r : Judgement) → JudgedTo (listedGraph (plate .n) (branchesOf (entries (plate .n) text))) (rowsOf plate) (plate .mask) (plate .n) r
                 → (room′ : List ℕ) → Zeroed (roomNeed (entries (plate .n) text)) room room′ → Judges plate text room room′ r
             judged-reply r j room′ z = record { reply = by-verdict (r .verdict) (j .found) room′ z; surplus = j .surplus }

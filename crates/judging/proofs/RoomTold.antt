@@ -42,19 +42,19 @@ module _ {lines : ℕ} {room room′ : List ℕ} (same : SameLines lines room ro
   }
 
 -- what is told at a line, in another room with the same line
-pub told-moved : (g : Graph) (rows : List ℕ) (n : ℕ) (room room′ : List ℕ) (j : ℕ) → startAt room j ≡ startAt room′ j → leadAt room j ≡ leadAt room′ j
-    → toldAt room j ≡ toldAt room′ j → ToldAt g rows n room j → ToldAt g rows n room′ j
-told-moved g rows n room room′ j s l x t = record {
+pub told-moved : (g : Graph) (rows : List ℕ) (mask n : ℕ) (room room′ : List ℕ) (j : ℕ) → startAt room j ≡ startAt room′ j → leadAt room j ≡ leadAt room′ j
+    → toldAt room j ≡ toldAt room′ j → ToldAt g rows mask n room j → ToldAt g rows mask n room′ j
+told-moved g rows mask n room room′ j s l x t = record {
   tells =
-      subst (λ (s : ℕ). Tells g (ours rows) (n - suc (s / 2048)) (suc (s / 2048)) (suc (leadAt room′ j)) (toldAt room′ j)) s
-      (subst (λ (l : ℕ). Tells g (ours rows) (n - suc (startAt room j / 2048)) (suc (startAt room j / 2048)) (suc l) (toldAt room′ j)) l
-      (subst (Tells g (ours rows) (n - suc (startAt room j / 2048)) (suc (startAt room j / 2048)) (suc (leadAt room j))) x (t .tells)));
+      subst (λ (s : ℕ). Tells g (ours rows mask) (n - suc (s / 2048)) (suc (s / 2048)) (suc (leadAt room′ j)) (toldAt room′ j)) s
+      (subst (λ (l : ℕ). Tells g (ours rows mask) (n - suc (startAt room j / 2048)) (suc (startAt room j / 2048)) (suc l) (toldAt room′ j)) l
+      (subst (Tells g (ours rows mask) (n - suc (startAt room j / 2048)) (suc (startAt room j / 2048)) (suc (leadAt room j))) x (t .tells)));
 }
 
 -- ---- one line more
 
-module _ (rows : List ℕ) (n lines : ℕ) (room₀ room : List ℕ) (i : ℕ) (ready : Ready rows n room₀ lines) (same : SameLines lines room₀ room)
-    (told : ToldFrom (theirs n lines room₀) rows n lines room (suc i)) (l : i < lines) where
+module _ (rows : List ℕ) (mask n lines : ℕ) (room₀ room : List ℕ) (i : ℕ) (ready : Ready rows mask n room₀ lines) (same : SameLines lines room₀ room)
+    (told : ToldFrom (theirs n lines room₀) rows mask n lines room (suc i)) (l : i < lines) where
   holds : Holds n lines room
   holds = holds-same same (ready .holds)
 
@@ -65,14 +65,14 @@ module _ (rows : List ℕ) (n lines : ℕ) (room₀ room : List ℕ) (i : ℕ) (
   lead-small = holds .leads i l
 
   -- the state that the line leads to can be told: the lines of its depth come later
-  pub asking : Asking rows n room lines (startAt room i / 2048 + 1)
+  pub asking : Asking rows mask n room lines (startAt room i / 2048 + 1)
   asking = record { ready = record { plate = ready .plate; holds = holds }; within = omega (arith, depth-below); told = λ h j m e. there j m e (decLt i j) }
     where
-      there : (j : ℕ) → j < lines → startAt room j / 2048 ≡ startAt room i / 2048 + 1 → Dec (i < j) → ToldAt (theirs n lines room) rows n room j
-      there j m e (yes d) = subst (λ (g : Graph). ToldAt g rows n room j) (sym (theirs-same same n)) (told j d m)
+      there : (j : ℕ) → j < lines → startAt room j / 2048 ≡ startAt room i / 2048 + 1 → Dec (i < j) → ToldAt (theirs n lines room) rows mask n room j
+      there j m e (yes d) = subst (λ (g : Graph). ToldAt g rows mask n room j) (sym (theirs-same same n)) (told j d m)
       there j m e (no d) = before (ℕ-discrete i j)
         where
-          before : Dec (i ≡ j) → ToldAt (theirs n lines room) rows n room j
+          before : Dec (i ≡ j) → ToldAt (theirs n lines room) rows mask n room j
           before (yes q) = absurd (omega (arith, e, ap (λ (k : ℕ). startAt room k / 2048) q))
           before (no q) = absurd (omega (arith, e, holds .order j i (omega (arith, d, q)) l))
 
@@ -87,25 +87,25 @@ module _ (rows : List ℕ) (n lines : ℕ) (room₀ room : List ℕ) (i : ℕ) (
       lead = λ j m. other (4 * j + 1) (λ e. omega (arith, e)) ∙ same .lead j m;
     }
 
-    pub told-more : Tells (theirs n lines room) (ours rows) (n - (startAt room i / 2048 + 1)) (startAt room i / 2048 + 1) (suc (leadAt room i)) x
-        → ToldFrom (theirs n lines room₀) rows n lines (set room (4 * i + 2) x) i
+    pub told-more : Tells (theirs n lines room) (ours rows mask) (n - (startAt room i / 2048 + 1)) (startAt room i / 2048 + 1) (suc (leadAt room i)) x
+        → ToldFrom (theirs n lines room₀) rows mask n lines (set room (4 * i + 2) x) i
     told-more t j m k = go (ℕ-discrete i j)
       where
-        here : ToldAt (theirs n lines room₀) rows n (set room (4 * i + 2) x) i
+        here : ToldAt (theirs n lines room₀) rows mask n (set room (4 * i + 2) x) i
         here = record {
           tells =
-              subst (λ (g : Graph). Tells g (ours rows) (n - suc (startAt (set room (4 * i + 2) x) i / 2048)) (suc (startAt (set room (4 * i + 2) x) i / 2048)) (suc (leadAt (set room (4 * i + 2) x) i)) (toldAt (set room (4 * i + 2) x) i)) (theirs-same same n)
-              (subst (λ (s : ℕ). Tells (theirs n lines room) (ours rows) (n - suc (s / 2048)) (suc (s / 2048)) (suc (leadAt (set room (4 * i + 2) x) i)) (toldAt (set room (4 * i + 2) x) i)) (sym (other (4 * i) (λ e. omega (arith, e))))
-              (subst (λ (e : ℕ). Tells (theirs n lines room) (ours rows) (n - suc (startAt room i / 2048)) (suc (startAt room i / 2048)) (suc e) (toldAt (set room (4 * i + 2) x) i)) (sym (other (4 * i + 1) (λ e. omega (arith, e))))
-              (subst (Tells (theirs n lines room) (ours rows) (n - suc (startAt room i / 2048)) (suc (startAt room i / 2048)) (suc (leadAt room i))) (sym (getD-set-same room (4 * i + 2) x 0 (omega (arith, holds .size, l))))
-              (subst (λ (d : ℕ). Tells (theirs n lines room) (ours rows) (n - d) d (suc (leadAt room i)) x) (add-one (startAt room i / 2048)) t))));
+              subst (λ (g : Graph). Tells g (ours rows mask) (n - suc (startAt (set room (4 * i + 2) x) i / 2048)) (suc (startAt (set room (4 * i + 2) x) i / 2048)) (suc (leadAt (set room (4 * i + 2) x) i)) (toldAt (set room (4 * i + 2) x) i)) (theirs-same same n)
+              (subst (λ (s : ℕ). Tells (theirs n lines room) (ours rows mask) (n - suc (s / 2048)) (suc (s / 2048)) (suc (leadAt (set room (4 * i + 2) x) i)) (toldAt (set room (4 * i + 2) x) i)) (sym (other (4 * i) (λ e. omega (arith, e))))
+              (subst (λ (e : ℕ). Tells (theirs n lines room) (ours rows mask) (n - suc (startAt room i / 2048)) (suc (startAt room i / 2048)) (suc e) (toldAt (set room (4 * i + 2) x) i)) (sym (other (4 * i + 1) (λ e. omega (arith, e))))
+              (subst (Tells (theirs n lines room) (ours rows mask) (n - suc (startAt room i / 2048)) (suc (startAt room i / 2048)) (suc (leadAt room i))) (sym (getD-set-same room (4 * i + 2) x 0 (omega (arith, holds .size, l))))
+              (subst (λ (d : ℕ). Tells (theirs n lines room) (ours rows mask) (n - d) d (suc (leadAt room i)) x) (add-one (startAt room i / 2048)) t))));
         }
 
-        go : Dec (i ≡ j) → ToldAt (theirs n lines room₀) rows n (set room (4 * i + 2) x) j
-        go (yes q) = subst (ToldAt (theirs n lines room₀) rows n (set room (4 * i + 2) x)) q here
+        go : Dec (i ≡ j) → ToldAt (theirs n lines room₀) rows mask n (set room (4 * i + 2) x) j
+        go (yes q) = subst (ToldAt (theirs n lines room₀) rows mask n (set room (4 * i + 2) x)) q here
         go (no d) =
-            told-moved (theirs n lines room₀) rows n room (set room (4 * i + 2) x) j (sym (other (4 * j) (λ e. omega (arith, e)))) (sym (other (4 * j + 1) (λ e. omega (arith, e))))
+            told-moved (theirs n lines room₀) rows mask n room (set room (4 * i + 2) x) j (sym (other (4 * j) (λ e. omega (arith, e)))) (sym (other (4 * j + 1) (λ e. omega (arith, e))))
             (sym (other (4 * j + 2) (λ e. d (omega (arith, e))))) (told j (omega (arith, m, d)) k)
 
-pub told-none : (rows : List ℕ) (n lines : ℕ) (g : Graph) (room : List ℕ) → ToldFrom g rows n lines room lines
-told-none rows n lines g room j l m = absurd (omega arith)
+pub told-none : (rows : List ℕ) (mask n lines : ℕ) (g : Graph) (room : List ℕ) → ToldFrom g rows mask n lines room lines
+told-none rows mask n lines g room j l m = absurd (omega arith)

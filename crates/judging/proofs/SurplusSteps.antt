@@ -9,6 +9,7 @@ use native.Mathlib.Omega.{arith}
 use Prim.Native.Nat.{_+_, _<_, _^_, suc, ℕ, _≤_}
 use Rattle.plates.proofs.SoundIsPrepared.{prepared}
 use Rattle.plates.proofs.TableFilled.{zeros-at}
+use Rattle.plates.specs.Code.{Masked}
 use Rattle.plates.specs.Profile.{liveAt}
 use Rattle.trellises.proofs.PlateTrellis.{plate-spans}
 use Rattle.trellises.proofs.SectionAgrees.{section-agrees}
@@ -18,6 +19,7 @@ use Rattle.trellises.specs.Numbers.{branchCount}
 use Rattle.trellises.specs.SectionOf.{held, sectionOf}
 use Rattle.trellises.specs.Smallest.{activeAt}
 use Rattle.words.proofs.Sums.{in-zero}
+use Rattle.words.proofs.Word.{xor-self}
 use Rattle.words.specs.Choice.{count}
 use Rattle.words.specs.Ends.{firsts, lasts}
 use Rattle.words.specs.Span.{Spans}
@@ -47,21 +49,22 @@ their-ends n lines room p h = record {
 
 module _ {rows : List ℕ} {n : ℕ} {room : List ℕ} {lines : ℕ} (p : SurplusAsks rows n room lines) where
   spans : Spans rows (firsts rows) (lasts rows)
-  spans = of-plate (λ (r : List ℕ) (m : ℕ). Spans r (firsts r) (lasts r)) (p .asks .ready .plate) (plate-spans (p .asks .ready .plate .plate) (prepared (p .asks .ready .plate .sound)))
+  spans = of-plate (λ (r : List ℕ) (k m : ℕ). Spans r (firsts r) (lasts r)) (p .asks .ready .plate) (plate-spans (p .asks .ready .plate .plate) (prepared (p .asks .ready .plate .sound)))
 
   ends : Ended (theirs n lines room) n
-  ends = their-ends n lines room (of-plate (λ (r : List ℕ) (m : ℕ). 1 ≤ m) (p .asks .ready .plate) (p .asks .ready .plate .sound .positive)) (p .asks .ready .holds)
+  ends = their-ends n lines room (of-plate (λ (r : List ℕ) (k m : ℕ). 1 ≤ m) (p .asks .ready .plate) (p .asks .ready .plate .sound .positive)) (p .asks .ready .holds)
 
-  spells : Spells (theirs n lines room) n (IsSum rows)
+  spells : Spells (theirs n lines room) n (Masked (IsSum rows) (p .mask))
   spells =
-      of-plate (λ (r : List ℕ) (m : ℕ). Ended (theirs n lines room) m → Same (theirs n lines room) (ours r) m 0 1 1 → Spells (theirs n lines room) m (IsSum r)) (p .asks .ready .plate)
+      of-plate (λ (r : List ℕ) (k m : ℕ). Ended (theirs n lines room) m → Same (theirs n lines room) (ours r k) m 0 1 1
+      → Spells (theirs n lines room) m (Masked (IsSum r) k)) (p .asks .ready .plate)
       (λ e s. found-right (p .asks .ready .plate .sound) (theirs n lines room) e s) ends (p .right)
 
   states-on : (t : ℕ) → t < n → Number (StateOn (theirs n lines room) n t) (count lines (firstTest room t))
-  states-on = states-counted rows n room lines (p .asks .ready .plate) (p .asks .ready .holds) (p .asks .told) (p .right) ends (p .marks)
+  states-on = states-counted rows (p .mask) n room lines (p .asks .ready .plate) (p .asks .ready .holds) (p .asks .told) (p .right) ends (p .marks)
 
   branches-on : (t : ℕ) → t < n → Number (BranchOn (theirs n lines room) n t) (count lines (usedTest room t))
-  branches-on = branches-counted rows n room lines (p .asks .ready .plate) (p .asks .ready .holds) (p .asks .told) (p .right) ends (p .marks)
+  branches-on = branches-counted rows (p .mask) n room lines (p .asks .ready .plate) (p .asks .ready .holds) (p .asks .told) (p .right) ends (p .marks)
 
   module _ (t : ℕ) (h : t < n) (c : Section) (e : c ≡ held (sectionOf rows t)) where
     pub own-states : 2 ^ c .live ≡ 2 ^ liveAt rows t
@@ -72,10 +75,10 @@ module _ {rows : List ℕ} {n : ℕ} {room : List ℕ} {lines : ℕ} (p : Surplu
 
     -- none is negative
     pub states-enough : 2 ^ c .live ≤ count lines (firstTest room t)
-    states-enough = omega (arith, own-states, no-fewer-states (theirs n lines room) n rows (firsts rows) (lasts rows) spans spells t _ (omega (arith, h)) (states-on t h))
+    states-enough = omega (arith, own-states, no-fewer-states (theirs n lines room) n rows (p .mask) (firsts rows) (lasts rows) spans spells t _ (omega (arith, h)) (states-on t h))
 
     pub branches-enough : branchCount c ≤ count lines (usedTest room t)
-    branches-enough = omega (arith, own-branches, no-fewer-branches (theirs n lines room) n rows (firsts rows) (lasts rows) spans spells t _ h (branches-on t h))
+    branches-enough = omega (arith, own-branches, no-fewer-branches (theirs n lines room) n rows (p .mask) (firsts rows) (lasts rows) spans spells t _ h (branches-on t h))
 
   -- ---- the loop
 
@@ -150,4 +153,4 @@ module _ {rows : List ℕ} {n : ℕ} {room : List ℕ} {lines : ℕ} (p : Surplu
           let q : n ≡ i = omega arith in
           let k : 1 ≡ 2 ^ liveAt rows n + getD states n 0 = omega (arith, end-states (p .asks .ready .plate), f .no-state n (omega (arith, e))) in
           subst (λ (i : ℕ). Number (StateOn (theirs n lines room) n i) (2 ^ liveAt rows i + getD states i 0)) q
-          (subst (Number (StateOn (theirs n lines room) n n)) k (end-counted (theirs n lines room) n 0 (ends .end) (spells .exact 0 .0 (in-zero rows) .1)))
+          (subst (Number (StateOn (theirs n lines room) n n)) k (end-counted (theirs n lines room) n (p .mask) (ends .end) (spells .exact (p .mask) .0 (subst (IsSum rows) (sym (xor-self (p .mask))) (in-zero rows)) .1)))

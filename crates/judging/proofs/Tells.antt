@@ -1,4 +1,5 @@
 -- A number that tells which state of ours, or none, has the same ways to the end as a state of theirs.
+use lib.Bits.{bitXor}
 use mathlib.Core.Logic.{Iff·symm, Iff·trans, _↔_}
 use mathlib.Core.Path.{refl, subst, sym, _∙_, _≡_}
 use native.Mathlib.Decide.{ℕ-discrete}
@@ -87,3 +88,15 @@ module _ (A B : Graph) where
             let e1 : x1 ≡ o1 .0 = m1 .from (o1 .0) (o1 .2) (same-one d t u 1 u1 y (o1 .0) (omega arith) a1 (o1 .1) s) in
             finds y l (subst (Leads B t y 0) (sym e0) (o0 .1)) (subst (Leads B t y 1) (sym e1) (o1 .1));
       }
+
+-- the same where the first of the two branches is the one with bit `flip`
+pub tells-flipped : (A B : Graph) (flip : ℕ) → flip < 2 → (d t u u0 u1 : ℕ) → Leads A t u (bitXor 0 flip) u0 → Leads A t u (bitXor 1 flip) u1
+    → (x0 x1 x : ℕ) → Tells A B d (suc t) u0 x0 → Tells A B d (suc t) u1 x1
+    → ((y : ℕ) → y ≤ B .states t → x ≡ y
+    → Leads B t y (bitXor 0 flip) x0 × Leads B t y (bitXor 1 flip) x1 × (x0 ≤ B .states (suc t)) × (x1 ≤ B .states (suc t)))
+    → ((y b : ℕ) → y ≤ B .states t → b < 2 → (z : ℕ) × Leads B t y b z × (z ≤ B .states (suc t)))
+    → ((y : ℕ) → y ≤ B .states t → Leads B t y (bitXor 0 flip) x0 → Leads B t y (bitXor 1 flip) x1 → x ≡ y) → Tells A B (suc d) t u x
+tells-flipped A B zero small d t u u0 u1 a0 a1 x0 x1 x m0 m1 hits leads finds = tells-step A B d t u u0 u1 a0 a1 x0 x1 x m0 m1 hits leads finds
+tells-flipped A B (suc zero) small d t u u0 u1 a0 a1 x0 x1 x m0 m1 hits leads finds =
+    tells-step A B d t u u1 u0 a1 a0 x1 x0 x m1 m0 (λ y l e. let h = hits y l e in (h .1, h .0, h .3, h .2)) leads (λ y l p q. finds y l q p)
+tells-flipped A B (suc (suc flip)) small d t u u0 u1 a0 a1 x0 x1 x m0 m1 hits leads finds = absurd (omega arith)

@@ -1,4 +1,5 @@
 -- Which lines of a right listing are on full paths: those whose state is reached and of which a number of ours is told.
+use lib.Bits.{bitXor, xor-lt}
 use mathlib.Core.List.{List}
 use mathlib.Core.Path.{ap, refl, subst, sym, _∙_, _≡_}
 use native.Mathlib.Decide.{decLt}
@@ -72,32 +73,32 @@ suffix-way g n w p e (suc d) t q =
       (p .state (suc t), subst (λ (b : ℕ). Has g t (p .state t) b (p .state (suc t))) e0 (p .branch t (omega arith)), subst (Way g d (suc t) (p .state (suc t))) e1 (x .1)),
     )
 
-module _ (rows : List ℕ) (n : ℕ) (room : List ℕ) (lines : ℕ) (o : OfPlate rows n) (holds : Holds n lines room)
-    (told : ToldFrom (theirs n lines room) rows n lines room 0) (right : Same (theirs n lines room) (ours rows) n 0 1 1) where
+module _ (rows : List ℕ) (mask n : ℕ) (room : List ℕ) (lines : ℕ) (o : OfPlate rows mask n) (holds : Holds n lines room)
+    (told : ToldFrom (theirs n lines room) rows mask n lines room 0) (right : Same (theirs n lines room) (ours rows mask) n 0 1 1) where
   abbrev A : Graph
   A = theirs n lines room
 
   -- a state that is reached has the ways of a number of ours
   abbrev Known : ℕ → ℕ → Type 0
-  Known t v = (y : ℕ) × (y ≤ ours rows .states t) × Same (theirs n lines room) (ours rows) (n - t) t (suc v) y
+  Known t v = (y : ℕ) × (y ≤ ours rows mask .states t) × Same (theirs n lines room) (ours rows mask) (n - t) t (suc v) y
 
-  known-on : (t v b c : ℕ) → t < n → b < 2 → Has (theirs n lines room) t v b c → (y : ℕ) → y ≤ ours rows .states t → Same (theirs n lines room) (ours rows) (n - t) t (suc v) y
-      → (follows (sectionOf rows t) y b ≤ ours rows .states (suc t)) × Same (theirs n lines room) (ours rows) (n - suc t) (suc t) (suc c) (follows (sectionOf rows t) y b)
+  known-on : (t v b c : ℕ) → t < n → b < 2 → Has (theirs n lines room) t v b c → (y : ℕ) → y ≤ ours rows mask .states t → Same (theirs n lines room) (ours rows mask) (n - t) t (suc v) y
+      → (follows (sectionOf rows t) y (bitXor b (bit mask t)) ≤ ours rows mask .states (suc t)) × Same (theirs n lines room) (ours rows mask) (n - suc t) (suc t) (suc c) (follows (sectionOf rows t) y (bitXor b (bit mask t)))
   known-on t v b c l two h y m s =
       let z : n - t ≡ suc (n - suc t) = omega (arith, l) in (
-        follows-small o t y b l m two,
-        same-one (theirs n lines room) (ours rows) (n - suc t) t (suc v) b (suc c) y (follows (sectionOf rows t) y b) two (has-leads n lines room holds t v b c h) (leads-ours o t y b l m two)
-            (subst (λ (d : ℕ). Same (theirs n lines room) (ours rows) d t (suc v) y) z s),
+        follows-small o t y (bitXor b (bit mask t)) l m (xor-lt 1 b (bit mask t) two (bit-lt t mask)),
+        same-one (theirs n lines room) (ours rows mask) (n - suc t) t (suc v) b (suc c) y (follows (sectionOf rows t) y (bitXor b (bit mask t))) two (has-leads n lines room holds t v b c h) (leads-ours o t y b l m two)
+            (subst (λ (d : ℕ). Same (theirs n lines room) (ours rows mask) d t (suc v) y) z s),
       )
 
   known-along : (t v : ℕ) → t ≤ n → (c : Chain (theirs n lines room) t v) → (i : ℕ) → i ≤ t → Known i (c .state i)
   known-along t v l c zero m =
       let z : n ≡ n - 0 = omega arith in
-      (1, omega (arith, start-states o), subst (λ (k : ℕ). Same (theirs n lines room) (ours rows) (n - 0) 0 (suc k) 1) (sym (c .start)) (subst (λ (d : ℕ). Same (theirs n lines room) (ours rows) d 0 1 1) z right))
+      (1, omega (arith, start-states o), subst (λ (k : ℕ). Same (theirs n lines room) (ours rows mask) (n - 0) 0 (suc k) 1) (sym (c .start)) (subst (λ (d : ℕ). Same (theirs n lines room) (ours rows mask) d 0 1 1) z right))
   known-along t v l c (suc i) m =
       let k = known-along t v l c i (omega arith) in
       let x = known-on i (c .state i) (c .digit i) (c .state (suc i)) (omega arith) (c .two i (omega arith)) (c .has i (omega arith)) (k .0) (k .1) (k .2) in
-      (follows (sectionOf rows i) (k .0) (c .digit i), x .0, x .1)
+      (follows (sectionOf rows i) (k .0) (bitXor (c .digit i) (bit mask i)), x .0, x .1)
 
   pub known : (t v : ℕ) → t ≤ n → Chain (theirs n lines room) t v → Known t v
   known t v l c = subst (Known t) (c .here) (known-along t v l c t (omega arith))
@@ -113,8 +114,8 @@ module _ (rows : List ℕ) (n : ℕ) (room : List ℕ) (lines : ℕ) (o : OfPlat
 
   module _ (ends : Ended (theirs n lines room) n) (j : ℕ) (l : j < lines) where
     -- a number of ours is told, and so there is a way to the end
-    way-there : (z : ℕ) → z ≤ ours rows .states (suc (startAt room j / 2048)) → (z ≡ 0 → ⊥)
-        → Same (theirs n lines room) (ours rows) (n - suc (startAt room j / 2048)) (suc (startAt room j / 2048)) (suc (leadAt room j)) z
+    way-there : (z : ℕ) → z ≤ ours rows mask .states (suc (startAt room j / 2048)) → (z ≡ 0 → ⊥)
+        → Same (theirs n lines room) (ours rows mask) (n - suc (startAt room j / 2048)) (suc (startAt room j / 2048)) (suc (leadAt room j)) z
         → (r : ℕ) × Way (theirs n lines room) (n - suc (startAt room j / 2048)) (suc (startAt room j / 2048)) (leadAt room j) r
     way-there zero m d s = absurd (d refl)
     way-there (suc c) m d s =
@@ -127,8 +128,8 @@ module _ (rows : List ℕ) (n : ℕ) (room : List ℕ) (lines : ℕ) (o : OfPlat
         let small : startAt room j / 2048 < n = depth-small n lines room holds j l in
         let k = known (startAt room j / 2048) (startAt room j / 2 % 1024) (omega (arith, small)) c in
         let x = known-on (startAt room j / 2048) (startAt room j / 2 % 1024) (startAt room j % 2) (leadAt room j) small (omega arith) (line-branch n lines room holds j l) (k .0) (k .1) (k .2) in
-        let e : toldAt room j ≡ follows (sectionOf rows (startAt room j / 2048)) (k .0) (startAt room j % 2) = told j (omega arith) l .tells .from _ (x .0) (x .1) in
-        let f = way-there (follows (sectionOf rows (startAt room j / 2048)) (k .0) (startAt room j % 2)) (x .0) (λ z. d (e ∙ z)) (x .1) in
+        let e : toldAt room j ≡ follows (sectionOf rows (startAt room j / 2048)) (k .0) (bitXor (startAt room j % 2) (bit mask (startAt room j / 2048))) = told j (omega arith) l .tells .from _ (x .0) (x .1) in
+        let f = way-there (follows (sectionOf rows (startAt room j / 2048)) (k .0) (bitXor (startAt room j % 2) (bit mask (startAt room j / 2048)))) (x .0) (λ z. d (e ∙ z)) (x .1) in
         let u = through (theirs n lines room) n ends (n - suc (startAt room j / 2048)) (startAt room j / 2048) (startAt room j / 2 % 1024) (startAt room j % 2) (leadAt room j) (f .0) (omega (arith, small)) (omega arith) c (line-branch n lines room holds j l) (f .1) in
         record { word = u .0; path = u .1; state-is = u .2; bit-is = u .3 }
 

@@ -1,6 +1,8 @@
 -- The walk to the earliest word that tells: one section, and all of them.
 use borrow.Author.Tests.{eq-eqb, le-ltb, lt-ltb, ne-eqb}
+use lib.Bits.{bitXor, xor-lt}
 use lib.Dec.{eqb}
+use lib.ListN.{length}
 use mathlib.Core.Bool.{Bool, false, true}
 use mathlib.Core.List.{List}
 use mathlib.Core.Path.{ap, subst, sym, _∙_, _≡_}
@@ -11,13 +13,15 @@ use Prim.Native.Nat.{_*_, _+_, _-_, _<_, _^_, suc, zero, ℕ, _≤_}
 use Rattle.trellises.specs.declared.Section.{Section}
 use Rattle.trellises.specs.Graph.{Graph}
 use Rattle.trellises.specs.SectionOf.{held, sectionOf}
+use Rattle.words.proofs.Word.{bit-lt}
+use Rattle.words.specs.Word.{bit}
 use Rattle.judging.proofs.Differing.{differs-on, differs-ours, differs-theirs}
-use Rattle.judging.proofs.StatesTold.{follows-small, leads-ours, line-told, section-is}
+use Rattle.judging.proofs.StatesTold.{follows-small, leads-ours, line-told, section-is, section-small, states-are}
 use Rattle.judging.proofs.Tells.{same-both}
 use Rattle.judging.proofs.Theirs.{line-leads}
 use Rattle.judging.specs.declared.walking.Place.{Place}
-use Rattle.judging.specs.Ours.{follows, ours}
-use Rattle.judging.specs.Room.{Holds, LineFrom, leadNumber, theirs, toldNumber}
+use Rattle.judging.specs.Ours.{Small, follows, ours}
+use Rattle.judging.specs.Room.{Holds, LineFrom, Within, leadNumber, theirs, toldNumber}
 use Rattle.judging.specs.Steps.{SteppedTo, Stepping}
 use Rattle.judging.specs.Ways.{Differs, From, Leads, Same}
 
@@ -28,61 +32,78 @@ lead-most n room lines h j = go (decLt j lines)
     go (yes d) = rw (lt-ltb j lines d) (omega (arith, h .leads j d))
     go (no d) = rw (le-ltb j lines (omega (arith, d))) (omega arith)
 
-module _ (rows : List ℕ) (n : ℕ) (room : List ℕ) (lines t u y : ℕ) (p : Stepping rows n room lines t u y) (c : Section) (ec : c ≡ held (sectionOf rows t)) where
+-- what looking up a line and following a branch of ours ask
+module _ {rows : List ℕ} {mask n : ℕ} {room : List ℕ} {lines t u y : ℕ} (p : Stepping rows mask n room lines t u y) where
+  pub step-line : {b : ℕ} → b < 2 → (length room ≡ 4 * lines) × Within t (u - 1) b
+  step-line two = (
+    p .asking .ready .holds .size,
+    record {
+      depth-small = omega (arith, p .before, p .asking .ready .holds .short);
+      state-small = omega (arith, p .theirs-small);
+      bit-small = two;
+    },
+  )
+
+  pub step-follow : {c : Section} → c ≡ held (sectionOf rows t) → Small c × (y ≤ 2 ^ c .live)
+  step-follow {c} e =
+      (section-small (p .asking .ready .plate) t (p .before) c e, omega (arith, states-are (p .asking .ready .plate) t (p .before) c e, p .ours-small))
+
+module _ (rows : List ℕ) (mask n : ℕ) (room : List ℕ) (lines t u y : ℕ) (p : Stepping rows mask n room lines t u y) (c : Section) (ec : c ≡ held (sectionOf rows t)) where
   one-more : suc (n - suc t) ≡ n - t
   one-more = omega (arith, p .before)
 
   -- our branch, as the code finds it
-  our-branch-leads : (b z : ℕ) → b < 2 → z ≡ follows c y b → Leads (ours rows) t y b z × (z ≤ ours rows .states (suc t))
+  our-branch-leads : (b z : ℕ) → b < 2 → z ≡ follows c y (bitXor b (bit mask t)) → Leads (ours rows mask) t y b z × (z ≤ ours rows mask .states (suc t))
   our-branch-leads b z two e =
-      let q : follows (sectionOf rows t) y b ≡ z = sym (e ∙ ap (λ (c : Section). follows c y b) (section-is (p .asking .ready .plate) t (p .before) c ec)) in (
-        subst (Leads (ours rows) t y b) q (leads-ours (p .asking .ready .plate) t y b (p .before) (p .ours-small) two),
-        subst (λ (z : ℕ). z ≤ ours rows .states (suc t)) q (follows-small (p .asking .ready .plate) t y b (p .before) (p .ours-small) two),
+      let q : follows (sectionOf rows t) y (bitXor b (bit mask t)) ≡ z =
+      sym (e ∙ ap (λ (c : Section). follows c y (bitXor b (bit mask t))) (section-is (p .asking .ready .plate) t (p .before) c ec)) in (
+        subst (Leads (ours rows mask) t y b) q (leads-ours (p .asking .ready .plate) t y b (p .before) (p .ours-small) two),
+        subst (λ (z : ℕ). z ≤ ours rows mask .states (suc t)) q (follows-small (p .asking .ready .plate) t y (bitXor b (bit mask t)) (p .before) (p .ours-small) (xor-lt 1 b (bit mask t) two (bit-lt t mask))),
       )
 
   -- theirs
   their-leads : (b j : ℕ) → b < 2 → LineFrom room lines t u b j → Leads (theirs n lines room) t u b (leadNumber room lines j)
   their-leads b j two l = line-leads n lines room (p .asking .ready .holds) t u b j (p .theirs-small) two l
 
-  module _ (j0 z0 : ℕ) (l0 : LineFrom room lines t u 0 j0) (e0 : z0 ≡ follows c y 0) where
+  module _ (j0 z0 : ℕ) (l0 : LineFrom room lines t u 0 j0) (e0 : z0 ≡ follows c y (bitXor 0 (bit mask t))) where
     -- what the ways with 0 tell
-    told-zero : toldNumber room lines j0 ≡ z0 → Same (theirs n lines room) (ours rows) (n - suc t) (suc t) (leadNumber room lines j0) z0
+    told-zero : toldNumber room lines j0 ≡ z0 → Same (theirs n lines room) (ours rows mask) (n - suc t) (suc t) (leadNumber room lines j0) z0
     told-zero q =
         line-told (p .asking .ready .plate) room lines (p .asking .ready .holds) t (p .before) (p .asking .told (p .before)) u 0 j0 (p .theirs-small) (omega arith) l0
         .to z0 (our-branch-leads 0 z0 (omega arith) e0 .1) q
 
-    zero-told : Same (theirs n lines room) (ours rows) (n - suc t) (suc t) (leadNumber room lines j0) z0 → toldNumber room lines j0 ≡ z0
+    zero-told : Same (theirs n lines room) (ours rows mask) (n - suc t) (suc t) (leadNumber room lines j0) z0 → toldNumber room lines j0 ≡ z0
     zero-told q =
         line-told (p .asking .ready .plate) room lines (p .asking .ready .holds) t (p .before) (p .asking .told (p .before)) u 0 j0 (p .theirs-small) (omega arith) l0
         .from z0 (our-branch-leads 0 z0 (omega arith) e0 .1) q
 
     -- they differ: the walk takes 0
     pub step-zero : (toldNumber room lines j0 ≡ z0 → ⊥) → (lead : ℕ) → lead ≡ leadNumber room lines j0
-        → SteppedTo (theirs n lines room) (ours rows) n t u y (record { theirs = lead; ours = z0; bit = 0 })
-    step-zero d lead e = subst (λ (k : ℕ). SteppedTo (theirs n lines room) (ours rows) n t u y (record { theirs = k; ours = z0; bit = 0 })) (sym e) (record {
+        → SteppedTo (theirs n lines room) (ours rows mask) n t u y (record { theirs = lead; ours = z0; bit = 0 })
+    step-zero d lead e = subst (λ (k : ℕ). SteppedTo (theirs n lines room) (ours rows mask) n t u y (record { theirs = k; ours = z0; bit = 0 })) (sym e) (record {
       theirs-small = lead-most n room lines (p .asking .ready .holds) j0;
       ours-small = our-branch-leads 0 z0 (omega arith) e0 .1;
       bit-small = omega arith;
       apart = λ a s. d (zero-told s);
-      on = λ r s a f. subst (λ (k : ℕ). Differs (theirs n lines room) (ours rows) k t u y (r * 2 + 0) s) one-more
-          (differs-on (theirs n lines room) (ours rows) (n - suc t) t u y (leadNumber room lines j0) z0 0 (leadNumber room lines j0) z0 r s (omega arith)
+      on = λ r s a f. subst (λ (k : ℕ). Differs (theirs n lines room) (ours rows mask) k t u y (r * 2 + 0) s) one-more
+          (differs-on (theirs n lines room) (ours rows mask) (n - suc t) t u y (leadNumber room lines j0) z0 0 (leadNumber room lines j0) z0 r s (omega arith)
           (their-leads 0 j0 (omega arith) l0) (our-branch-leads 0 z0 (omega arith) e0 .0) (λ q. absurd (omega (arith, q)))
           (their-leads 0 j0 (omega arith) l0) (our-branch-leads 0 z0 (omega arith) e0 .0) f);
     })
 
     -- they are the same: it takes 1
-    pub step-one : toldNumber room lines j0 ≡ z0 → (j1 z1 lead : ℕ) → LineFrom room lines t u 1 j1 → z1 ≡ follows c y 1 → lead ≡ leadNumber room lines j1
-        → SteppedTo (theirs n lines room) (ours rows) n t u y (record { theirs = lead; ours = z1; bit = 1 })
-    step-one q j1 z1 lead l1 e1 e = subst (λ (k : ℕ). SteppedTo (theirs n lines room) (ours rows) n t u y (record { theirs = k; ours = z1; bit = 1 })) (sym e) (record {
+    pub step-one : toldNumber room lines j0 ≡ z0 → (j1 z1 lead : ℕ) → LineFrom room lines t u 1 j1 → z1 ≡ follows c y (bitXor 1 (bit mask t)) → lead ≡ leadNumber room lines j1
+        → SteppedTo (theirs n lines room) (ours rows mask) n t u y (record { theirs = lead; ours = z1; bit = 1 })
+    step-one q j1 z1 lead l1 e1 e = subst (λ (k : ℕ). SteppedTo (theirs n lines room) (ours rows mask) n t u y (record { theirs = k; ours = z1; bit = 1 })) (sym e) (record {
       theirs-small = lead-most n room lines (p .asking .ready .holds) j1;
       ours-small = our-branch-leads 1 z1 (omega arith) e1 .1;
       bit-small = omega arith;
-      apart = λ a s. a (subst (λ (k : ℕ). Same (theirs n lines room) (ours rows) k t u y) one-more
-          (same-both (theirs n lines room) (ours rows) (n - suc t) t u (leadNumber room lines j0) (leadNumber room lines j1)
+      apart = λ a s. a (subst (λ (k : ℕ). Same (theirs n lines room) (ours rows mask) k t u y) one-more
+          (same-both (theirs n lines room) (ours rows mask) (n - suc t) t u (leadNumber room lines j0) (leadNumber room lines j1)
           (their-leads 0 j0 (omega arith) l0) (their-leads 1 j1 (omega arith) l1) y z0 z1
           (our-branch-leads 0 z0 (omega arith) e0 .0) (our-branch-leads 1 z1 (omega arith) e1 .0) (told-zero q) s));
-      on = λ r s a f. subst (λ (k : ℕ). Differs (theirs n lines room) (ours rows) k t u y (r * 2 + 1) s) one-more
-          (differs-on (theirs n lines room) (ours rows) (n - suc t) t u y (leadNumber room lines j0) z0 1 (leadNumber room lines j1) z1 r s (omega arith)
+      on = λ r s a f. subst (λ (k : ℕ). Differs (theirs n lines room) (ours rows mask) k t u y (r * 2 + 1) s) one-more
+          (differs-on (theirs n lines room) (ours rows mask) (n - suc t) t u y (leadNumber room lines j0) z0 1 (leadNumber room lines j1) z1 r s (omega arith)
           (their-leads 0 j0 (omega arith) l0) (our-branch-leads 0 z0 (omega arith) e0 .0) (λ x. told-zero q)
           (their-leads 1 j1 (omega arith) l1) (our-branch-leads 1 z1 (omega arith) e1 .0) f);
     })

@@ -8,12 +8,11 @@ use mathlib.Core.Path.{_≡_}
 use Rattle.plates.specs.declared.Plate.{Plate}
 use Rattle.plates.specs.declared.Refusal.{Refusal}
 use Rattle.plates.specs.declared.Refusal.the-variants.{BranchFault, BranchTwice, MetricRoom, TooManyLines}
-use Rattle.plates.specs.Prepare.{notPrepared, rowsOf}
+use Rattle.plates.specs.Prepare.{IsWord, notPrepared, rowsOf}
 use Rattle.plates.specs.Refusals.{Passes, Refuses}
 use Rattle.sheets.specs.Listed.{entries}
 use Rattle.sheets.specs.declared.listed.BranchLine.{BranchLine}
 use Rattle.trellises.specs.Graph.{Graph, Path, Spells}
-use Rattle.words.specs.Sum.{IsSum}
 use Rattle.words.specs.Word.{Earlier}
 use Rattle.judging.specs.Listing.{branchesOf, faultyAt, listedGraph, repeatsAt}
 use Rattle.judging.specs.Surplus.{SurplusIn}
@@ -83,15 +82,15 @@ graphAgainst plate es = listedGraph (plate .n) (branchesOf es)
 abbrev pub Zeroed : ℕ → List ℕ → List ℕ → Type 0
 Zeroed need room room′ = room′ ≡ replicate need 0 ++ drop need room
 
--- right exactly if the full paths spell exactly the words; otherwise the earliest word that tells
+-- right exactly if the full paths spell exactly the plate's words; otherwise the earliest word that tells
 abbrev pub JudgesBy : Plate → List BranchLine → List ℕ → List ℕ → Judged → Type 0
 JudgesBy plate es room room′ (Refused q) = Refuses (judgingConditions plate es room) q × (room′ ≡ room)
 JudgesBy plate es room room′ Right =
-    Passes (judgingConditions plate es room) × Spells (graphAgainst plate es) (plate .n) (IsSum (rowsOf plate)) × Zeroed (roomNeed es) room room′
+    Passes (judgingConditions plate es room) × Spells (graphAgainst plate es) (plate .n) (IsWord plate) × Zeroed (roomNeed es) room room′
 JudgesBy plate es room room′ (SpelledWrongly w) =
-    Passes (judgingConditions plate es room) × Wrongly (graphAgainst plate es) (plate .n) (IsSum (rowsOf plate)) w × Zeroed (roomNeed es) room room′
+    Passes (judgingConditions plate es room) × Wrongly (graphAgainst plate es) (plate .n) (IsWord plate) w × Zeroed (roomNeed es) room room′
 JudgesBy plate es room room′ (NotSpelled w) =
-    Passes (judgingConditions plate es room) × Missing (graphAgainst plate es) (plate .n) (IsSum (rowsOf plate)) w × Zeroed (roomNeed es) room room′
+    Passes (judgingConditions plate es room) × Missing (graphAgainst plate es) (plate .n) (IsWord plate) w × Zeroed (roomNeed es) room room′
 
 -- What judging replies: the first refusal in order, with the room unchanged; or the judgement of the listing's full paths, and on a right
 -- listing its surplus

@@ -1,4 +1,4 @@
--- The trellis of a plate's rows, by numbers: 0 is no state, and each state is one more than its number.
+-- The trellis of a plate's rows and mask, by numbers: 0 is no state, and each state is one more than its number.
 use lib.Dec.{eqb}
 use mathlib.Core.Bool.{Bool, false, cond, true}
 use mathlib.Core.List.{List}
@@ -9,28 +9,30 @@ use Rattle.plates.specs.Prepare.{rowsOf}
 use Rattle.plates.specs.Sound.{Sound}
 use Rattle.trellises.specs.Following.{nextOf}
 use Rattle.trellises.specs.Graph.{Graph}
+use Rattle.trellises.specs.Masking.{masked}
 use Rattle.trellises.specs.States.{trellis}
 use Rattle.trellises.specs.declared.Next.{Next}
 use Rattle.trellises.specs.declared.Next.the-variants.{State, NoBranch, Refused}
 use Rattle.trellises.specs.declared.Section.{Section}
 use Rattle.words.specs.Ends.{firsts, lasts}
 
--- the rows are those of a prepared plate of length n
-pub record OfPlate (rows : List ℕ) (n : ℕ) : Type 0 where
+-- the rows and the mask are those of a prepared plate of length n
+pub record OfPlate (rows : List ℕ) (mask n : ℕ) : Type 0 where
   pub plate : Plate
   pub sound : Sound plate
   pub rows-are : rowsOf plate ≡ rows
+  pub mask-is : plate .mask ≡ mask
   pub length-is : plate .n ≡ n
 
-abbrev pub ours : List ℕ → Graph
-ours rows = trellis rows (firsts rows) (lasts rows)
+abbrev pub ours : List ℕ → ℕ → Graph
+ours rows mask = masked mask (trellis rows (firsts rows) (lasts rows))
 
 abbrev pub numberOf : Next → ℕ
 numberOf (State s) = suc s
 numberOf NoBranch = 0
 numberOf (Refused q) = 0
 
--- where the branch with a bit leads
+-- where the branch of the code with a bit leads
 abbrev pub follows : Section → ℕ → ℕ → ℕ
 follows c zero b = 0
 follows c (suc a) b = numberOf (nextOf c a b)

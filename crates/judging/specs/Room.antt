@@ -95,16 +95,16 @@ abbrev pub toldNumber : List ℕ → ℕ → ℕ → ℕ
 toldNumber room lines j = cond (ltb j lines) (toldAt room j) 0
 
 -- what is told at a line is right
-pub record ToldAt (g : Graph) (rows : List ℕ) (n : ℕ) (room : List ℕ) (j : ℕ) : Type 0 where
-  pub tells : Tells g (ours rows) (n - suc (startAt room j / 2048)) (suc (startAt room j / 2048)) (suc (leadAt room j)) (toldAt room j)
+pub record ToldAt (g : Graph) (rows : List ℕ) (mask n : ℕ) (room : List ℕ) (j : ℕ) : Type 0 where
+  pub tells : Tells g (ours rows mask) (n - suc (startAt room j / 2048)) (suc (startAt room j / 2048)) (suc (leadAt room j)) (toldAt room j)
 
 -- it is right at each line of a depth
-abbrev pub ToldIn : ℕ → ℕ → List ℕ → List ℕ → ℕ → Type 0
-ToldIn n lines rows room t = (j : ℕ) → j < lines → startAt room j / 2048 ≡ t → ToldAt (theirs n lines room) rows n room j
+abbrev pub ToldIn : ℕ → ℕ → List ℕ → ℕ → List ℕ → ℕ → Type 0
+ToldIn n lines rows mask room t = (j : ℕ) → j < lines → startAt room j / 2048 ≡ t → ToldAt (theirs n lines room) rows mask n room j
 
 -- it is right from a line on
-abbrev pub ToldFrom : Graph → List ℕ → ℕ → ℕ → List ℕ → ℕ → Type 0
-ToldFrom g rows n lines room i = (j : ℕ) → i ≤ j → j < lines → ToldAt g rows n room j
+abbrev pub ToldFrom : Graph → List ℕ → ℕ → ℕ → ℕ → List ℕ → ℕ → Type 0
+ToldFrom g rows mask n lines room i = (j : ℕ) → i ≤ j → j < lines → ToldAt g rows mask n room j
 
 -- the first two places of each line are as they were
 pub record SameLines (lines : ℕ) (room room′ : List ℕ) : Type 0 where
@@ -113,6 +113,6 @@ pub record SameLines (lines : ℕ) (room room′ : List ℕ) : Type 0 where
   pub lead : (i : ℕ) → i < lines → leadAt room′ i ≡ leadAt room i
 
 -- right from the first line on, of the branches that stood there
-pub record AllTold (n lines : ℕ) (rows room room′ : List ℕ) : Type 0 where
+pub record AllTold (n lines : ℕ) (rows : List ℕ) (mask : ℕ) (room room′ : List ℕ) : Type 0 where
   pub same : SameLines lines room room′
-  pub told : ToldFrom (theirs n lines room) rows n lines room′ 0
+  pub told : ToldFrom (theirs n lines room) rows mask n lines room′ 0

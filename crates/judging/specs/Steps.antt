@@ -17,23 +17,23 @@ use Rattle.judging.specs.Surplus.{SurplusIn}
 use Rattle.judging.specs.Ways.{Differs, Same}
 use Rattle.judging.specs.Marks.{MarkRight, markAt}
 
--- the rows of a plate, and a listing in the room
-pub record Ready (rows : List ℕ) (n : ℕ) (room : List ℕ) (lines : ℕ) : Type 0 where
-  pub plate : OfPlate rows n
+-- the rows and the mask of a plate, and a listing in the room
+pub record Ready (rows : List ℕ) (mask n : ℕ) (room : List ℕ) (lines : ℕ) : Type 0 where
+  pub plate : OfPlate rows mask n
   pub holds : Holds n lines room
 
 -- what one state of depth t asks: the lines of its depth are told
-pub record Asking (rows : List ℕ) (n : ℕ) (room : List ℕ) (lines t : ℕ) : Type 0 where
-  pub ready : Ready rows n room lines
+pub record Asking (rows : List ℕ) (mask n : ℕ) (room : List ℕ) (lines t : ℕ) : Type 0 where
+  pub ready : Ready rows mask n room lines
   pub within : t ≤ n
-  pub told : t < n → ToldIn n lines rows room t
+  pub told : t < n → ToldIn n lines rows mask room t
 
 -- what a step of the walk asks
-pub record Stepping (rows : List ℕ) (n : ℕ) (room : List ℕ) (lines t u y : ℕ) : Type 0 where
-  pub asking : Asking rows n room lines t
+pub record Stepping (rows : List ℕ) (mask n : ℕ) (room : List ℕ) (lines t u y : ℕ) : Type 0 where
+  pub asking : Asking rows mask n room lines t
   pub before : t < n
   pub theirs-small : u ≤ 1024
-  pub ours-small : y ≤ ours rows .states t
+  pub ours-small : y ≤ ours rows mask .states t
 
 -- and what it gives: the next numbers, which differ where these do, and whose earliest difference makes that of these
 pub record SteppedTo (A B : Graph) (n t u y : ℕ) (p : Place) : Type 0 where
@@ -45,19 +45,19 @@ pub record SteppedTo (A B : Graph) (n t u y : ℕ) (p : Place) : Type 0 where
       → Differs A B (n - t) t u y (r * 2 + p .bit) s
 
 -- the walk asks that all lines are told, and that the two starts differ
-pub record WalkAsks (rows : List ℕ) (n : ℕ) (room : List ℕ) (lines : ℕ) : Type 0 where
-  pub ready : Ready rows n room lines
-  pub told : ToldFrom (theirs n lines room) rows n lines room 0
-  pub apart : Same (theirs n lines room) (ours rows) n 0 1 1 → ⊥
+pub record WalkAsks (rows : List ℕ) (mask n : ℕ) (room : List ℕ) (lines : ℕ) : Type 0 where
+  pub ready : Ready rows mask n room lines
+  pub told : ToldFrom (theirs n lines room) rows mask n lines room 0
+  pub apart : Same (theirs n lines room) (ours rows mask) n 0 1 1 → ⊥
 
 -- the judgement asks that all lines are told
-pub record VerdictAsks (rows : List ℕ) (n : ℕ) (room : List ℕ) (lines : ℕ) : Type 0 where
-  pub ready : Ready rows n room lines
-  pub told : ToldFrom (theirs n lines room) rows n lines room 0
+pub record VerdictAsks (rows : List ℕ) (mask n : ℕ) (room : List ℕ) (lines : ℕ) : Type 0 where
+  pub ready : Ready rows mask n room lines
+  pub told : ToldFrom (theirs n lines room) rows mask n lines room 0
 
 -- and of a text that its lines are clean, with four numbers of room for each
-pub record JudgedAsks (rows : List ℕ) (n : ℕ) (text : List ℕ) (lines : ℕ) (room : List ℕ) : Type 0 where
-  pub plate : OfPlate rows n
+pub record JudgedAsks (rows : List ℕ) (mask n : ℕ) (text : List ℕ) (lines : ℕ) (room : List ℕ) : Type 0 where
+  pub plate : OfPlate rows mask n
   pub clean : Clean n (entries n text)
   pub count : lines ≡ length (entries n text)
   pub size : length room ≡ 4 * length (entries n text)
@@ -73,8 +73,9 @@ Found A B n (Refused q) = ⊥
 
 -- it asks that the listing is right, and that its lines are told and marked
 pub record SurplusAsks (rows : List ℕ) (n : ℕ) (room : List ℕ) (lines : ℕ) : Type 0 where
-  pub asks : VerdictAsks rows n room lines
-  pub right : Same (theirs n lines room) (ours rows) n 0 1 1
+  pub mask : ℕ
+  pub asks : VerdictAsks rows mask n room lines
+  pub right : Same (theirs n lines room) (ours rows mask) n 0 1 1
   pub marks : (j : ℕ) → j < lines → MarkRight (theirs n lines room) room (markAt room j) j
 
 -- where the verdict is right
@@ -85,6 +86,6 @@ SurplusFor (NotSpelled w) rows n room lines = Unit {0}
 SurplusFor (Refused q) rows n room lines = Unit {0}
 
 -- the verdict that is found, with its surplus
-pub record JudgedTo (g : Graph) (rows : List ℕ) (n : ℕ) (r : Judgement) : Type 0 where
-  pub found : Found g (ours rows) n (r .verdict)
+pub record JudgedTo (g : Graph) (rows : List ℕ) (mask n : ℕ) (r : Judgement) : Type 0 where
+  pub found : Found g (ours rows mask) n (r .verdict)
   pub surplus : SurplusIn g n rows (r .verdict) (r .states) (r .branches)

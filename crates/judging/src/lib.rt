@@ -60,5 +60,5 @@ pub fn judge(plate: Plate, text: &[u8], room: &mut [u64]) -> Judgement
     }
     let k = plate.k;
     let rows = plate.rows;
-    judged(&rows[..k], n, text, count, &mut room[..need])
+    judged(&rows[..k], plate.mask, n, text, count, &mut room[..need])
 }

@@ -9,10 +9,18 @@ use crate::rooms::line_from;
 use crate::rooms::told_number;
 
 // The number of ours that has the same ways as a state of theirs, where the lines of its depth are told.
-pub fn tell(rows: &[u64], n: usize, room: &[u64], lines: usize, t: usize, state: usize) -> usize
-    requires { ⌜ Asking (now rows) n (now room) lines t ⌝ }
+pub fn tell(
+    rows: &[u64],
+    mask: u64,
+    n: usize,
+    room: &[u64],
+    lines: usize,
+    t: usize,
+    state: usize,
+) -> usize
+    requires { ⌜ Asking (now rows) mask n (now room) lines t ⌝ }
     requires { ⌜ state < 1024 ⌝ }
-    ensures { λ r. ⌜ Tells (theirs n lines (now (room .entry))) (ours (now (rows .entry))) (n - t) t (suc state) r ⌝ }
+    ensures { λ r. ⌜ Tells (theirs n lines (now (room .entry))) (ours (now (rows .entry)) mask) (n - t) t (suc state) r ⌝ }
 {
     if t == n {
         if state == 0 {
@@ -21,17 +29,19 @@ pub fn tell(rows: &[u64], n: usize, room: &[u64], lines: usize, t: usize, state:
         return 0;
     }
     let section = trellises::sections::section_of(rows, t);
-    let first = line_from(room, lines, t, state + 1, 0);
+    // the branch of theirs with this bit answers to the code's with 0
+    let flip = words::bit_at(mask, t) as usize;
+    let first = line_from(room, lines, t, state + 1, flip);
     let zero = told_number(room, lines, first);
-    let second = line_from(room, lines, t, state + 1, 1);
+    let second = line_from(room, lines, t, state + 1, 1 ^ flip);
     let one = told_number(room, lines, second);
     class_of(section, zero, one)
 }
 
 // All lines told.
-pub fn tell_all(rows: &[u64], n: usize, room: &mut [u64], lines: usize)
-    requires { ⌜ Ready (now rows) n (now room) lines ⌝ }
-    ensures { λ _. ⌜ AllTold n lines (now (rows .entry)) (now (room .entry)) (now (room .exit)) ⌝ }
+pub fn tell_all(rows: &[u64], mask: u64, n: usize, room: &mut [u64], lines: usize)
+    requires { ⌜ Ready (now rows) mask n (now room) lines ⌝ }
+    ensures { λ _. ⌜ AllTold n lines (now (rows .entry)) mask (now (room .entry)) (now (room .exit)) ⌝ }
 {
     let mut i = lines;
     while 0 < i {
@@ -39,7 +49,7 @@ pub fn tell_all(rows: &[u64], n: usize, room: &mut [u64], lines: usize)
         let at = 4 * i;
         let depth = (room[at] / 2048) as usize;
         let state = room[at + 1] as usize;
-        let number = tell(rows, n, &*room, lines, depth + 1, state) as u64;
+        let number = tell(rows, mask, n, &*room, lines, depth + 1, state) as u64;
         room[at + 2] = number;
     }
 }

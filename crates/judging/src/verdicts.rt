@@ -17,15 +17,15 @@ use crate::telling::tell_all;
 use crate::walking::walk;
 
 // The judgement where all lines are told: right where the starts have the same ways, and else the earliest word that tells.
-fn verdict(rows: &[u64], n: usize, room: &[u64], lines: usize) -> Judged
-    requires { ⌜ VerdictAsks (now rows) n (now room) lines ⌝ }
-    ensures { λ r. ⌜ Found (theirs n lines (now (room .entry))) (ours (now (rows .entry))) n r ⌝ }
+fn verdict(rows: &[u64], mask: u64, n: usize, room: &[u64], lines: usize) -> Judged
+    requires { ⌜ VerdictAsks (now rows) mask n (now room) lines ⌝ }
+    ensures { λ r. ⌜ Found (theirs n lines (now (room .entry))) (ours (now (rows .entry)) mask) n r ⌝ }
 {
-    let start = tell(rows, n, room, lines, 0, 0);
+    let start = tell(rows, mask, n, room, lines, 0, 0);
     if start == 1 {
         return Judged::Right;
     }
-    let shown = walk(rows, n, room, lines);
+    let shown = walk(rows, mask, n, room, lines);
     let word = shown.word;
     if shown.spelled {
         return Judged::SpelledWrongly(word);
@@ -34,14 +34,21 @@ fn verdict(rows: &[u64], n: usize, room: &[u64], lines: usize) -> Judged
 }
 
 // The judgement of a text of clean lines. The room is left all zero.
-pub fn judged(rows: &[u64], n: usize, text: &[u8], lines: usize, room: &mut [u64]) -> Judgement
-    requires { ⌜ JudgedAsks (now rows) n (now text) lines (now room) ⌝ }
-    ensures { λ r. ⌜ JudgedTo (listedGraph n (branchesOf (entries n (now (text .entry))))) (now (rows .entry)) n r ⌝ }
+pub fn judged(
+    rows: &[u64],
+    mask: u64,
+    n: usize,
+    text: &[u8],
+    lines: usize,
+    room: &mut [u64],
+) -> Judgement
+    requires { ⌜ JudgedAsks (now rows) mask n (now text) lines (now room) ⌝ }
+    ensures { λ r. ⌜ JudgedTo (listedGraph n (branchesOf (entries n (now (text .entry))))) (now (rows .entry)) mask n r ⌝ }
     ensures { λ _. ⌜ now (room .exit) ≡ replicate (length (now (room .entry))) 0 ⌝ }
 {
     fill(text, n, &mut *room);
-    tell_all(rows, n, &mut *room, lines);
-    let found = verdict(rows, n, &*room, lines);
+    tell_all(rows, mask, n, &mut *room, lines);
+    let found = verdict(rows, mask, n, &*room, lines);
     mark_all(&mut *room, lines);
     let reply = with_surplus(found, rows, n, &*room, lines);
     clear(&mut *room);

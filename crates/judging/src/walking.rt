@@ -24,15 +24,25 @@ pub struct Shown {
     pub spelled: bool,
 }
 
-// One section: bit 0 where the ways with 0 differ, and else bit 1.
-fn step(rows: &[u64], n: usize, room: &[u64], lines: usize, t: usize, u: usize, y: usize) -> Place
-    requires { ⌜ Stepping (now rows) n (now room) lines t u y ⌝ }
-    ensures { λ r. ⌜ SteppedTo (theirs n lines (now (room .entry))) (ours (now (rows .entry))) n t u y r ⌝ }
+// One section: bit 0 where the ways with 0 differ, and else bit 1. The bit of the code's branch is the mask's added to it.
+fn step(
+    rows: &[u64],
+    mask: u64,
+    n: usize,
+    room: &[u64],
+    lines: usize,
+    t: usize,
+    u: usize,
+    y: usize,
+) -> Place
+    requires { ⌜ Stepping (now rows) mask n (now room) lines t u y ⌝ }
+    ensures { λ r. ⌜ SteppedTo (theirs n lines (now (room .entry))) (ours (now (rows .entry)) mask) n t u y r ⌝ }
 {
     let section = trellises::sections::section_of(rows, t);
+    let flip = words::bit_at(mask, t);
     let first = line_from(room, lines, t, u, 0);
     let told = told_number(room, lines, first);
-    let zero = follow(section, y, 0);
+    let zero = follow(section, y, flip);
     if told != zero {
         let lead = lead_number(room, lines, first);
         return Place {
@@ -43,7 +53,7 @@ fn step(rows: &[u64], n: usize, room: &[u64], lines: usize, t: usize, u: usize, 
     }
     let second = line_from(room, lines, t, u, 1);
     let lead = lead_number(room, lines, second);
-    let one = follow(section, y, 1);
+    let one = follow(section, y, 1 ^ flip);
     Place {
         theirs: lead,
         ours: one,
@@ -63,16 +73,16 @@ fn with_bit(word: u64, t: usize, bit: u64) -> u64
 }
 
 // The earliest word in which the two starts differ.
-pub fn walk(rows: &[u64], n: usize, room: &[u64], lines: usize) -> Shown
-    requires { ⌜ WalkAsks (now rows) n (now room) lines ⌝ }
-    ensures { λ r. ⌜ Differs (theirs n lines (now (room .entry))) (ours (now (rows .entry))) n 0 1 1 (r .word) (r .spelled) ⌝ }
+pub fn walk(rows: &[u64], mask: u64, n: usize, room: &[u64], lines: usize) -> Shown
+    requires { ⌜ WalkAsks (now rows) mask n (now room) lines ⌝ }
+    ensures { λ r. ⌜ Differs (theirs n lines (now (room .entry))) (ours (now (rows .entry)) mask) n 0 1 1 (r .word) (r .spelled) ⌝ }
 {
     let mut word: u64 = 0;
     let mut t: usize = 0;
     let mut u: usize = 1;
     let mut y: usize = 1;
     while t < n {
-        let next = step(rows, n, room, lines, t, u, y);
+        let next = step(rows, mask, n, room, lines, t, u, y);
         word = with_bit(word, t, next.bit);
         u = next.theirs;
         y = next.ours;

@@ -3,6 +3,7 @@ pub mod OnePlate
 pub mod OneCheck
 pub mod ProfileDimensions
 pub mod OneDimension
+pub mod RefusalTable
 pub mod Refusing
 pub mod LastOnesDiffer
 pub mod SoundIsPrepared

@@ -23,15 +23,16 @@ use Rattle.plates.specs.Prepare.{PlateOf, Prepares, PreparesAs, RowOver,
 use Rattle.plates.specs.Profile.{liveAt}
 use Rattle.words.proofs.Span.{lt-tri}
 
-plate-same : (a b : Plate) → a .n ≡ b .n → a .k ≡ b .k → a .rows ≡ b .rows → a .profile ≡ b .profile → a ≡ b
-plate-same a b n k r p =
-    ap₂ (λ (x y : ℕ). record { n = x; k = y; rows = a .rows; profile = a .profile }) n k
-    ∙ ap₂ (λ (x y : List ℕ). record { n = b .n; k = b .k; rows = x; profile = y }) r p
+plate-same : (a b : Plate) → a .n ≡ b .n → a .k ≡ b .k → a .mask ≡ b .mask → a .rows ≡ b .rows → a .profile ≡ b .profile → a ≡ b
+plate-same a b n k m r p =
+    ap₂ (λ (x y : ℕ). record { n = x; k = y; mask = a .mask; rows = a .rows; profile = a .profile }) n k
+    ∙ ap (λ (x : ℕ). record { n = b .n; k = b .k; mask = x; rows = a .rows; profile = a .profile }) m
+    ∙ ap₂ (λ (x y : List ℕ). record { n = b .n; k = b .k; mask = b .mask; rows = x; profile = y }) r p
 
--- a code of a length has one plate
-pub plate-determined : (C : ℕ → Type 0) (n : ℕ) (a b : Plate) → PlateOf C n a → PlateOf C n b → a ≡ b
-plate-determined C n a b x y =
-    plate-same a b (x .length-n ∙ sym (y .length-n)) count
+-- a code of a length has one plate with a mask
+pub plate-determined : (C : ℕ → Type 0) (n mask : ℕ) (a b : Plate) → PlateOf C n mask a → PlateOf C n mask b → a ≡ b
+plate-determined C n mask a b x y =
+    plate-same a b (x .length-n ∙ sym (y .length-n)) count (x .mask-is ∙ sym (y .mask-is))
     (ext-getD 0 (a .rows) (b .rows) (x .table ∙ sym (y .table)) (λ j h. row j (decLt j (a .k))))
     (ext-getD 0 (a .profile) (b .profile) (x .entries ∙ sym (y .entries)) (λ t h. entry t (decLt n t)))
   where
@@ -74,24 +75,27 @@ wide-once C n p q x y = x .is ∙ ap TooWide (go (lt-tri (x .depth) (y .depth)))
     go (inr (inr h)) = absurd (omega (arith, x .first (y .depth) h, y .over, live (y .depth)))
 
 -- each condition gives one refusal
-prepare-single : (n : ℕ) (kind : Kind) (rows : List ℕ) → Single (prepareConditions n kind rows)
-prepare-single n kind rows =
-    ((λ p q x y. x .1 ∙ sym (y .1)), ((λ p q x y. x .1 ∙ sym (y .1)), (row-over-once n rows, (wide-once (InCode kind n rows) n, tt))))
+prepare-single : (n : ℕ) (kind : Kind) (rows : List ℕ) (mask : ℕ) → Single (prepareConditions n kind rows mask)
+prepare-single n kind rows mask = (alike, (alike, (row-over-once n rows, (alike, (wide-once (InCode kind n rows) n, tt)))))
+  where
+    -- a condition that names its refusal
+    alike : {A : Type 0} {c : Refusal} (p q : Refusal) → A × (p ≡ c) → A × (q ≡ c) → p ≡ q
+    alike p q x y = x .1 ∙ sym (y .1)
 
-module _ (n : ℕ) (kind : Kind) (rows : List ℕ) where
+module _ (n : ℕ) (kind : Kind) (rows : List ℕ) (mask : ℕ) where
   same-reply : (a b : Plate) (v w : Verdict)
-      → PreparesAs (prepareConditions n kind rows) (InCode kind n rows) n a v
-      → PreparesAs (prepareConditions n kind rows) (InCode kind n rows) n b w
+      → PreparesAs (prepareConditions n kind rows mask) (InCode kind n rows) n mask a v
+      → PreparesAs (prepareConditions n kind rows mask) (InCode kind n rows) n mask b w
       → _≡_ {A = Prepared} (record { verdict = v; plate = a }) (record { verdict = w; plate = b })
   same-reply a b Accepted Accepted x y =
-      ap (λ (p : Plate). record { verdict = Accepted; plate = p }) (plate-determined (InCode kind n rows) n a b (x .1) (y .1))
-  same-reply a b Accepted (Refused q) x y = absurd (never-both (prepareConditions n kind rows) (x .0) q (y .0))
-  same-reply a b (Refused p) Accepted x y = absurd (never-both (prepareConditions n kind rows) (y .0) p (x .0))
+      ap (λ (p : Plate). record { verdict = Accepted; plate = p }) (plate-determined (InCode kind n rows) n mask a b (x .1) (y .1))
+  same-reply a b Accepted (Refused q) x y = absurd (never-both (prepareConditions n kind rows mask) (x .0) q (y .0))
+  same-reply a b (Refused p) Accepted x y = absurd (never-both (prepareConditions n kind rows mask) (y .0) p (x .0))
   same-reply a b (Refused p) (Refused q) x y =
       ap₂ (λ (r : Refusal) (z : Plate). record { verdict = Refused r; plate = z })
-      (refuses-once (prepareConditions n kind rows) (prepare-single n kind rows) p q (x .0) (y .0)) (x .1 ∙ sym (y .1))
+      (refuses-once (prepareConditions n kind rows mask) (prepare-single n kind rows mask) p q (x .0) (y .0)) (x .1 ∙ sym (y .1))
 
-  pub prepare-determined : (r s : Prepared) → Prepares n kind rows r → Prepares n kind rows s → r ≡ s
+  pub prepare-determined : (r s : Prepared) → Prepares n kind rows mask r → Prepares n kind rows mask s → r ≡ s
   prepare-determined r s x y = same-reply (r .plate) (s .plate) (r .verdict) (s .verdict) (x .reply) (y .reply)
 
 pub is-prepared-determined : (plate : Plate) (r s : Bool) → Tests plate r → Tests plate s → r ≡ s

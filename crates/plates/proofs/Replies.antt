@@ -16,11 +16,11 @@ use Rattle.plates.specs.declared.Kind.{Kind}
 use Rattle.plates.specs.declared.Plate.{Plate}
 use Rattle.plates.specs.declared.Prepared.{Prepared}
 use Rattle.plates.specs.declared.Refusal.{Refusal}
-use Rattle.plates.specs.declared.Refusal.the-variants.{Length, RowBeyond, TooManyRows, TooWide}
+use Rattle.plates.specs.declared.Refusal.the-variants.{Length, MaskBeyond, RowBeyond, TooManyRows, TooWide}
 use Rattle.plates.specs.declared.Verdict.the-variants.{Accepted}
 use Rattle.plates.specs.Filling.{Filled}
 use Rattle.plates.specs.Heads.{RowsOf}
-use Rattle.plates.specs.Prepare.{PlateOf, Prepares, RowOver, Wide, badLength, prepareConditions, rowsOf}
+use Rattle.plates.specs.Prepare.{PlateOf, Prepares, RowOver, Wide, badLength, maskBeyond, prepareConditions, rowsOf}
 use Rattle.plates.specs.Profile.{liveAt}
 use Rattle.plates.specs.Profiling.{Marks, Tallied}
 use Rattle.plates.specs.Reducing.{ReducedFrom}
@@ -64,13 +64,14 @@ not-beyond {w} {n} d = go (decLt w (2 ^ n))
 pub none-beyond : {n r : ℕ} {rows : List ℕ} → FirstWhere rows (Beyond n) 0 (length rows) r → length rows ≤ r → (j : ℕ) → j < length rows → getD rows j 0 < 2 ^ n
 none-beyond f h j l = not-beyond (f .none j zero-le (omega arith))
 
--- ---- refusals 1 to 3
+-- ---- refusals 1 to 3, and 23
 
-refuse : {n : ℕ} {kind : Kind} {rows : List ℕ} {r : Prepared} {q : Refusal} → Refuses (prepareConditions n kind rows) q → r ≡ refusedWith q → Prepares n kind rows r
-refuse {n} {kind} {rows} h e = subst (Prepares n kind rows) (sym e) (record { reply = (h, refl) })
+module _ {n mask : ℕ} {kind : Kind} {rows : List ℕ} {r : Prepared} where
+  refuse : {q : Refusal} → Refuses (prepareConditions n kind rows mask) q → r ≡ refusedWith q → Prepares n kind rows mask r
+  refuse h e = subst (Prepares n kind rows mask) (sym e) (record { reply = (h, refl) })
 
-pub refuse-length : {n : ℕ} {kind : Kind} {rows : List ℕ} {r : Prepared} → (n ≡ 0) ⊎ (64 < n) → r ≡ refusedWith Length → Prepares n kind rows r
-refuse-length bad = refuse (inl (bad, refl))
+  pub refuse-length : (n ≡ 0) ⊎ (64 < n) → r ≡ refusedWith Length → Prepares n kind rows mask r
+  refuse-length bad = refuse (inl (bad, refl))
 
 good-length : {n : ℕ} → 0 < n → n ≤ 64 → (p : Refusal) → badLength n p → ⊥
 good-length {n} some short p c = go (c .0)
@@ -79,25 +80,45 @@ good-length {n} some short p c = go (c .0)
     go (inl e) = omega arith
     go (inr h) = omega arith
 
-pub refuse-rows : {n : ℕ} {kind : Kind} {rows : List ℕ} {r : Prepared} → 0 < n → n ≤ 64 → 64 < length rows → r ≡ refusedWith TooManyRows → Prepares n kind rows r
-refuse-rows some short many = refuse (inr (good-length some short, inl (many, refl)))
+good-rows : {n : ℕ} {rows : List ℕ} → ((j : ℕ) → j < length rows → getD rows j 0 < 2 ^ n) → (c : Refusal) → RowOver n rows c → ⊥
+good-rows small c o = omega (arith, o .over, small (o .row) (o .there))
 
-pub refuse-beyond : {n i : ℕ} {kind : Kind} {rows : List ℕ} {r : Prepared} → 0 < n → n ≤ 64 → length rows ≤ 64 → FirstWhere rows (Beyond n) 0 (length rows) i
-    → i < length rows → r ≡ refusedWith (RowBeyond i) → Prepares n kind rows r
-refuse-beyond {n} {i} some short few f h =
-    refuse (inr (
-      good-length some short,
-      inr (
-        (λ p c. omega (arith, c .0)),
-        inl (record {
-          row = i;
-          there = h;
-          over = f .here h .over;
-          first = λ j l. not-beyond (f .none j zero-le l);
-          is = refl;
-        }),
-      ),
-    ))
+module _ {n mask : ℕ} {kind : Kind} {rows : List ℕ} {r : Prepared} (some : 0 < n) (short : n ≤ 64) where
+  pub refuse-rows : 64 < length rows → r ≡ refusedWith TooManyRows → Prepares n kind rows mask r
+  refuse-rows many = refuse (inr (good-length some short, inl (many, refl)))
+
+  pub refuse-beyond : {i : ℕ} → length rows ≤ 64 → FirstWhere rows (Beyond n) 0 (length rows) i → i < length rows → r ≡ refusedWith (RowBeyond i)
+      → Prepares n kind rows mask r
+  refuse-beyond {i} few f h =
+      refuse (inr (
+        good-length some short,
+        inr (
+          (λ p c. omega (arith, c .0)),
+          inl (record {
+            row = i;
+            there = h;
+            over = f .here h .over;
+            first = λ j l. not-beyond (f .none j zero-le l);
+            is = refl;
+          }),
+        ),
+      ))
+
+  pub refuse-mask : {d : ℕ} → length rows ≤ 64 → ((j : ℕ) → j < length rows → getD rows j 0 < 2 ^ n) → Tells (Beyond n mask) d → d ≡ 1
+      → r ≡ refusedWith MaskBeyond → Prepares n kind rows mask r
+  refuse-mask few small t one =
+      refuse (inr (
+        good-length some short,
+        inr ((λ p c. omega (arith, c .0)), inr (good-rows small, inl (t .yes-is one .over, refl))),
+      ))
+
+-- a mask that is not told to reach beyond does not
+pub mask-short : {n mask d : ℕ} → Tells (Beyond n mask) d → (d ≡ 1 → ⊥) → mask < 2 ^ n
+mask-short {n} {mask} {d} t h = go (t .digit)
+  where
+    go : (d ≡ 0) ⊎ (d ≡ 1) → mask < 2 ^ n
+    go (inl e) = not-beyond (t .no-is e)
+    go (inr e) = absurd (h e)
 
 -- ---- the plate
 
@@ -116,10 +137,12 @@ rows-same s p = record {
 }
 
 -- what filling, reducing and the pass over the depths leave
-pub plate-done : {n used k heads ends : ℕ} {kind : Kind} {rows t u p : List ℕ} → Filled n kind rows t used → ReducedFrom t u n k
-    → Marks (firsts u) k heads → Marks (lasts u) k ends → Tallied heads ends n p → PlateOf (InCode kind n rows) n (record { n = n; k = k; rows = u; profile = p })
-plate-done {n} {used} {k} {heads} {ends} {kind} {rows} {t} {u} {p} f s mh me q = record {
+pub plate-done : {n used k mask heads ends : ℕ} {kind : Kind} {rows t u p : List ℕ} → Filled n kind rows t used → ReducedFrom t u n k
+    → Marks (firsts u) k heads → Marks (lasts u) k ends → Tallied heads ends n p
+    → PlateOf (InCode kind n rows) n mask (record { n = n; k = k; mask = mask; rows = u; profile = p })
+plate-done {n} {used} {k} {mask} {heads} {ends} {kind} {rows} {t} {u} {p} f s mh me q = record {
   length-n = refl;
+  mask-is = refl;
   few = s .rows .table .few;
   table = s .rows .table .size;
   rows = rows-same code (plate-of (take k u) (firsts (take k u)) (lasts (take k u)) (s .rows .reduced));
@@ -137,12 +160,13 @@ plate-done {n} {used} {k} {heads} {ends} {kind} {rows} {t} {u} {p} f s mh me q =
 
 -- ---- refusal 4, and the answer
 
-good-rows : {n : ℕ} {rows : List ℕ} → ((j : ℕ) → j < length rows → getD rows j 0 < 2 ^ n) → (c : Refusal) → RowOver n rows c → ⊥
-good-rows small c o = omega (arith, o .over, small (o .row) (o .there))
+good-mask : (n : ℕ) {mask : ℕ} → mask < 2 ^ n → (c : Refusal) → maskBeyond n mask c → ⊥
+good-mask n masked c o = omega (arith, o .0, masked)
 
-module _ {n d : ℕ} {kind : Kind} {rows : List ℕ} {plate : Plate} (some : 0 < n) (short : n ≤ 64) (few : length rows ≤ 64)
-    (small : (j : ℕ) → j < length rows → getD rows j 0 < 2 ^ n) (p : PlateOf (InCode kind n rows) n plate) (w : FirstWhere (plate .profile) OverTwelve 0 (n + 1) d) where
-  pub refuse-wide : {r : Prepared} → d ≤ n → r ≡ refusedWith (TooWide d) → Prepares n kind rows r
+module _ {n mask d : ℕ} {kind : Kind} {rows : List ℕ} {plate : Plate} (some : 0 < n) (short : n ≤ 64) (few : length rows ≤ 64)
+    (small : (j : ℕ) → j < length rows → getD rows j 0 < 2 ^ n) (masked : mask < 2 ^ n) (p : PlateOf (InCode kind n rows) n mask plate)
+    (w : FirstWhere (plate .profile) OverTwelve 0 (n + 1) d) where
+  pub refuse-wide : {r : Prepared} → d ≤ n → r ≡ refusedWith (TooWide d) → Prepares n kind rows mask r
   refuse-wide h =
       refuse (inr (
         good-length some short,
@@ -150,15 +174,18 @@ module _ {n d : ℕ} {kind : Kind} {rows : List ℕ} {plate : Plate} (some : 0 <
           (λ c o. omega (arith, o .0)),
           inr (
             good-rows small,
-            inl (record {
-              rows = rowsOf plate;
-              plate = p .rows;
-              depth = d;
-              within = h;
-              over = subst (λ (x : ℕ). 12 < x) (p .profile d h) (w .here (omega arith));
-              first = λ t l. subst (λ (x : ℕ). x ≤ 12) (p .profile t (omega arith)) (entry t (decLt 12 (getD (plate .profile) t 0)) (w .none t zero-le l));
-              is = refl;
-            }),
+            inr (
+              good-mask n masked,
+              inl (record {
+                rows = rowsOf plate;
+                plate = p .rows;
+                depth = d;
+                within = h;
+                over = subst (λ (x : ℕ). 12 < x) (p .profile d h) (w .here (omega arith));
+                first = λ t l. subst (λ (x : ℕ). x ≤ 12) (p .profile t (omega arith)) (entry t (decLt 12 (getD (plate .profile) t 0)) (w .none t zero-le l));
+                is = refl;
+              }),
+            ),
           ),
         ),
       ))
@@ -167,8 +194,8 @@ module _ {n d : ℕ} {kind : Kind} {rows : List ℕ} {plate : Plate} (some : 0 <
       entry t (yes o) f = absurd (f o)
       entry t (no o) f = omega arith
 
-  pub accept : n < d → Prepares n kind rows (record { verdict = Accepted; plate = plate })
-  accept h = record { reply = ((good-length some short, ((λ c o. omega (arith, o .0)), (good-rows small, (narrow, tt)))), p) }
+  pub accept : n < d → Prepares n kind rows mask (record { verdict = Accepted; plate = plate })
+  accept h = record { reply = ((good-length some short, ((λ c o. omega (arith, o .0)), (good-rows small, (good-mask n masked, (narrow, tt))))), p) }
     where
       narrow : (c : Refusal) → Wide (InCode kind n rows) n c → ⊥
       narrow c o =

@@ -14,7 +14,7 @@ use Rattle.plates.proofs.ReducedIsPlate.{plate-of}
 use Rattle.plates.specs.declared.Kind.the-variants.{G}
 use Rattle.plates.specs.declared.Plate.{Plate}
 use Rattle.plates.specs.declared.Refusal.{Refusal}
-use Rattle.plates.specs.declared.Refusal.the-variants.{Length, RowBeyond, TooWide}
+use Rattle.plates.specs.declared.Refusal.the-variants.{Length, MaskBeyond, RowBeyond, TooWide}
 use Rattle.plates.specs.Heads.{RowsOf}
 use Rattle.plates.specs.Prepare.{IsPrepared, PlateOf, RowOver, Wide, prepareConditions, rowsOf}
 use Rattle.plates.specs.Profile.{liveAt}
@@ -71,6 +71,7 @@ sound {plate} p = record {
   positive = not-zero (decLt 0 (plate .n));
   short = not-over (decLt 64 (plate .n));
   few = p .few;
+  masked = not-beyond (decLt (plate .mask) (2 ^ plate .n));
   table = answer .table;
   below = λ j k. subst (λ (x : ℕ). x < 2 ^ plate .n) (used-row plate j k) (rows-below (plate .n) (rowsOf plate) (pass .1 .1 .0) (length (rowsOf plate)) (le-refl _) j (omega (arith, size)));
   reduced = rows-reduced (IsSum (rowsOf plate)) (λ a b. in-xor) (rowsOf plate) _ _ (answer .rows);
@@ -78,13 +79,13 @@ sound {plate} p = record {
   entries = answer .entries;
   profile = answer .profile;
   unused-entries = answer .unused-entries;
-  narrow = λ t h. depths-narrow (IsSum (rowsOf plate)) (plate .n) (rowsOf plate) (answer .rows) (pass .1 .1 .1 .0) (suc t) t (omega arith) h;
+  narrow = λ t h. depths-narrow (IsSum (rowsOf plate)) (plate .n) (rowsOf plate) (answer .rows) (pass .1 .1 .1 .1 .0) (suc t) t (omega arith) h;
 }
   where
-    pass : Passes (prepareConditions (plate .n) G (rowsOf plate))
+    pass : Passes (prepareConditions (plate .n) G (rowsOf plate) (plate .mask))
     pass = p .same .reply .0
 
-    answer : PlateOf (IsSum (rowsOf plate)) (plate .n) plate
+    answer : PlateOf (IsSum (rowsOf plate)) (plate .n) (plate .mask) plate
     answer = p .same .reply .1
 
     size : length (rowsOf plate) ≡ plate .k
@@ -97,6 +98,10 @@ sound {plate} p = record {
     not-over : Dec (64 < plate .n) → plate .n ≤ 64
     not-over (yes h) = absurd (pass .0 Length (inr h, refl))
     not-over (no h) = omega arith
+
+    not-beyond : Dec (plate .mask < 2 ^ plate .n) → plate .mask < 2 ^ plate .n
+    not-beyond (yes h) = h
+    not-beyond (no h) = absurd (pass .1 .1 .1 .0 MaskBeyond (omega arith, refl))
 
 pub prepared : {plate : Plate} → Sound plate → IsPrepared plate
 prepared {plate} s = record { few = s .few; same = record { reply = (pass, answer) } }
@@ -118,16 +123,17 @@ prepared {plate} s = record { few = s .few; same = record { reply = (pass, answe
         let k : w .row < plate .k = omega (arith, w .there, size) in
         omega (arith, s .below (w .row) k, subst (λ (x : ℕ). 2 ^ plate .n ≤ x) (used-row plate (w .row) k) (w .over))
 
-    pass : Passes (prepareConditions (plate .n) G (rowsOf plate))
-    pass = ((λ q b. bad (b .0)), ((λ q b. omega (arith, b .0, size, s .few)), (over, (wide, tt))))
+    pass : Passes (prepareConditions (plate .n) G (rowsOf plate) (plate .mask))
+    pass = ((λ q b. bad (b .0)), ((λ q b. omega (arith, b .0, size, s .few)), (over, ((λ q b. omega (arith, b .0, s .masked)), (wide, tt)))))
       where
         bad : (plate .n ≡ 0) ⊎ (64 < plate .n) → ⊥
         bad (inl e) = omega (arith, e, s .positive)
         bad (inr h) = omega (arith, h, s .short)
 
-    answer : PlateOf (IsSum (rowsOf plate)) (plate .n) plate
+    answer : PlateOf (IsSum (rowsOf plate)) (plate .n) (plate .mask) plate
     answer = record {
       length-n = refl;
+      mask-is = refl;
       few = s .few;
       table = s .table;
       rows = rows;

@@ -10,17 +10,18 @@ use Rattle.plates.specs.declared.Plate.{Plate}
 use Rattle.plates.specs.Sound.{Sound}
 use Rattle.plates.specs.Tested.{Standing, UsedSound, ZeroFrom}
 
-module _ (n k : ℕ) (rows profile : List ℕ) (table : length rows ≡ 64) (entries : length profile ≡ 65) where
+module _ (n k mask : ℕ) (rows profile : List ℕ) (table : length rows ≡ 64) (entries : length profile ≡ 65) where
   -- the plate of these parts
   abbrev whole : Plate
-  whole = record { n = n; k = k; rows = rows; profile = profile }
+  whole = record { n = n; k = k; mask = mask; rows = rows; profile = profile }
 
   -- the parts make it sound
-  pub sound-parts : 1 ≤ n → n ≤ 64 → k ≤ 64 → UsedSound n (take k rows) profile → ZeroFrom k rows → ZeroFrom (n + 1) profile → Sound (record { n = n; k = k; rows = rows; profile = profile })
-  sound-parts positive short few u r e = record {
+  pub sound-parts : 1 ≤ n → n ≤ 64 → k ≤ 64 → mask < 2 ^ n → UsedSound n (take k rows) profile → ZeroFrom k rows → ZeroFrom (n + 1) profile → Sound (record { n = n; k = k; mask = mask; rows = rows; profile = profile })
+  sound-parts positive short few masked u r e = record {
     positive = positive;
     short = short;
     few = few;
+    masked = masked;
     table = table;
     below = λ j l. subst (λ (x : ℕ). x < 2 ^ n) (used-row whole j l) (u .standing .below j (omega (arith, used-rows whole few table)));
     reduced = cleared-reduced (take k rows) (u .standing .spans) (u .cleared);
@@ -32,7 +33,7 @@ module _ (n k : ℕ) (rows profile : List ℕ) (table : length rows ≡ 64) (ent
   }
 
   -- a sound plate has them all
-  module _ (s : Sound (record { n = n; k = k; rows = rows; profile = profile })) where
+  module _ (s : Sound (record { n = n; k = k; mask = mask; rows = rows; profile = profile })) where
     pub used-part : UsedSound n (take k rows) profile
     used-part = record {
       standing = standing;

@@ -1,5 +1,6 @@
--- The code of a matrix.
+-- The code of a matrix, and the words that a mask makes of a code.
 use Prim.Native.Nat.{ℕ, _^_, _<_}
+use lib.Bits.{bitXor}
 use lib.ListN.{length, getD}
 use mathlib.Core.List.{List}
 use mathlib.Core.Path.{_≡_}
@@ -17,3 +18,7 @@ pub record Checked (n : ℕ) (rows : List ℕ) (w : ℕ) : Type 0 where
 abbrev pub InCode : Kind → ℕ → List ℕ → ℕ → Type 0
 InCode G n rows w = IsSum rows w
 InCode H n rows w = Checked n rows w
+
+-- the words that a mask makes of the code C: codewords plus mask modulo 2, so those that are a codeword once the mask is added
+abbrev pub Masked : (ℕ → Type 0) → ℕ → ℕ → Type 0
+Masked C mask w = C (bitXor w mask)

@@ -1,4 +1,4 @@
--- What preparing replies to each matrix, and when a plate is prepared.
+-- What preparing replies to each matrix and mask, the words of a plate, and when a plate is prepared.
 use Prim.Native.Nat.{ℕ, _^_, _≤_, _<_}
 use lib.ListN.{length, getD, take, replicate}
 use mathlib.Core.Bool.{Bool, true, false}
@@ -6,20 +6,21 @@ use mathlib.Core.List.{List, [], _∷_}
 use mathlib.Core.Logic.{_⊎_}
 use mathlib.Core.Path.{_≡_}
 use Rattle.words.specs.Ends.{firsts, lasts}
+use Rattle.words.specs.Sum.{IsSum}
 use Rattle.plates.specs.declared.Kind.{Kind}
 use Rattle.plates.specs.declared.Kind.the-variants.{G, H}
 use Rattle.plates.specs.declared.Plate.{Plate}
 use Rattle.plates.specs.declared.Prepared.{Prepared}
 use Rattle.plates.specs.declared.Refusal.{Refusal}
-use Rattle.plates.specs.declared.Refusal.the-variants.{Length, TooManyRows, RowBeyond, TooWide, NotPrepared}
+use Rattle.plates.specs.declared.Refusal.the-variants.{Length, TooManyRows, RowBeyond, MaskBeyond, TooWide, NotPrepared}
 use Rattle.plates.specs.declared.Verdict.{Verdict}
 use Rattle.plates.specs.declared.Verdict.the-variants.{Accepted, Refused}
-use Rattle.plates.specs.Code.{InCode}
+use Rattle.plates.specs.Code.{InCode, Masked}
 use Rattle.plates.specs.Heads.{RowsOf}
 use Rattle.plates.specs.Profile.{liveAt}
 use Rattle.plates.specs.Refusals.{Refuses, Passes}
 
--- ---- the conditions of refusals 1 to 4
+-- ---- the conditions of refusals 1 to 3, 23 and 4
 
 -- 1: n is 0 or over 64
 abbrev pub badLength : ℕ → Refusal → Type 0
@@ -37,6 +38,10 @@ pub record RowOver (n : ℕ) (rows : List ℕ) (q : Refusal) : Type 0 where
   pub first : (j : ℕ) → j < row → getD rows j 0 < 2 ^ n
   pub is : q ≡ RowBeyond row
 
+-- 23: the mask has a one at n or beyond
+abbrev pub maskBeyond : ℕ → ℕ → Refusal → Type 0
+maskBeyond n mask q = (2 ^ n ≤ mask) × (q ≡ MaskBeyond)
+
 -- 4: some s(t) of the code's plate exceeds 12; the place is the first such depth
 pub record Wide (C : ℕ → Type 0) (n : ℕ) (q : Refusal) : Type 0 where
   pub rows : List ℕ
@@ -47,8 +52,9 @@ pub record Wide (C : ℕ → Type 0) (n : ℕ) (q : Refusal) : Type 0 where
   pub first : (t : ℕ) → t < depth → liveAt rows t ≤ 12
   pub is : q ≡ TooWide depth
 
-abbrev pub prepareConditions : ℕ → Kind → List ℕ → List (Refusal → Type 0)
-prepareConditions n kind rows = badLength n ∷ tooManyRows rows ∷ RowOver n rows ∷ Wide (InCode kind n rows) n ∷ []
+-- 23 stands after 3 and before 4
+abbrev pub prepareConditions : ℕ → Kind → List ℕ → ℕ → List (Refusal → Type 0)
+prepareConditions n kind rows mask = badLength n ∷ tooManyRows rows ∷ RowOver n rows ∷ maskBeyond n mask ∷ Wide (InCode kind n rows) n ∷ []
 
 -- ---- the reply
 
@@ -56,9 +62,14 @@ prepareConditions n kind rows = badLength n ∷ tooManyRows rows ∷ RowOver n r
 abbrev pub rowsOf : Plate → List ℕ
 rowsOf plate = take (plate .k) (plate .rows)
 
--- the plate of the code C of length n: its rows, the profile, and zero in the unused places
-pub record PlateOf (C : ℕ → Type 0) (n : ℕ) (plate : Plate) : Type 0 where
+-- the words of a plate: codewords plus its mask modulo 2
+abbrev pub IsWord : Plate → ℕ → Type 0
+IsWord plate = Masked (IsSum (rowsOf plate)) (plate .mask)
+
+-- the plate of the code C of length n and a mask: the mask, the code's rows, the profile, and zero in the unused places
+pub record PlateOf (C : ℕ → Type 0) (n mask : ℕ) (plate : Plate) : Type 0 where
   pub length-n : plate .n ≡ n
+  pub mask-is : plate .mask ≡ mask
   pub few : plate .k ≤ 64
   pub table : length (plate .rows) ≡ 64
   pub rows : RowsOf C (rowsOf plate) (firsts (rowsOf plate)) (lasts (rowsOf plate))
@@ -68,23 +79,23 @@ pub record PlateOf (C : ℕ → Type 0) (n : ℕ) (plate : Plate) : Type 0 where
   pub unused-entries : (t : ℕ) → n < t → getD (plate .profile) t 0 ≡ 0
 
 abbrev pub zeroPlate : Plate
-zeroPlate = record { n = 0; k = 0; rows = replicate 64 0; profile = replicate 65 0 }
+zeroPlate = record { n = 0; k = 0; mask = 0; rows = replicate 64 0; profile = replicate 65 0 }
 
 -- What preparing may reply: refused, with the first refusal in order and the zero plate beside it; or accepted, where no condition
--- holds, with the plate of the code
-abbrev pub PreparesAs : List (Refusal → Type 0) → (ℕ → Type 0) → ℕ → Plate → Verdict → Type 0
-PreparesAs conditions C n plate (Refused q) = Refuses conditions q × (plate ≡ zeroPlate)
-PreparesAs conditions C n plate Accepted = Passes conditions × PlateOf C n plate
+-- holds, with the plate of the code and the mask
+abbrev pub PreparesAs : List (Refusal → Type 0) → (ℕ → Type 0) → ℕ → ℕ → Plate → Verdict → Type 0
+PreparesAs conditions C n mask plate (Refused q) = Refuses conditions q × (plate ≡ zeroPlate)
+PreparesAs conditions C n mask plate Accepted = Passes conditions × PlateOf C n mask plate
 
-pub record Prepares (n : ℕ) (kind : Kind) (rows : List ℕ) (r : Prepared) : Type 0 where
-  pub reply : PreparesAs (prepareConditions n kind rows) (InCode kind n rows) n (r .plate) (r .verdict)
+pub record Prepares (n : ℕ) (kind : Kind) (rows : List ℕ) (mask : ℕ) (r : Prepared) : Type 0 where
+  pub reply : PreparesAs (prepareConditions n kind rows mask) (InCode kind n rows) n mask (r .plate) (r .verdict)
 
 -- ---- refusal 5
 
--- the plate has k at most 64, and is what preparing its own first k rows as G gives
+-- the plate has k at most 64, and is what preparing its own first k rows as G, with its own mask, gives
 pub record IsPrepared (plate : Plate) : Type 0 where
   pub few : plate .k ≤ 64
-  pub same : Prepares (plate .n) G (rowsOf plate) (record { verdict = Accepted; plate = plate })
+  pub same : Prepares (plate .n) G (rowsOf plate) (plate .mask) (record { verdict = Accepted; plate = plate })
 
 -- 5: it is not
 abbrev pub notPrepared : Plate → Refusal → Type 0

@@ -2,98 +2,57 @@
 use Prim.Native.Nat.{ℕ}
 use mathlib.Core.List.{List, [], _∷_}
 use mathlib.Core.Logic.{_⊎_}
+use Rattle.plates.specs.declared.Entry.{Entry}
 use Rattle.plates.specs.declared.Refusal.{Refusal}
-use Rattle.plates.specs.declared.Refusal.the-variants.{Length, TooManyRows, RowBeyond, TooWide, NotPrepared, SampleCount, SampleRange, MetricRoom, DecisionRoom, SheetLine, LineRoom, NoSuchBranch, Information, NoCodeword, InputTooLong, PositionBeyond, BadSetting, NotANumber, WholeSpace, AlistFault, FirstField, FieldCount, FieldValue, RowField, BranchFault, BranchTwice, TooManyLines}
+use Rattle.plates.specs.declared.Refusal.the-variants.{Length, TooManyRows, RowBeyond, TooWide, NotPrepared, SampleCount, SampleRange, MetricRoom, DecisionRoom, SheetLine, LineRoom, NoSuchBranch, Information, NoCodeword, InputTooLong, AlistFault, FirstField, FieldCount, FieldValue, RowField, PositionBeyond, WholeSpace, MaskBeyond, BadSetting, NotANumber, BranchFault, BranchTwice, TooManyLines}
 
--- the number of each refusal
+-- an entry of the table: the number; the place, a row, depth, position or line where one is named, and else 0; and the field of a sheet's bad
+-- line, from 1, which is 0 for a line that is missing or not ended, and for all other refusals
+abbrev pub told : ℕ → ℕ → ℕ → Entry
+told number place field = record { number = number; place = place; field = field }
+
+-- the table, in order of the numbers; 17 is about a line's first field
+abbrev pub entryOf : Refusal → Entry
+entryOf Length = told 1 0 0
+entryOf TooManyRows = told 2 0 0
+entryOf (RowBeyond row) = told 3 row 0
+entryOf (TooWide depth) = told 4 depth 0
+entryOf NotPrepared = told 5 0 0
+entryOf SampleCount = told 6 0 0
+entryOf (SampleRange position) = told 7 position 0
+entryOf MetricRoom = told 8 0 0
+entryOf DecisionRoom = told 9 0 0
+entryOf (SheetLine line) = told 10 line 0
+entryOf LineRoom = told 11 0 0
+entryOf NoSuchBranch = told 12 0 0
+entryOf Information = told 13 0 0
+entryOf NoCodeword = told 14 0 0
+entryOf InputTooLong = told 15 0 0
+entryOf (AlistFault line) = told 16 line 0
+entryOf (FirstField line) = told 17 line 1
+entryOf (FieldCount line at) = told 18 line at
+entryOf (FieldValue line at) = told 19 line at
+entryOf (RowField line at) = told 20 line at
+entryOf PositionBeyond = told 21 0 0
+entryOf WholeSpace = told 22 0 0
+entryOf MaskBeyond = told 23 0 0
+entryOf BadSetting = told 24 0 0
+entryOf (NotANumber position) = told 25 position 0
+entryOf (BranchFault line) = told 26 line 0
+entryOf (BranchTwice line) = told 27 line 0
+entryOf TooManyLines = told 28 0 0
+
+-- the number of a refusal
 abbrev pub number : Refusal → ℕ
-number Length = 1
-number TooManyRows = 2
-number (RowBeyond row) = 3
-number (TooWide depth) = 4
-number NotPrepared = 5
-number SampleCount = 6
-number (SampleRange position) = 7
-number MetricRoom = 8
-number DecisionRoom = 9
-number (SheetLine line) = 10
-number LineRoom = 11
-number NoSuchBranch = 12
-number Information = 13
-number NoCodeword = 14
-number InputTooLong = 15
-number PositionBeyond = 21
-number BadSetting = 24
-number (NotANumber position) = 25
-number WholeSpace = 22
-number (AlistFault line) = 16
-number (FirstField line) = 17
-number (FieldCount line field) = 18
-number (FieldValue line field) = 19
-number (RowField line field) = 20
-number (BranchFault line) = 26
-number (BranchTwice line) = 27
-number TooManyLines = 28
+number q = (entryOf q) .number
 
--- its place: the first such row, depth, position or line where one is named, and 0 elsewhere
+-- its place
 abbrev pub place : Refusal → ℕ
-place Length = 0
-place TooManyRows = 0
-place (RowBeyond row) = row
-place (TooWide depth) = depth
-place NotPrepared = 0
-place SampleCount = 0
-place (SampleRange position) = position
-place MetricRoom = 0
-place DecisionRoom = 0
-place (SheetLine line) = line
-place LineRoom = 0
-place NoSuchBranch = 0
-place Information = 0
-place NoCodeword = 0
-place InputTooLong = 0
-place PositionBeyond = 0
-place BadSetting = 0
-place (NotANumber position) = position
-place WholeSpace = 0
-place (AlistFault line) = line
-place (FirstField line) = line
-place (FieldCount line field) = line
-place (FieldValue line field) = line
-place (RowField line field) = line
-place (BranchFault line) = line
-place (BranchTwice line) = line
-place TooManyLines = 0
+place q = (entryOf q) .place
 
--- the field of a sheet's bad line, from 1: 17 is about the first; 0 for a line that is missing or not ended, and for all other refusals
+-- its field
 abbrev pub field : Refusal → ℕ
-field Length = 0
-field TooManyRows = 0
-field (RowBeyond row) = 0
-field (TooWide depth) = 0
-field NotPrepared = 0
-field SampleCount = 0
-field (SampleRange position) = 0
-field MetricRoom = 0
-field DecisionRoom = 0
-field (SheetLine line) = 0
-field LineRoom = 0
-field NoSuchBranch = 0
-field Information = 0
-field NoCodeword = 0
-field InputTooLong = 0
-field PositionBeyond = 0
-field BadSetting = 0
-field (NotANumber position) = 0
-field WholeSpace = 0
-field (AlistFault line) = 0
-field (FirstField line) = 1
-field (FieldCount line at) = at
-field (FieldValue line at) = at
-field (RowField line at) = at
-field (BranchFault line) = 0
-field (BranchTwice line) = 0
-field TooManyLines = 0
+field q = (entryOf q) .field
 
 -- A condition of a call says with which refusal it refuses, where it holds.
 -- `Refuses conditions q`: the first of the conditions that holds refuses with q

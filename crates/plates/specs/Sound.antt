@@ -12,6 +12,7 @@ pub record Sound (plate : Plate) : Type 0 where
   pub positive : 1 ≤ plate .n
   pub short : plate .n ≤ 64
   pub few : plate .k ≤ 64
+  pub masked : plate .mask < 2 ^ plate .n
   pub table : length (plate .rows) ≡ 64
   pub below : (j : ℕ) → j < plate .k → getD (plate .rows) j 0 < 2 ^ plate .n
   pub reduced : Reduced (rowsOf plate) (firsts (rowsOf plate)) (lasts (rowsOf plate))

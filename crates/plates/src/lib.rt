@@ -4,7 +4,7 @@ ghost use Prim.Native.Nat.{ℕ, _^_, _<_, _≤_};
 ghost use lib.ListN.{getD, length};
 ghost use Rattle.plates.specs.Code.{InCode};
 ghost use Rattle.plates.specs.Prepare.{PlateOf, Prepares, Tests};
-ghost use Rattle.plates.specs.Refusals.{field, number, place};
+ghost use Rattle.plates.specs.Refusals.{entryOf, field, number, place, told};
 ghost use Rattle.plates.specs.Replying.{refusedWith};
 
 mod matrix;
@@ -19,15 +19,18 @@ pub enum Kind {
     H,
 }
 
-// A prepared code: its length, the number of its heads, a row for each head, and the profile. Unused places are zero.
+// A prepared code and its mask: its length, the number of its heads, the word that is added to every codeword, a row for each head, and
+// the profile. Unused places are zero.
 pub struct Plate {
     pub n: usize,
     pub k: usize,
+    pub mask: u64,
     pub rows: [u64; 64],
     pub profile: [u8; 65],
 }
 
-// Why a call is refused, with the place where the paper names one. The place of a sheet's bad line is the line, or line and field.
+// Why a call is refused, with the place where the paper names one, in order of the numbers. The place of a sheet's bad line is the line, or
+// line and field.
 pub enum Refusal {
     Length,
     TooManyRows,
@@ -44,15 +47,16 @@ pub enum Refusal {
     Information,
     NoCodeword,
     InputTooLong,
-    PositionBeyond,
-    BadSetting,
-    NotANumber(usize),
-    WholeSpace,
     AlistFault(usize),
     FirstField(usize),
     FieldCount(usize, usize),
     FieldValue(usize, usize),
     RowField(usize, usize),
+    PositionBeyond,
+    WholeSpace,
+    MaskBeyond,
+    BadSetting,
+    NotANumber(usize),
     BranchFault(usize),
     BranchTwice(usize),
     TooManyLines,
@@ -70,109 +74,83 @@ pub struct Prepared {
     pub plate: Plate,
 }
 
+// What the paper's table says of a refusal: its number; its place, which is 0 where the table names none; and the field of a sheet's bad
+// line, from 1, which is 0 elsewhere.
+pub struct Entry {
+    pub number: u64,
+    pub place: usize,
+    pub field: usize,
+}
+
+// An entry of the table.
+fn told(number: u64, place: usize, field: usize) -> Entry
+    ensures { λ r. ⌜ r ≡ told number place field ⌝ }
+{
+    Entry {
+        number,
+        place,
+        field,
+    }
+}
+
+// The paper's table of refusals.
+pub fn refusal_entry(refusal: Refusal) -> Entry
+    ensures { λ r. ⌜ r ≡ entryOf refusal ⌝ }
+{
+    match refusal {
+        Refusal::Length => told(1, 0, 0),
+        Refusal::TooManyRows => told(2, 0, 0),
+        Refusal::RowBeyond(row) => told(3, row, 0),
+        Refusal::TooWide(depth) => told(4, depth, 0),
+        Refusal::NotPrepared => told(5, 0, 0),
+        Refusal::SampleCount => told(6, 0, 0),
+        Refusal::SampleRange(position) => told(7, position, 0),
+        Refusal::MetricRoom => told(8, 0, 0),
+        Refusal::DecisionRoom => told(9, 0, 0),
+        Refusal::SheetLine(line) => told(10, line, 0),
+        Refusal::LineRoom => told(11, 0, 0),
+        Refusal::NoSuchBranch => told(12, 0, 0),
+        Refusal::Information => told(13, 0, 0),
+        Refusal::NoCodeword => told(14, 0, 0),
+        Refusal::InputTooLong => told(15, 0, 0),
+        Refusal::AlistFault(line) => told(16, line, 0),
+        Refusal::FirstField(line) => told(17, line, 1),
+        Refusal::FieldCount(line, field) => told(18, line, field),
+        Refusal::FieldValue(line, field) => told(19, line, field),
+        Refusal::RowField(line, field) => told(20, line, field),
+        Refusal::PositionBeyond => told(21, 0, 0),
+        Refusal::WholeSpace => told(22, 0, 0),
+        Refusal::MaskBeyond => told(23, 0, 0),
+        Refusal::BadSetting => told(24, 0, 0),
+        Refusal::NotANumber(position) => told(25, position, 0),
+        Refusal::BranchFault(line) => told(26, line, 0),
+        Refusal::BranchTwice(line) => told(27, line, 0),
+        Refusal::TooManyLines => told(28, 0, 0),
+    }
+}
+
 // The paper's number of a refusal.
 pub fn refusal_number(refusal: Refusal) -> u64
     ensures { λ r. ⌜ r ≡ number refusal ⌝ }
 {
-    match refusal {
-        Refusal::Length => 1,
-        Refusal::TooManyRows => 2,
-        Refusal::RowBeyond(_) => 3,
-        Refusal::TooWide(_) => 4,
-        Refusal::NotPrepared => 5,
-        Refusal::SampleCount => 6,
-        Refusal::SampleRange(_) => 7,
-        Refusal::MetricRoom => 8,
-        Refusal::DecisionRoom => 9,
-        Refusal::SheetLine(_) => 10,
-        Refusal::LineRoom => 11,
-        Refusal::NoSuchBranch => 12,
-        Refusal::Information => 13,
-        Refusal::NoCodeword => 14,
-        Refusal::InputTooLong => 15,
-        Refusal::PositionBeyond => 21,
-        Refusal::BadSetting => 24,
-        Refusal::NotANumber(_) => 25,
-        Refusal::WholeSpace => 22,
-        Refusal::AlistFault(_) => 16,
-        Refusal::FirstField(_) => 17,
-        Refusal::FieldCount(_, _) => 18,
-        Refusal::FieldValue(_, _) => 19,
-        Refusal::RowField(_, _) => 20,
-        Refusal::BranchFault(_) => 26,
-        Refusal::BranchTwice(_) => 27,
-        Refusal::TooManyLines => 28,
-    }
+    let entry = refusal_entry(refusal);
+    entry.number
 }
 
 // The place of a refusal: a row, a depth, a position or a line where the paper names one, and 0 elsewhere.
 pub fn refusal_place(refusal: Refusal) -> usize
     ensures { λ r. ⌜ r ≡ place refusal ⌝ }
 {
-    match refusal {
-        Refusal::RowBeyond(row) => row,
-        Refusal::TooWide(depth) => depth,
-        Refusal::SampleRange(position) => position,
-        Refusal::SheetLine(line) => line,
-        Refusal::AlistFault(line) => line,
-        Refusal::NotANumber(position) => position,
-        Refusal::FirstField(line) => line,
-        Refusal::FieldCount(line, _) => line,
-        Refusal::FieldValue(line, _) => line,
-        Refusal::RowField(line, _) => line,
-        Refusal::BranchFault(line) => line,
-        Refusal::BranchTwice(line) => line,
-        Refusal::Length => 0,
-        Refusal::TooManyRows => 0,
-        Refusal::NotPrepared => 0,
-        Refusal::SampleCount => 0,
-        Refusal::MetricRoom => 0,
-        Refusal::DecisionRoom => 0,
-        Refusal::LineRoom => 0,
-        Refusal::NoSuchBranch => 0,
-        Refusal::Information => 0,
-        Refusal::NoCodeword => 0,
-        Refusal::InputTooLong => 0,
-        Refusal::PositionBeyond => 0,
-        Refusal::BadSetting => 0,
-        Refusal::WholeSpace => 0,
-        Refusal::TooManyLines => 0,
-    }
+    let entry = refusal_entry(refusal);
+    entry.place
 }
 
 // The field of a sheet's bad line, from 1, and 0 where there is none.
 pub fn refusal_field(refusal: Refusal) -> usize
     ensures { λ r. ⌜ r ≡ field refusal ⌝ }
 {
-    match refusal {
-        Refusal::FieldCount(_, field) => field,
-        Refusal::FieldValue(_, field) => field,
-        Refusal::RowField(_, field) => field,
-        Refusal::FirstField(_) => 1,
-        Refusal::Length => 0,
-        Refusal::TooManyRows => 0,
-        Refusal::RowBeyond(_) => 0,
-        Refusal::TooWide(_) => 0,
-        Refusal::NotPrepared => 0,
-        Refusal::SampleCount => 0,
-        Refusal::SampleRange(_) => 0,
-        Refusal::MetricRoom => 0,
-        Refusal::DecisionRoom => 0,
-        Refusal::SheetLine(_) => 0,
-        Refusal::LineRoom => 0,
-        Refusal::NoSuchBranch => 0,
-        Refusal::Information => 0,
-        Refusal::NoCodeword => 0,
-        Refusal::InputTooLong => 0,
-        Refusal::PositionBeyond => 0,
-        Refusal::BadSetting => 0,
-        Refusal::NotANumber(_) => 0,
-        Refusal::WholeSpace => 0,
-        Refusal::AlistFault(_) => 0,
-        Refusal::BranchFault(_) => 0,
-        Refusal::BranchTwice(_) => 0,
-        Refusal::TooManyLines => 0,
-    }
+    let entry = refusal_entry(refusal);
+    entry.field
 }
 
 // A refusal, with the zero plate beside it.
@@ -184,6 +162,7 @@ fn refused(refusal: Refusal) -> Prepared
         plate: Plate {
             n: 0,
             k: 0,
+            mask: 0,
             rows: [0; 64],
             profile: [0; 65],
         },
@@ -191,15 +170,16 @@ fn refused(refusal: Refusal) -> Prepared
 }
 
 // The plate of a matrix that refusals 1 to 3 do not meet, worked out in its own rows and profile.
-fn plate_of_matrix(n: usize, kind: Kind, rows: &[u64]) -> Plate
+fn plate_of_matrix(n: usize, kind: Kind, rows: &[u64], mask: u64) -> Plate
     requires { ⌜ n ≤ 64 ⌝ }
     requires { ⌜ length (now rows) ≤ 64 ⌝ }
     requires { ⌜ ((j : ℕ) → j < length (now rows) → getD (now rows) j 0 < 2 ^ n) ⌝ }
-    ensures { λ r. ⌜ PlateOf (InCode kind n (now (rows .entry))) n r ⌝ }
+    ensures { λ r. ⌜ PlateOf (InCode kind n (now (rows .entry))) n mask r ⌝ }
 {
     let mut plate = Plate {
         n,
         k: 0,
+        mask,
         rows: [0; 64],
         profile: [0; 65],
     };
@@ -212,9 +192,9 @@ fn plate_of_matrix(n: usize, kind: Kind, rows: &[u64]) -> Plate
     plate
 }
 
-// The plate of a matrix's code, or the first refusal that its length, its rows or its profile meet.
-pub fn prepare(n: usize, kind: Kind, rows: &[u64]) -> Prepared
-    ensures { λ r. ⌜ Prepares n kind (now (rows .entry)) r ⌝ }
+// The plate of a matrix's code with a mask, or the first refusal that its length, its rows, the mask or its profile meet.
+pub fn prepare(n: usize, kind: Kind, rows: &[u64], mask: u64) -> Prepared
+    ensures { λ r. ⌜ Prepares n kind (now (rows .entry)) mask r ⌝ }
 {
     if n == 0 {
         return refused(Refusal::Length);
@@ -229,8 +209,12 @@ pub fn prepare(n: usize, kind: Kind, rows: &[u64]) -> Prepared
     if beyond < rows.len() {
         return refused(Refusal::RowBeyond(beyond));
     }
-    let plate = plate_of_matrix(n, kind, rows);
+    let reach = matrix::reaches(mask, n);
+    let plate = plate_of_matrix(n, kind, rows, mask);
     let wide = profile::first_wide(&plate.profile, n);
+    if reach == 1 {
+        return refused(Refusal::MaskBeyond);
+    }
     if wide <= n {
         return refused(Refusal::TooWide(wide));
     }
@@ -240,9 +224,9 @@ pub fn prepare(n: usize, kind: Kind, rows: &[u64]) -> Prepared
     }
 }
 
-// Whether a plate is what preparing its own first k rows as G gives.
+// Whether a plate is what preparing its own first k rows as G, with its own mask, gives.
 pub fn is_prepared(plate: Plate) -> bool
     ensures { λ r. ⌜ Tests plate r ⌝ }
 {
-    tested::sound(plate.n, plate.k, &plate.rows, &plate.profile)
+    tested::sound(plate.n, plate.k, plate.mask, &plate.rows, &plate.profile)
 }

@@ -8,7 +8,7 @@ use crate::Kind;
 use crate::rows;
 
 // 1 where the word has a one at n or beyond, and 0 elsewhere.
-fn reaches(word: u64, n: usize) -> u64
+pub fn reaches(word: u64, n: usize) -> u64
     ensures { λ r. ⌜ Tells (Beyond n word) r ⌝ }
 {
     if word == 0 {

@@ -6,6 +6,7 @@ ghost use Rattle.words.specs.Ends.{firsts, lasts};
 ghost use Rattle.words.specs.Span.{Spans};
 ghost use Rattle.plates.specs.Sound.{Sound};
 ghost use Rattle.plates.specs.Tested.{Decides, ByLast, MayFollow, Standing, Placed, RowEnding, HeadsOf, HeadWord, Cleared, endingAt, Profiled, UsedSound, ZeroFrom};
+use crate::matrix::reaches;
 use words::bit_at;
 use words::first_one;
 use words::last_one;
@@ -196,10 +197,10 @@ fn entries_zero(entries: &[u8; 65], from: usize) -> bool
 }
 
 // Whether all that can be tested of a plate holds.
-pub fn sound<'a>(n: usize, k: usize, rows: &'a [u64], profile: &'a [u8; 65]) -> bool
+pub fn sound<'a>(n: usize, k: usize, mask: u64, rows: &'a [u64], profile: &'a [u8; 65]) -> bool
     requires { ⌜ length (now rows) ≡ 64 ⌝ }
     requires { ⌜ length (now profile) ≡ 65 ⌝ }
-    ensures { λ r. ⌜ Decides (Sound (record { n = n; k = k; rows = now (rows .entry); profile = now (profile .entry) })) r ⌝ }
+    ensures { λ r. ⌜ Decides (Sound (record { n = n; k = k; mask = mask; rows = now (rows .entry); profile = now (profile .entry) })) r ⌝ }
 {
     if n == 0 {
         return false;
@@ -208,6 +209,9 @@ pub fn sound<'a>(n: usize, k: usize, rows: &'a [u64], profile: &'a [u8; 65]) -> 
         return false;
     }
     if 64 < k {
+        return false;
+    }
+    if reaches(mask, n) == 1 {
         return false;
     }
     if !used_sound(&rows[..k], n, profile) {

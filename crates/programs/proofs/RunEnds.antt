@@ -58,7 +58,9 @@ module _ (read whole : List ℕ) (same : reading whole ≡ reading read) (sent :
       (omega (arith, e, a .counted), over r)
 
   sheet-ends : (c : Contents) → reading read ≡ says c → (report : Report)
-      (x : OpensSheet (c .n) (c .kind) (c .rows) (c .order) (startOf read c) (c .heard) (length (c .blocks)) report) (v : Verdict) → x .prepared .verdict ≡ v → EndsAs whole (endingOf ((reportBy v (x .prepared .plate) (c .order) (startOf read c) (c .heard) (length (c .blocks))) .stage) sent)
+      (x : OpensSheet (c .n) (c .kind) (c .rows) (c .mask) (c .order) (startOf read c) (c .heard) (length (c .blocks)) report) (v : Verdict)
+      → x .prepared .verdict ≡ v
+      → EndsAs whole (endingOf ((reportBy v (x .prepared .plate) (c .order) (startOf read c) (c .heard) (length (c .blocks))) .stage) sent)
   sheet-ends c e report x (J.Refused q) f =
       refused-ends q (record { is = subst (λ (y : Reading). ReportsAs y (lineOfRefusal q ∷ [])) (sym e) (record { prepared = x .prepared; prepares = x .prepares; is = rw f refl }) })
   sheet-ends c e report x J.Accepted f =

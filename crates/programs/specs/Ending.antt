@@ -42,12 +42,12 @@ endingOf S.Done sent = Listed sent
 pub record PrintsAll (read : List ℕ) (r : Printed) : Type 0 where
   pub all : r .whole ≡ true → AllLines read (r .sent .lines)
 
--- a sheet that is not refused: it is read, and its matrix is accepted
+-- a sheet that is not refused: it is read, and its matrix is accepted with its mask
 pub record Accepts (whole : List ℕ) : Type 0 where
   pub sheet : Contents
   pub reads : reading whole ≡ says sheet
   pub prepared : Prepared
-  pub prepares : Prepares (sheet .n) (sheet .kind) (sheet .rows) prepared
+  pub prepares : Prepares (sheet .n) (sheet .kind) (sheet .rows) (sheet .mask) prepared
   pub accepted : prepared .verdict ≡ J.Accepted
 
 -- the lines that were taken are all lines of a listing, or the one line of a refused sheet

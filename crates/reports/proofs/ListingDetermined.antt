@@ -41,7 +41,7 @@ prepared-leaves-same J.Accepted plate blocks before a b x y = blocks-leave-same 
 leaves-same : (found : Reading) (before a b : Rooms) → LeavesAs found before a → LeavesAs found before b → a ≡ b
 leaves-same (refused q) before a b x y = x ∙ sym y
 leaves-same (says c) before a b x y =
-    let e = prepare-determined (c .n) (c .kind) (c .rows) (y .prepared) (x .prepared) (y .prepares) (x .prepares) in
+    let e = prepare-determined (c .n) (c .kind) (c .rows) (c .mask) (y .prepared) (x .prepared) (y .prepares) (x .prepares) in
     prepared-leaves-same (x .prepared .verdict) (x .prepared .plate) (c .blocks) before a b (x .is)
     (subst (λ (r : Prepared). PreparedLeaves (r .verdict) (r .plate) (c .blocks) before b) e (y .is))
 

@@ -80,14 +80,14 @@ verdict-small J.Accepted plate order at heard blocks h = h
 
 -- ---- a sheet that says something
 
-module _ (input : List ℕ) (c : Contents) (e : reading input ≡ says c) (r : Prepared) (p : Prepares (c .n) (c .kind) (c .rows) r) where
+module _ (input : List ℕ) (c : Contents) (e : reading input ≡ says c) (r : Prepared) (p : Prepares (c .n) (c .kind) (c .rows) (c .mask) r) where
   abbrev opened : Verdict → Report
   opened v = reportBy v (r .plate) (c .order) (startOf input c) (c .heard) (length (c .blocks))
 
   sheet-ready : (v : Verdict) → r .verdict ≡ v → Ready input (opened v)
   sheet-ready (J.Refused q) a = tt
   sheet-ready J.Accepted a = (
-    accepted-prepared (c .n) (c .kind) (c .rows) r p a,
+    accepted-prepared (c .n) (c .kind) (c .rows) (c .mask) r p a,
     subst (λ (b : List (List ℤ)). HasRoom noTally (length b)) (sym (blocks-from-start input c e)) (room-at-first (length (c .blocks)) (sheet-small input c e)),
   )
 

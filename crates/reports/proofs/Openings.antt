@@ -26,18 +26,18 @@ module _ (input zeros : List ℕ) (size : length zeros ≡ 64) where
   rows-within (refused q) e sheet table r t = no-sheet r
 
   opens-by : (found : Reading) (e : reading input ≡ found) (sheet : Sheet) (table : List ℕ) (report : Report) → Read sheet ≡ sheetReply input found → table ≡ tableAfter zeros found
-      → OpensSheet (sheet .n) (sheet .kind) (take (sheet .rows) table) (sheet .order) (sheet .start) (sheet .heard) (sheet .blocks) report → OpensAs input found report
+      → OpensSheet (sheet .n) (sheet .kind) (take (sheet .rows) table) (sheet .mask) (sheet .order) (sheet .start) (sheet .heard) (sheet .blocks) report → OpensAs input found report
   opens-by (says c) e sheet table report r t o =
       let s : sheet ≡ sheetAt (startOf input c) c = cc in
       subst
-      (λ (rows : List ℕ). OpensSheet (c .n) (c .kind) rows (c .order) (startOf input c) (c .heard) (length (c .blocks)) report)
+      (λ (rows : List ℕ). OpensSheet (c .n) (c .kind) rows (c .mask) (c .order) (startOf input c) (c .heard) (length (c .blocks)) report)
       (laid-start (c .rows) zeros (omega (arith, sheet-in-range input c e .few, size)))
       (rw (s, t) at o)
   opens-by (refused q) e sheet table report r t o = no-sheet r
 
   -- and prepared
   pub opens-sheet : (sheet : Sheet) (table : List ℕ) (report : Report) → Read sheet ≡ sheetReply input (reading input) → table ≡ tableAfter zeros (reading input)
-      → OpensSheet (sheet .n) (sheet .kind) (take (sheet .rows) table) (sheet .order) (sheet .start) (sheet .heard) (sheet .blocks) report → Opens input report
+      → OpensSheet (sheet .n) (sheet .kind) (take (sheet .rows) table) (sheet .mask) (sheet .order) (sheet .start) (sheet .heard) (sheet .blocks) report → Opens input report
   opens-sheet sheet table report r t o = record { is = opens-by (reading input) refl sheet table report r t o }
 
 refused-by : (input : List ℕ) (found : Reading) (q : Refusal) (report : Report) → Refused q ≡ sheetReply input found → report ≡ refusedReport q → OpensAs input found report

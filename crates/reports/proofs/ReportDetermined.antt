@@ -142,18 +142,18 @@ plate-determined plate Rest once [] b x y = absurd x
 plate-determined plate Rest once (k ∷ ks) [] x y = absurd y
 plate-determined plate Rest once (k ∷ ks) (l ∷ ls) x y = both (x .0 ∙ sym (y .0)) (profile-determined plate Rest once ks ls (x .1) (y .1))
 
-module _ (sheet : Contents) (r : Prepared) (p : Prepares (sheet .n) (sheet .kind) (sheet .rows) r) where
+module _ (sheet : Contents) (r : Prepared) (p : Prepares (sheet .n) (sheet .kind) (sheet .rows) (sheet .mask) r) where
   prepared-determined : (v : Verdict) → r .verdict ≡ v → (a b : List (List ℕ)) → PreparedReports v (r .plate) sheet a → PreparedReports v (r .plate) sheet b → a ≡ b
   prepared-determined (J.Refused q) e a b x y = x ∙ sym y
   prepared-determined J.Accepted e a b x y =
       plate-determined (r .plate) _
-      (lines-determined (sheet .order) (r .plate) (accepted-prepared (sheet .n) (sheet .kind) (sheet .rows) r p e) (length (sheet .blocks)) (sheet .heard) atFirst (sheet .counters) (sheet .blocks))
+      (lines-determined (sheet .order) (r .plate) (accepted-prepared (sheet .n) (sheet .kind) (sheet .rows) (sheet .mask) r p e) (length (sheet .blocks)) (sheet .heard) atFirst (sheet .counters) (sheet .blocks))
       a b x y
 
 by-reading : (found : Reading) (a b : List (List ℕ)) → ReportsAs found a → ReportsAs found b → a ≡ b
 by-reading (refused q) a b x y = x ∙ sym y
 by-reading (says sheet) a b x y =
-    let e = prepare-determined (sheet .n) (sheet .kind) (sheet .rows) (y .prepared) (x .prepared) (y .prepares) (x .prepares) in
+    let e = prepare-determined (sheet .n) (sheet .kind) (sheet .rows) (sheet .mask) (y .prepared) (x .prepared) (y .prepares) (x .prepares) in
     prepared-determined sheet (x .prepared) (x .prepares) (x .prepared .verdict) refl a b (x .is)
     (subst (λ (r : Prepared). PreparedReports (r .verdict) (r .plate) sheet b) e (y .is))
 

@@ -31,7 +31,7 @@ use Rattle.reports.specs.Steps.{BlockStep, BlocksStep, Closes, DecodedSt
 opens-same : (input : List ℕ) (found : Reading) (a b : Report) → OpensAs input found a → OpensAs input found b → a ≡ b
 opens-same input (refused q) a b x y = x ∙ sym y
 opens-same input (says c) a b x y =
-    let e = prepare-determined (c .n) (c .kind) (c .rows) (x .prepared) (y .prepared) (x .prepares) (y .prepares) in
+    let e = prepare-determined (c .n) (c .kind) (c .rows) (c .mask) (x .prepared) (y .prepared) (x .prepares) (y .prepares) in
     x .is ∙ ap (λ (r : Prepared). reportBy (r .verdict) (r .plate) (c .order) (startOf input c) (c .heard) (length (c .blocks))) e ∙ sym (y .is)
 
 pub open-determined : (input : List ℕ) (a b : Report) → Opens input a → Opens input b → a ≡ b

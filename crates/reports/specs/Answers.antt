@@ -21,7 +21,7 @@ use Rattle.reports.specs.declared.tally.Reference.the-variants.{Unset}
 pub record Answers (input : List ℕ) (prepared : Prepared) (answers : List Decoded) : Type 0 where
   pub sheet : Contents
   pub reads : reading input ≡ says sheet
-  pub prepares : Prepares (sheet .n) (sheet .kind) (sheet .rows) prepared
+  pub prepares : Prepares (sheet .n) (sheet .kind) (sheet .rows) (sheet .mask) prepared
   pub accepted : prepared .verdict ≡ J.Accepted
   pub blocks : BlockAnswers (prepared .plate) (sheet .blocks) answers
 

@@ -30,7 +30,7 @@ PreparedLeaves J.Accepted plate blocks before after = BlocksLeave plate blocks b
 
 pub record SheetLeaves (sheet : Contents) (before after : Rooms) : Type 0 where
   pub prepared : Prepared
-  pub prepares : Prepares (sheet .n) (sheet .kind) (sheet .rows) prepared
+  pub prepares : Prepares (sheet .n) (sheet .kind) (sheet .rows) (sheet .mask) prepared
   pub is : PreparedLeaves (prepared .verdict) (prepared .plate) (sheet .blocks) before after
 
 -- a sheet that is refused does so too

@@ -130,10 +130,10 @@ PreparedReports (J.Refused q) plate sheet lines = lines ≡ lineOfRefusal q ∷ 
 PreparedReports J.Accepted plate sheet lines =
     PlateReports plate (LinesReport (sheet .heard) (sheet .order) plate (length (sheet .blocks)) atFirst (sheet .counters) (sheet .blocks)) lines
 
--- the sheet's matrix is prepared
+-- the sheet's matrix is prepared with its mask
 pub record SheetReports (sheet : Contents) (lines : List (List ℕ)) : Type 0 where
   pub prepared : Prepared
-  pub prepares : Prepares (sheet .n) (sheet .kind) (sheet .rows) prepared
+  pub prepares : Prepares (sheet .n) (sheet .kind) (sheet .rows) (sheet .mask) prepared
   pub is : PreparedReports (prepared .verdict) (prepared .plate) sheet lines
 
 -- a sheet that is refused prints one line and nothing more

@@ -1,6 +1,6 @@
 -- What opening a report and taking its next line reply, and what they leave in the lent rooms.
 use Prim.Native.Nat.{ℕ, _<_, _≤_}
-use lib.Dec.{ltb}
+use lib.Dec.{eqb, ltb}
 use lib.IntN.{ℤ}
 use lib.ListN.{length}
 use mathlib.Core.Bool.{Bool, true, false, cond, _&&_}
@@ -10,7 +10,7 @@ use Rattle.plates.specs.declared.Kind.{Kind}
 use Rattle.plates.specs.declared.Plate.{Plate}
 use Rattle.plates.specs.declared.Prepared.{Prepared}
 use Rattle.plates.specs.declared.Refusal.{Refusal}
-use Rattle.plates.specs.declared.Refusal.the-variants.{Length, TooManyRows, RowBeyond, TooWide, NotPrepared, SampleCount, SampleRange, MetricRoom, DecisionRoom, SheetLine, LineRoom, NoSuchBranch, Information, NoCodeword, InputTooLong, PositionBeyond, BadSetting, NotANumber, WholeSpace, AlistFault, FirstField, FieldCount, FieldValue, RowField, BranchFault, BranchTwice, TooManyLines}
+use Rattle.plates.specs.declared.Refusal.the-variants.{Length, LineRoom}
 use Rattle.plates.specs.declared.Verdict.{Verdict}
 use Rattle.plates.specs.declared.Verdict.the-variants as J
 use Rattle.plates.specs.Prepare.{Prepares, zeroPlate}
@@ -53,15 +53,15 @@ reportBy (J.Refused q) plate order at heard blocks = refusedReport q
 reportBy J.Accepted plate order at heard blocks =
     record { stage = S.PlateLine; plate = plate; order = order; at = at; heard = heard; blocks = blocks; kept = nothingKept }
 
--- a sheet that is not refused: its matrix is prepared
-pub record OpensSheet (n : ℕ) (kind : Kind) (rows : List ℕ) (order : Order) (at : ℕ) (heard : Bool) (blocks : ℕ) (r : Report) : Type 0 where
+-- a sheet that is not refused: its matrix is prepared with its mask
+pub record OpensSheet (n : ℕ) (kind : Kind) (rows : List ℕ) (mask : ℕ) (order : Order) (at : ℕ) (heard : Bool) (blocks : ℕ) (r : Report) : Type 0 where
   pub prepared : Prepared
-  pub prepares : Prepares n kind rows prepared
+  pub prepares : Prepares n kind rows mask prepared
   pub is : r ≡ reportBy (prepared .verdict) (prepared .plate) order at heard blocks
 
 abbrev pub OpensAs : List ℕ → Reading → Report → Type 0
 OpensAs input (refused q) r = r ≡ refusedReport q
-OpensAs input (says sheet) r = OpensSheet (sheet .n) (sheet .kind) (sheet .rows) (sheet .order) (startOf input sheet) (sheet .heard) (length (sheet .blocks)) r
+OpensAs input (says sheet) r = OpensSheet (sheet .n) (sheet .kind) (sheet .rows) (sheet .mask) (sheet .order) (startOf input sheet) (sheet .heard) (length (sheet .blocks)) r
 
 -- What opening replies: the report of the input, which stands before its first line
 pub record Opens (input : List ℕ) (r : Report) : Type 0 where
@@ -144,33 +144,7 @@ pub record WritesStep (Promise : Written → List ℕ → Type 0) (before after 
 
 -- a refusal that the sheet's block meets, and that is printed: 6 and 7
 abbrev pub ofBlock : Refusal → Bool
-ofBlock SampleCount = true
-ofBlock (SampleRange position) = true
-ofBlock Length = false
-ofBlock TooManyRows = false
-ofBlock (RowBeyond row) = false
-ofBlock (TooWide depth) = false
-ofBlock NotPrepared = false
-ofBlock MetricRoom = false
-ofBlock DecisionRoom = false
-ofBlock (SheetLine line) = false
-ofBlock LineRoom = false
-ofBlock NoSuchBranch = false
-ofBlock Information = false
-ofBlock NoCodeword = false
-ofBlock InputTooLong = false
-ofBlock PositionBeyond = false
-ofBlock BadSetting = false
-ofBlock (NotANumber position) = false
-ofBlock WholeSpace = false
-ofBlock (AlistFault line) = false
-ofBlock (FirstField line) = false
-ofBlock (FieldCount line at) = false
-ofBlock (FieldValue line at) = false
-ofBlock (RowField line at) = false
-ofBlock (BranchFault line) = false
-ofBlock (BranchTwice line) = false
-ofBlock TooManyLines = false
+ofBlock q = cond (eqb (number q) 6) true (eqb (number q) 7)
 
 -- a block whose decoding is refused: 6 and 7 are printed, others refuse the call
 abbrev pub RefusedStep : Bool → Refusal → Report → Report → List ℕ → Step → List ℕ → Type 0

@@ -58,35 +58,11 @@ fn word_line(before: Report, after: Report, answer: Answer, room: &mut [u8]) -> 
 fn is_of_block(refusal: Refusal) -> bool
     ensures { λ r. ⌜ r ≡ ofBlock refusal ⌝ }
 {
-    match refusal {
-        Refusal::SampleCount => true,
-        Refusal::SampleRange(_) => true,
-        Refusal::Length => false,
-        Refusal::TooManyRows => false,
-        Refusal::RowBeyond(_) => false,
-        Refusal::TooWide(_) => false,
-        Refusal::NotPrepared => false,
-        Refusal::MetricRoom => false,
-        Refusal::DecisionRoom => false,
-        Refusal::SheetLine(_) => false,
-        Refusal::LineRoom => false,
-        Refusal::NoSuchBranch => false,
-        Refusal::Information => false,
-        Refusal::NoCodeword => false,
-        Refusal::InputTooLong => false,
-        Refusal::PositionBeyond => false,
-        Refusal::BadSetting => false,
-        Refusal::NotANumber(_) => false,
-        Refusal::WholeSpace => false,
-        Refusal::AlistFault(_) => false,
-        Refusal::FirstField(_) => false,
-        Refusal::FieldCount(_, _) => false,
-        Refusal::FieldValue(_, _) => false,
-        Refusal::RowField(_, _) => false,
-        Refusal::BranchFault(_) => false,
-        Refusal::BranchTwice(_) => false,
-        Refusal::TooManyLines => false,
+    let number = plates::refusal_number(refusal);
+    if number == 6 {
+        return true;
     }
+    number == 7
 }
 
 // A block whose decoding is refused.

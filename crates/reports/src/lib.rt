@@ -77,6 +77,7 @@ fn refused(refusal: Refusal) -> Report
         plate: Plate {
             n: 0,
             k: 0,
+            mask: 0,
             rows: [0; 64],
             profile: [0; 65],
         },
@@ -91,13 +92,13 @@ fn refused(refusal: Refusal) -> Report
 // The report of a sheet, whose rows stand at the start of the table.
 fn of_sheet(sheet: Sheet, table: &[u64; 64]) -> Report
     requires { ⌜ sheet .rows ≤ length (now table) ⌝ }
-    ensures { λ r. ⌜ OpensSheet (sheet .n) (sheet .kind) (take (sheet .rows) (now (table .entry))) (sheet .order) (sheet .start) (sheet .heard) (sheet .blocks) r ⌝ }
+    ensures { λ r. ⌜ OpensSheet (sheet .n) (sheet .kind) (take (sheet .rows) (now (table .entry))) (sheet .mask) (sheet .order) (sheet .start) (sheet .heard) (sheet .blocks) r ⌝ }
 {
     let rows = &table[..];
     let count = sheet.rows;
     let kind = sheet.kind;
     let order = sheet.order;
-    let prepared = plates::prepare(sheet.n, kind, &rows[..count]);
+    let prepared = plates::prepare(sheet.n, kind, &rows[..count], sheet.mask);
     let verdict = prepared.verdict;
     match verdict {
         Verdict::Refused(refusal) => refused(refusal),

@@ -15,7 +15,7 @@ use Rattle.sheets.specs.Readers.{FieldsRead, HeardRead, RestRead, LineRe
 use Rattle.sheets.specs.declared.number.Number.{Number}
 use Rattle.sheets.specs.declared.number.Number.the-variants as N
 use Rattle.sheets.specs.declared.word.Word.{Word}
-use Rattle.sheets.specs.declared.word.Word.the-variants.{Cover, Row, Block, Heard, End, Other}
+use Rattle.sheets.specs.declared.word.Word.the-variants.{Cover, Mask, Row, Block, Heard, End, Other}
 use Rattle.sheets.specs.declared.block.Samples.{Samples}
 use Rattle.sheets.specs.declared.block.Samples.the-variants.{Bad}
 use Rattle.sheets.proofs.word.Word.{the-type}
@@ -23,28 +23,31 @@ use Rattle.sheets.proofs.Parts.{parts-front, after-more, after-last}
 use Rattle.sheets.proofs.Sampling.{read-bad}
 
 -- a word that is not block
-pub not-block : (w : Word) (fs : List (List ℕ)) → OneOf (0 ∷ 1 ∷ 3 ∷ 4 ∷ 5 ∷ []) (tagOf the-type w) → blockBy false w fs ≡ Bad 1
+pub not-block : (w : Word) (fs : List (List ℕ)) → OneOf (0 ∷ 1 ∷ 2 ∷ 4 ∷ 5 ∷ 6 ∷ []) (tagOf the-type w) → blockBy false w fs ≡ Bad 1
 not-block Cover fs h = refl
+not-block Mask fs h = refl
 not-block Row fs h = refl
-not-block Block fs h = absurd (miss (0 ∷ 1 ∷ 3 ∷ 4 ∷ 5 ∷ []) 2 tt h)
+not-block Block fs h = absurd (miss (0 ∷ 1 ∷ 2 ∷ 4 ∷ 5 ∷ 6 ∷ []) 3 tt h)
 not-block Heard fs h = refl
 not-block End fs h = refl
 not-block Other fs h = refl
 
 -- a word that is not heard
-pub not-heard : (w : Word) (fs : List (List ℕ)) → OneOf (0 ∷ 1 ∷ 2 ∷ 4 ∷ 5 ∷ []) (tagOf the-type w) → blockBy true w fs ≡ Bad 1
+pub not-heard : (w : Word) (fs : List (List ℕ)) → OneOf (0 ∷ 1 ∷ 2 ∷ 3 ∷ 5 ∷ 6 ∷ []) (tagOf the-type w) → blockBy true w fs ≡ Bad 1
 not-heard Cover fs h = refl
+not-heard Mask fs h = refl
 not-heard Row fs h = refl
 not-heard Block fs h = refl
-not-heard Heard fs h = absurd (miss (0 ∷ 1 ∷ 2 ∷ 4 ∷ 5 ∷ []) 3 tt h)
+not-heard Heard fs h = absurd (miss (0 ∷ 1 ∷ 2 ∷ 3 ∷ 5 ∷ 6 ∷ []) 4 tt h)
 not-heard End fs h = refl
 not-heard Other fs h = refl
 
-pub no-counter : (w : Word) (fs : List (List ℕ)) → OneOf (0 ∷ 1 ∷ 2 ∷ 4 ∷ 5 ∷ []) (tagOf the-type w) → counterBy w fs ≡ 0
+pub no-counter : (w : Word) (fs : List (List ℕ)) → OneOf (0 ∷ 1 ∷ 2 ∷ 3 ∷ 5 ∷ 6 ∷ []) (tagOf the-type w) → counterBy w fs ≡ 0
 no-counter Cover fs h = refl
+no-counter Mask fs h = refl
 no-counter Row fs h = refl
 no-counter Block fs h = refl
-no-counter Heard fs h = absurd (miss (0 ∷ 1 ∷ 2 ∷ 4 ∷ 5 ∷ []) 3 tt h)
+no-counter Heard fs h = absurd (miss (0 ∷ 1 ∷ 2 ∷ 3 ∷ 5 ∷ 6 ∷ []) 4 tt h)
 no-counter End fs h = refl
 no-counter Other fs h = refl
 

@@ -13,7 +13,7 @@ use Rattle.sheets.specs.Blocks.{isSample, samplesOf, valuesOf, heardRest
 use Rattle.sheets.specs.Readers.{BlockRead, Ended, Until}
 use Rattle.sheets.specs.declared.Order.{Order}
 use Rattle.sheets.specs.declared.word.Word.{Word}
-use Rattle.sheets.specs.declared.word.Word.the-variants.{Cover, Row, Block, Heard, End, Other}
+use Rattle.sheets.specs.declared.word.Word.the-variants.{Cover, Mask, Row, Block, Heard, End, Other}
 use Rattle.sheets.specs.declared.block.Samples.{Samples}
 use Rattle.sheets.specs.declared.block.Samples.the-variants.{Count, Bad}
 use Rattle.sheets.specs.declared.BlockReply.the-variants.{Read, NoBlock}
@@ -43,6 +43,7 @@ heard-counts (f ∷ fs) k e = by (isNumber (counterOf f)) e
 
 word-counts : (heard : Bool) (w : Word) (fs : List (List ℕ)) (k : ℕ) → blockBy heard w fs ≡ Count k → length (valuesAfter heard fs) ≡ k
 word-counts heard Cover fs k e = impossible e
+word-counts heard Mask fs k e = impossible e
 word-counts heard Row fs k e = impossible e
 word-counts false Block fs k e = let q = counts 2 0 k fs e in omega arith
 word-counts true Block fs k e = impossible e

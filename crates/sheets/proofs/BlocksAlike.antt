@@ -13,7 +13,7 @@ use Rattle.sheets.specs.Lines.{blockIs, heardFields, lineBy, lineOf, fro
 use Rattle.sheets.specs.Faults.{after, firstWord}
 use Rattle.sheets.specs.declared.Order.{Order}
 use Rattle.sheets.specs.declared.word.Word.{Word}
-use Rattle.sheets.specs.declared.word.Word.the-variants.{Cover, Row, Block, Heard, End, Other}
+use Rattle.sheets.specs.declared.word.Word.the-variants.{Cover, Mask, Row, Block, Heard, End, Other}
 use Rattle.sheets.specs.declared.block.Samples.{Samples}
 use Rattle.sheets.specs.declared.block.Samples.the-variants as S
 use Rattle.sheets.specs.declared.line.Came.{Came}
@@ -56,6 +56,7 @@ Alike heard word vs noBlock x = x ≡ L.Block → ⊥
 -- a word that is neither
 abbrev isOther : Word → ℕ
 isOther Cover = 1
+isOther Mask = 1
 isOther Row = 1
 isOther Block = 0
 isOther Heard = 0
@@ -102,6 +103,7 @@ module _ (n : ℕ) (order : Order) where
   by-word : (came : Came) (heard : Bool) (w : List ℕ) (fs : List (List ℕ)) (vs : List ℤ) (word : Word) → wordOf w ≡ word → Sought came heard (w ∷ fs)
       → Alike heard word vs (samplesFound (blockBy heard word fs) vs) (lineBy n order came word fs)
   by-word came heard w fs vs Cover e k = other-word came w fs Cover e refl
+  by-word came heard w fs vs Mask e k = other-word came w fs Mask e refl
   by-word came heard w fs vs Row e k = other-word came w fs Row e refl
   by-word Nothing false w fs vs Block e k = samples-alike false vs (samplesOf 2 0 fs)
   by-word Nothing true w fs vs Block e k = absurd (not-both (rw e at (sym k)) refl)

@@ -4,7 +4,7 @@ use borrow.Author.Tests.{leb-true, leb-false}
 use lib.Dec.{eqb, leb}
 use lib.IntN.{ℤ}
 use lib.ListN.{length, take, drop, getD, length-drop}
-use lib.Seq.{drop-nil}
+use lib.Seq.{drop-drop, drop-nil}
 use mathlib.Core.Bool.{Bool, true, false, cond}
 use mathlib.Core.List.{List, [], _∷_}
 use mathlib.Core.Logic.{⊎-elim}
@@ -14,11 +14,14 @@ use native.Mathlib.Omega.{arith}
 use Rattle.plates.specs.declared.Verdict.the-variants as J
 use Rattle.sheets.specs.Text.{lineFeed, till, lines, linesFrom, begins}
 use Rattle.sheets.specs.Blocks.{BlockFound, block, noBlock, blocksOf, countersOf, counterAt, counterFront, blockAt, nextLine, blockPlace}
-use Rattle.sheets.specs.Sheet.{Contents, contents, endingAfter, lineVerdict, startOf, says, reading}
+use Rattle.sheets.specs.Masks.{maskFront, masksIn}
+use Rattle.sheets.specs.Sheet.{Contents, badBy, contents, endingAfter, lineVerdict, masksOf, startOf, says, reading}
 use Rattle.sheets.specs.Turning.{byPosition, inOrder}
 use Rattle.sheets.specs.Readers.{Ended, Until}
 use Rattle.sheets.specs.declared.Order.{Order}
 use Rattle.sheets.specs.declared.line.Fault.the-variants.{Missing}
+use Rattle.sheets.specs.declared.mask.MaskLine.{MaskLine}
+use Rattle.sheets.specs.declared.mask.MaskLine.the-variants as M
 use Rattle.sheets.specs.declared.body.Ending.{Ending}
 use Rattle.sheets.specs.declared.body.Ending.the-variants.{Fine, NoEnd, After}
 use Rattle.sheets.proofs.Parts.{from-start, from-none, from-more, from-last, part-length}
@@ -164,20 +167,37 @@ fine-case line Fine e = refl
 fine-case line (NoEnd f) e = let z : _≡_ {A = ℕ} 0 1 = cc in absurd (omega arith)
 fine-case line (After f) e = let z : _≡_ {A = ℕ} 0 1 = cc in absurd (omega arith)
 
--- there is a line after the rows
-line-left : (s : List ℕ) → Accepts s → drop (suc (length ((contents s) .rows))) (lines s) ≡ [] → ⊥
-line-left s a e =
-    let c = contents s in
-    let f = fine-case (length (c .rows) + length (c .blocks) + 2) (endingAfter c (drop 1 (lines s))) (a .ended) in
-    let g = rw (drop-one (length (c .rows)) (lines s), e, drop-nil (length (c .blocks))) at f in
-    never g
-  where
-    never : NoEnd Missing ≡ Fine → ⊥
-    never q = let z : _≡_ {A = ℕ} 0 1 = cc in omega arith
+-- lines of which none is bad end as they should, after the mask
+pub fine-after : (found : MaskLine) (c : Contents) (ls : List (List ℕ)) → badBy found c ls ≡ J.Accepted → endingAfter c (drop (masksIn found) ls) ≡ Fine
+fine-after (M.Is w) c ls e = fine-case _ _ e
+fine-after M.NoMask c ls e = fine-case _ _ e
+fine-after (M.Bad f) c ls e = let z : _≡_ {A = ℕ} 0 1 = cc in absurd (omega arith)
 
--- the lines after the rows are those from the start on
-lines-from-start : (s : List ℕ) → Accepts s → linesFrom s (startOf s (contents s)) ≡ drop (length ((contents s) .rows)) (drop 1 (lines s))
-lines-from-start s a = from-first s (suc (length ((contents s) .rows))) (line-left s a) ∙ sym (drop-one (length ((contents s) .rows)) (lines s))
+module _ (s : List ℕ) (a : Accepts s) where
+  abbrev masks : ℕ
+  masks = masksOf s (contents s)
+
+  abbrev rows : ℕ
+  rows = length ((contents s) .rows)
+
+  -- the lines after the mask and the rows
+  dropped : drop rows (drop masks (drop 1 (lines s))) ≡ drop (suc (masks + rows)) (lines s)
+  dropped = drop-drop rows masks (drop 1 (lines s)) ∙ drop-one (masks + rows) (lines s)
+
+  -- there is one
+  line-left : drop (suc (masks + rows)) (lines s) ≡ [] → ⊥
+  line-left e =
+      let c = contents s in
+      let f = fine-after (maskFront (c .n) (c .order) (drop 1 (lines s))) c (drop 1 (lines s)) (a .ended) in
+      let g = rw (dropped, e, drop-nil (length (c .blocks))) at f in
+      never g
+    where
+      never : NoEnd Missing ≡ Fine → ⊥
+      never q = let z : _≡_ {A = ℕ} 0 1 = cc in omega arith
+
+  -- they are those from the start on
+  lines-from-start : linesFrom s (startOf s (contents s)) ≡ drop rows (drop masks (drop 1 (lines s)))
+  lines-from-start = from-first s (suc (masks + rows)) line-left ∙ sym dropped
 
 start-case : (s : List ℕ) → Accepts s → byPosition ((contents s) .order) (blocksOf ((contents s) .heard) (linesFrom s (startOf s (contents s)))) ≡ (contents s) .blocks
 unfolding contents

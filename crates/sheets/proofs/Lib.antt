@@ -15,6 +15,7 @@ pub mod BlockRuns
 pub mod Endings
 pub mod Heads
 pub mod Bodies
+pub mod MaskLines
 pub mod Wholes
 pub mod Determined
 pub mod Ranges
@@ -24,10 +25,13 @@ pub mod Positions
 pub mod Worked
 pub mod Replies
 pub mod LineFaults
+pub mod CoverFaults
 pub mod BlocksAlike
 pub mod FirstFaults
+pub mod MaskFaults
 pub mod SheetFaults
 pub mod TurnedLists
 pub mod TurnedLines
 pub mod TurnedText
 pub mod TurnedSheets
+pub mod ZeroMasks

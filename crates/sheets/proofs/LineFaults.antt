@@ -1,4 +1,4 @@
--- The fault of one line: it is the first of all that is wrong with the line, and where there is none nothing is.
+-- The fault of one line after the cover and the mask: it is the first of all that is wrong with the line, and where there is none nothing is.
 use Prim.Native.Nat.{ℕ, suc, _+_, _<_, _≤_}
 use borrow.Author.Tests.{le-ltb, lt-ltb, ne-eqb}
 use lib.Dec.{eqb}
@@ -14,27 +14,19 @@ use Rattle.sheets.specs.Numbers.{counterOf, isNumber, numberOf, sampleOf
 use Rattle.sheets.specs.Rows.{bitsOnly, wordFrom}
 use Rattle.sheets.specs.Turning.{inOrder}
 use Rattle.sheets.specs.Blocks.{isSample, samplesOf}
-use Rattle.sheets.specs.Covers.{kindOf, orderOf, coverIs, coverFields, coverRest, coverBy, coverOf}
 use Rattle.sheets.specs.Lines.{fieldOf, rowIs, rowRest, blockIs, heardFields, endRest, lineBy, lineOf}
 use Rattle.sheets.specs.Lines as lines
-use Rattle.sheets.specs.Faults.{Part, onCover, onRows, onBlocks, onHeard, inTurn, due, firstOff, isKind, isOrder, goodField, formNumber, fieldAt, firstWord, Wrong, outOfTurn, miscounted, malformed, Before}
+use Rattle.sheets.specs.Faults.{Part, onMask, onRows, onBlocks, onHeard, inTurn, due, firstOff, goodField, formNumber, fieldAt, firstWord}
+use Rattle.sheets.specs.Faults.{Wrong, outOfTurn, miscounted, malformed, Before}
 use Rattle.sheets.specs.declared.Order.{Order}
-use Rattle.sheets.specs.declared.number.Number.{Number}
-use Rattle.sheets.specs.declared.number.Number.the-variants as N
 use Rattle.sheets.specs.declared.word.Word.{Word}
-use Rattle.sheets.specs.declared.word.Word.the-variants.{Cover, Row, Block, Heard, End, Other}
+use Rattle.sheets.specs.declared.word.Word.the-variants.{Cover, Mask, Row, Block, Heard, End, Other}
 use Rattle.sheets.specs.declared.row.Row.the-variants as R
 use Rattle.sheets.specs.declared.block.Samples.the-variants as S
 use Rattle.sheets.specs.declared.line.Came.{Came}
 use Rattle.sheets.specs.declared.line.Came.the-variants.{Nothing, Blocks, Heards}
 use Rattle.sheets.specs.declared.line.Line.{Line}
 use Rattle.sheets.specs.declared.line.Line.the-variants as L
-use Rattle.sheets.specs.declared.cover.KindField.{KindField}
-use Rattle.sheets.specs.declared.cover.KindField.the-variants as K
-use Rattle.sheets.specs.declared.cover.OrderField.{OrderField}
-use Rattle.sheets.specs.declared.cover.OrderField.the-variants as O
-use Rattle.sheets.specs.declared.cover.CoverLine.{CoverLine}
-use Rattle.sheets.specs.declared.cover.CoverLine.the-variants as C
 
 -- no test has both answers
 pub not-both : {b : Bool} → b ≡ true → b ≡ false → ⊥
@@ -69,6 +61,7 @@ module _ {n : ℕ} {word : Word} {fs : List (List ℕ)} where
 -- the number of a field that is not of its form
 form-low : (word : Word) → 19 ≤ formNumber word
 form-low Cover = omega arith
+form-low Mask = omega arith
 form-low Row = omega arith
 form-low Block = omega arith
 form-low Heard = omega arith
@@ -142,11 +135,17 @@ partOf Nothing = onRows
 partOf Blocks = onBlocks
 partOf Heards = onHeard
 
--- a cover and another word are always out of their turn, and end is always in its turn
-whatever-came : (came : Came) → (inTurn (partOf came) Cover ≡ false) × (inTurn (partOf came) Other ≡ false) × (inTurn (partOf came) End ≡ true)
-whatever-came Nothing = (refl, refl, refl)
-whatever-came Blocks = (refl, refl, refl)
-whatever-came Heards = (refl, refl, refl)
+-- a cover, a mask and another word are always out of their turn, and end is always in its turn
+pub record Whatever (part : Part) : Type 0 where
+  pub cover : inTurn part Cover ≡ false
+  pub mask : inTurn part Mask ≡ false
+  pub other : inTurn part Other ≡ false
+  pub end : inTurn part End ≡ true
+
+whatever-came : (came : Came) → Whatever (partOf came)
+whatever-came Nothing = record { cover = refl; mask = refl; other = refl; end = refl }
+whatever-came Blocks = record { cover = refl; mask = refl; other = refl; end = refl }
+whatever-came Heards = record { cover = refl; mask = refl; other = refl; end = refl }
 
 -- the word of a line that is a block or heard line
 abbrev pub Received : Word → Type 0
@@ -158,6 +157,22 @@ LineJudged n part fs (L.Row w) = Right n part fs × (firstWord fs ≡ Row)
 LineJudged n part fs L.Block = Right n part fs × Received (firstWord fs)
 LineJudged n part fs L.End = Right n part fs × (firstWord fs ≡ End)
 LineJudged n part fs (L.Bad fault) = Told n part fs (lines.numberOf fault) (fieldOf fault)
+
+-- the two words after which a row's field stands, and the parts of the sheet that begin with their lines
+abbrev pub bitsWord : Bool → Word
+bitsWord false = Row
+bitsWord true = Mask
+
+abbrev pub bitsPart : Bool → Part
+bitsPart false = onRows
+bitsPart true = onMask
+
+-- what the field after such a word says of all that may be wrong with the line: it makes a row or a fault
+abbrev pub BitsJudged : ℕ → Bool → List (List ℕ) → Line → Type 0
+BitsJudged n mask fs (L.Row w) = Right n (bitsPart mask) fs × (firstWord fs ≡ bitsWord mask)
+BitsJudged n mask fs L.Block = ⊥
+BitsJudged n mask fs L.End = ⊥
+BitsJudged n mask fs (L.Bad fault) = Told n (bitsPart mask) fs (lines.numberOf fault) (fieldOf fault)
 
 -- a line in its turn, with the number of fields that it should have, and samples from field `lead` on
 module _ (n : ℕ) (part : Part) (gs : List (List ℕ)) (word : Word) (e : firstWord gs ≡ word) (t : inTurn part word ≡ true) (d : length gs ≡ due word (length gs))
@@ -184,15 +199,29 @@ module _ (n : ℕ) (part : Part) (gs : List (List ℕ)) (word : Word) (e : first
       by on false g = rw (sym v) (form-told n part gs word e t d (k + lead) (omega arith) (omega arith) (here ∙ g) before)
 
 module _ (n : ℕ) (order : Order) (w : List ℕ) where
-  -- one field after row
-  row-judged : wordOf w ≡ Row → (fs : List (List ℕ)) → LineJudged n onRows (w ∷ fs) (rowRest n order fs)
-  row-judged e [] = few-told n onRows (w ∷ []) Row e refl (omega arith)
-  row-judged e (f ∷ g ∷ fs) = many-told n onRows (w ∷ f ∷ g ∷ fs) Row e refl (omega arith)
-  row-judged e (f ∷ []) = by (eqb (length f) n && bitsOnly f) refl
+  -- one field after row, or after mask
+  pub bits-judged : (mask : Bool) → wordOf w ≡ bitsWord mask → (fs : List (List ℕ)) → BitsJudged n mask (w ∷ fs) (rowRest n order fs)
+  bits-judged false e [] = few-told n onRows (w ∷ []) Row e refl (omega arith)
+  bits-judged true e [] = few-told n onMask (w ∷ []) Mask e refl (omega arith)
+  bits-judged false e (f ∷ g ∷ fs) = many-told n onRows (w ∷ f ∷ g ∷ fs) Row e refl (omega arith)
+  bits-judged true e (f ∷ g ∷ fs) = many-told n onMask (w ∷ f ∷ g ∷ fs) Mask e refl (omega arith)
+  bits-judged mask e (f ∷ []) = by mask e (eqb (length f) n && bitsOnly f) refl
     where
-      by : (t : Bool) → (eqb (length f) n && bitsOnly f) ≡ t → LineJudged n onRows (w ∷ f ∷ []) (rowIs (cond t (R.Is (wordFrom (inOrder order f))) R.Bad))
-      by true h = (all-right n onRows (w ∷ f ∷ []) Row e refl refl (good-on (good-on none-before refl) h), e)
-      by false h = form-told n onRows (w ∷ f ∷ []) Row e refl refl 2 (omega arith) (omega arith) h (good-on none-before refl)
+      by : (m : Bool) → wordOf w ≡ bitsWord m → (t : Bool) → (eqb (length f) n && bitsOnly f) ≡ t
+          → BitsJudged n m (w ∷ f ∷ []) (rowIs (cond t (R.Is (wordFrom (inOrder order f))) R.Bad))
+      by false q true h = (all-right n onRows (w ∷ f ∷ []) Row q refl refl (good-on (good-on none-before refl) h), q)
+      by true q true h = (all-right n onMask (w ∷ f ∷ []) Mask q refl refl (good-on (good-on none-before refl) h), q)
+      by false q false h = form-told n onRows (w ∷ f ∷ []) Row q refl refl 2 (omega arith) (omega arith) h (good-on none-before refl)
+      by true q false h = form-told n onMask (w ∷ f ∷ []) Mask q refl refl 2 (omega arith) (omega arith) h (good-on none-before refl)
+
+  row-judged : wordOf w ≡ Row → (fs : List (List ℕ)) → LineJudged n onRows (w ∷ fs) (rowRest n order fs)
+  row-judged e fs = as-row (rowRest n order fs) (bits-judged false e fs)
+    where
+      as-row : (x : Line) → BitsJudged n false (w ∷ fs) x → LineJudged n onRows (w ∷ fs) x
+      as-row (L.Row u) h = h
+      as-row L.Block h = absurd h
+      as-row L.End h = absurd h
+      as-row (L.Bad fault) h = h
 
   -- any number of samples after block
   block-judged : (part : Part) → inTurn part Block ≡ true → wordOf w ≡ Block → (fs : List (List ℕ)) → LineJudged n part (w ∷ fs) (blockIs (samplesOf 2 0 fs))
@@ -227,7 +256,8 @@ module _ (n : ℕ) (order : Order) (w : List ℕ) where
 
   -- the word decides
   by-word : (came : Came) (word : Word) → wordOf w ≡ word → (fs : List (List ℕ)) → LineJudged n (partOf came) (w ∷ fs) (lineBy n order came word fs)
-  by-word came Cover e fs = turn-told n (partOf came) (w ∷ fs) Cover e (whatever-came came .0)
+  by-word came Cover e fs = turn-told n (partOf came) (w ∷ fs) Cover e (whatever-came came .cover)
+  by-word came Mask e fs = turn-told n (partOf came) (w ∷ fs) Mask e (whatever-came came .mask)
   by-word Nothing Row e fs = row-judged e fs
   by-word Blocks Row e fs = turn-told n onBlocks (w ∷ fs) Row e refl
   by-word Heards Row e fs = turn-told n onHeard (w ∷ fs) Row e refl
@@ -237,56 +267,10 @@ module _ (n : ℕ) (order : Order) (w : List ℕ) where
   by-word Nothing Heard e fs = heard-judged onRows refl e fs
   by-word Blocks Heard e fs = turn-told n onBlocks (w ∷ fs) Heard e refl
   by-word Heards Heard e fs = heard-judged onHeard refl e fs
-  by-word came End e fs = end-judged (partOf came) (whatever-came came .2) e fs
-  by-word came Other e fs = turn-told n (partOf came) (w ∷ fs) Other e (whatever-came came .1)
+  by-word came End e fs = end-judged (partOf came) (whatever-came came .end) e fs
+  by-word came Other e fs = turn-told n (partOf came) (w ∷ fs) Other e (whatever-came came .other)
 
 -- each line after the cover
 pub line-judged : (n : ℕ) (order : Order) (came : Came) (fs : List (List ℕ)) → LineJudged n (partOf came) fs (lineOf n order came fs)
-line-judged n order came [] = turn-told n (partOf came) [] Other refl (whatever-came came .1)
+line-judged n order came [] = turn-told n (partOf came) [] Other refl (whatever-came came .other)
 line-judged n order came (w ∷ fs) = by-word n order w came (wordOf w) refl fs
-
--- ---- the cover
-
--- what a cover that was read says of all that may be wrong with it, and its word
-abbrev pub CoverJudged : ℕ → List (List ℕ) → CoverLine → Type 0
-CoverJudged n fs (C.Is cover) = Right n onCover fs × (firstWord fs ≡ Cover)
-CoverJudged n fs (C.Bad fault) = Told n onCover fs (lines.numberOf fault) (fieldOf fault)
-
-module _ (n : ℕ) (w : List ℕ) (e : wordOf w ≡ Cover) where
-  -- three fields after the word
-  fields-judged : (f g h : List ℕ) → CoverJudged n (w ∷ f ∷ g ∷ h ∷ []) (coverFields f g h)
-  unfolding coverFields
-  fields-judged f g h = by (numberOf 3 f) refl (kindOf g) refl (orderOf h) refl
-    where
-      first : GoodBefore n Cover (w ∷ f ∷ g ∷ h ∷ []) 2
-      first = good-on none-before refl
-
-      by : (i : Number) → numberOf 3 f ≡ i → (k : KindField) → kindOf g ≡ k → (o : OrderField) → orderOf h ≡ o → CoverJudged n (w ∷ f ∷ g ∷ h ∷ []) (coverIs i k o)
-      by N.Bad p k q o r = form-told n onCover (w ∷ f ∷ g ∷ h ∷ []) Cover e refl refl 2 (omega arith) (omega arith) (ap isNumber p) first
-      by (N.Is i) p K.Bad q o r =
-          form-told n onCover (w ∷ f ∷ g ∷ h ∷ []) Cover e refl refl 3 (omega arith) (omega arith) (ap isKind q) (good-on first (ap isNumber p))
-      by (N.Is i) p (K.Is k) q O.Bad r =
-          form-told n onCover (w ∷ f ∷ g ∷ h ∷ []) Cover e refl refl 4 (omega arith) (omega arith) (ap isOrder r) (good-on (good-on first (ap isNumber p)) (ap isKind q))
-      by (N.Is i) p (K.Is k) q (O.Is o) r =
-          (all-right n onCover (w ∷ f ∷ g ∷ h ∷ []) Cover e refl refl (good-on (good-on (good-on first (ap isNumber p)) (ap isKind q)) (ap isOrder r)), e)
-
-  -- exactly three
-  rest-judged : (fs : List (List ℕ)) → CoverJudged n (w ∷ fs) (coverRest fs)
-  rest-judged [] = few-told n onCover (w ∷ []) Cover e refl (omega arith)
-  rest-judged (f ∷ []) = few-told n onCover (w ∷ f ∷ []) Cover e refl (omega arith)
-  rest-judged (f ∷ g ∷ []) = few-told n onCover (w ∷ f ∷ g ∷ []) Cover e refl (omega arith)
-  rest-judged (f ∷ g ∷ h ∷ []) = fields-judged f g h
-  rest-judged (f ∷ g ∷ h ∷ i ∷ fs) = many-told n onCover (w ∷ f ∷ g ∷ h ∷ i ∷ fs) Cover e refl (omega arith)
-
--- the cover
-pub cover-judged : (n : ℕ) (fs : List (List ℕ)) → CoverJudged n fs (coverOf fs)
-cover-judged n [] = turn-told n onCover [] Other refl refl
-cover-judged n (w ∷ fs) = by (wordOf w) refl
-  where
-    by : (word : Word) → wordOf w ≡ word → CoverJudged n (w ∷ fs) (coverBy word fs)
-    by Cover e = rest-judged n w e fs
-    by Row e = turn-told n onCover (w ∷ fs) Row e refl
-    by Block e = turn-told n onCover (w ∷ fs) Block e refl
-    by Heard e = turn-told n onCover (w ∷ fs) Heard e refl
-    by End e = turn-told n onCover (w ∷ fs) End e refl
-    by Other e = turn-told n onCover (w ∷ fs) Other e refl

@@ -1,4 +1,4 @@
--- A sheet that is not refused has n from 1 to 64 and at most 64 rows, each row below 2 ^ n.
+-- A sheet that is not refused has n from 1 to 64, a mask below 2 ^ n and at most 64 rows, each below 2 ^ n.
 use Prim.Native.Nat.{ℕ, zero, suc, _^_, _≤_, _<_}
 use borrow.Author.Tests.{eqb-true, eqb-false, ltb-false}
 use lib.Dec.{eqb, ltb}
@@ -6,6 +6,7 @@ use lib.ListN.{length, drop, getD}
 use mathlib.Core.Bool.{Bool, true, false, cond, _&&_}
 use mathlib.Core.List.{List, [], _∷_}
 use mathlib.Core.Path.{_≡_, refl}
+use native.Mathlib.Nat.{one-le-pow}
 use native.Mathlib.Omega.{arith}
 use Rattle.plates.specs.declared.Refusal.{Refusal}
 use Rattle.plates.specs.declared.Refusal.the-variants.{Length, TooManyRows}
@@ -17,6 +18,7 @@ use Rattle.sheets.specs.Rows.{bitsOnly, wordFrom}
 use Rattle.sheets.specs.Turning.{inOrder}
 use Rattle.sheets.specs.Blocks.{heardRest, samplesOf}
 use Rattle.sheets.specs.Lines.{rowIs, rowRest, blockIs, endRest, lineBy, lineOf, front, rowThen, rowsOf}
+use Rattle.sheets.specs.Masks.{maskBy, maskFront, maskIn, maskIs, maskOf, masksIn}
 use Rattle.sheets.specs.Sheet.{Contents, coverFront, coverIn, contents, inputTooLong, coverBad, lengthBad, lineBad, rowsTooMany, firstRefusal, verdict, says, readingBy, reading}
 use Rattle.sheets.specs.declared.Order.{Order}
 use Rattle.sheets.specs.declared.word.Word.{Word}
@@ -121,6 +123,7 @@ module _ (n : ℕ) (order : Order) where
 
   by-below : (w : Word) (fs : List (List ℕ)) → Below n (lineBy n order Nothing w fs)
   by-below W.Cover fs = tt
+  by-below W.Mask fs = tt
   by-below W.Row fs = rest-below fs
   by-below W.Block fs = block-below (samplesOf 2 0 fs)
   by-below W.Heard [] = tt
@@ -149,11 +152,41 @@ module _ (n : ℕ) (order : Order) where
   rows-below [] j l = absurd (omega arith)
   rows-below (l ∷ ls) j h = then-below (front n order Nothing (l ∷ ls)) (rowsOf n order ls) (front-below (l ∷ ls)) (rows-below ls) j h
 
+  -- ---- the word of the mask
+
+  no-mask-below : 0 < 2 ^ n
+  no-mask-below = omega (arith, one-le-pow n 2 (omega arith))
+
+  mask-is-below : (k : Line) → Below n k → maskIn (maskIs k) < 2 ^ n
+  mask-is-below (L.Row w) h = h
+  mask-is-below L.Block h = no-mask-below
+  mask-is-below L.End h = no-mask-below
+  mask-is-below (L.Bad f) h = no-mask-below
+
+  mask-by-below : (w : Word) (fs : List (List ℕ)) → maskIn (maskBy n order w fs) < 2 ^ n
+  mask-by-below W.Cover fs = no-mask-below
+  mask-by-below W.Mask fs = mask-is-below (rowRest n order fs) (rest-below fs)
+  mask-by-below W.Row fs = no-mask-below
+  mask-by-below W.Block fs = no-mask-below
+  mask-by-below W.Heard fs = no-mask-below
+  mask-by-below W.End fs = no-mask-below
+  mask-by-below W.Other fs = no-mask-below
+
+  mask-of-below : (fs : List (List ℕ)) → maskIn (maskOf n order fs) < 2 ^ n
+  mask-of-below [] = no-mask-below
+  mask-of-below (w ∷ fs) = mask-by-below (wordOf w) fs
+
+  mask-below : (ls : List (List ℕ)) → maskIn (maskFront n order ls) < 2 ^ n
+  mask-below [] = no-mask-below
+  mask-below (l ∷ []) = no-mask-below
+  mask-below (l ∷ m ∷ ls) = mask-of-below (fields l)
+
 -- ---- a sheet that is not refused
 
 pub record InRange (c : Contents) : Type 0 where
   pub least : 1 ≤ c .n
   pub most : c .n ≤ 64
+  pub masked : c .mask < 2 ^ c .n
   pub few : length (c .rows) ≤ 64
   pub below : (j : ℕ) → j < length (c .rows) → getD (c .rows) j 0 < 2 ^ c .n
 
@@ -161,12 +194,14 @@ in-range : (s : List ℕ) → Accepts s → InRange (contents s)
 unfolding contents
 in-range s a =
     let cover = coverIn (coverFront (lines s)) in
+    let ls = drop 1 (lines s) in
     let n = length-range (cover .n) (a .range) in
     record {
       least = n .0;
       most = n .1;
+      masked = mask-below (cover .n) (cover .order) ls;
       few = few-case (length ((contents s) .rows)) (ltb 64 (length ((contents s) .rows))) refl (a .few);
-      below = rows-below (cover .n) (cover .order) (drop 1 (lines s));
+      below = rows-below (cover .n) (cover .order) (drop (masksIn (maskFront (cover .n) (cover .order) ls)) ls);
     }
 
 pub sheet-in-range : (s : List ℕ) (c : Contents) → reading s ≡ says c → InRange c

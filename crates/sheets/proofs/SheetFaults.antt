@@ -1,5 +1,5 @@
 -- A sheet that is refused for a bad line is refused with its first fault, and one that is read has no fault.
-use Prim.Native.Nat.{ℕ, suc, _+_}
+use Prim.Native.Nat.{ℕ, suc}
 use lib.Dec.{eqb, ltb}
 use lib.ListN.{length, drop}
 use mathlib.Core.Bool.{Bool, true, false, cond}
@@ -12,27 +12,14 @@ use Rattle.plates.specs.declared.Refusal.the-variants.{InputTooLong, Length, To
 use Rattle.plates.specs.declared.Verdict.{Verdict}
 use Rattle.plates.specs.declared.Verdict.the-variants as J
 use Rattle.sheets.specs.Text.{fields, lines}
-use Rattle.sheets.specs.Blocks.{blocksOf, heardFront}
 use Rattle.sheets.specs.Covers.{coverOf}
-use Rattle.sheets.specs.Lines.{rowsOf}
 use Rattle.sheets.specs.Sheet.{Contents, refusalOf, contentsOf, contents, coverFront, coverIn, coverBad, lineBad, inputTooLong, lengthBad, rowsTooMany, firstRefusal, verdict, says, refused, readingBy, reading}
-use Rattle.sheets.specs.Faults.{onCover, onRows, after, WrongAt, RefusedFor, tooLong, fault, badLength, manyRows}
-use Rattle.sheets.specs.declared.cover.Cover.{Cover}
+use Rattle.sheets.specs.Faults.{onCover, onMask, after, WrongAt, RefusedFor, tooLong, fault, badLength, manyRows}
 use Rattle.sheets.specs.declared.cover.CoverLine.{CoverLine}
 use Rattle.sheets.specs.declared.cover.CoverLine.the-variants as C
-use Rattle.sheets.proofs.LineFaults.{CoverJudged, cover-judged}
-use Rattle.sheets.proofs.FirstFaults.{LinesJudged, first-here, on, open-here, rows-judged}
-use Rattle.sheets.proofs.Turns.{by-position-length}
-
--- the lines after the cover, by the verdict of the sheet's definition
-body-judged : (cover : Cover) (ls : List (List ℕ)) → LinesJudged (cover .n) onRows ls 2 (lineBad (contentsOf cover ls) ls)
-body-judged cover ls =
-    let r = length (rowsOf (cover .n) (cover .order) ls) in
-    let found = blocksOf (heardFront (drop r ls)) (drop r ls) in
-    let b = length found in
-    let c : length (contentsOf cover ls .blocks) ≡ b = by-position-length (cover .order) found in
-    let e : r + b + 2 ≡ r + (b + 2) = omega arith in
-    rw (c, e) (rows-judged (cover .n) (cover .order) ls 2)
+use Rattle.sheets.proofs.CoverFaults.{CoverJudged, cover-judged}
+use Rattle.sheets.proofs.FirstFaults.{LinesJudged, first-here, on, open-here}
+use Rattle.sheets.proofs.MaskFaults.{body-judged}
 
 -- what the lines of a sheet are by their cover: its fault is the first, or line 1 has none and the others are judged
 abbrev ByCover : List (List ℕ) → CoverLine → Type 0
@@ -50,7 +37,7 @@ by-cover (l ∷ m ∷ ms) = go (coverOf (fields l)) (λ n. cover-judged n (field
     go (C.Bad bad) h = first-here 0 onCover l m ms 1 bad (h 0)
     go (C.Is cover) h =
         let j = h (cover .n) in
-        (j .0, on (cover .n) onCover onRows l m ms 1 (lineBad (contentsOf cover (m ∷ ms)) (m ∷ ms)) (j .0) (ap after (j .1)) (body-judged cover (m ∷ ms)))
+        (j .0, on (cover .n) onCover onMask l m ms 1 (lineBad (contentsOf cover (m ∷ ms)) (m ∷ ms)) (j .0) (ap after (j .1)) (body-judged cover (m ∷ ms)))
 
 -- ---- the first of the verdicts that refuses
 

@@ -7,8 +7,8 @@ use mathlib.Core.Bool.{Bool, true, false, cond}
 use mathlib.Core.List.{List, [], _∷_}
 use mathlib.Core.Path.{_≡_, refl, ap}
 use native.Mathlib.Omega.{arith}
-use Rattle.sheets.specs.Words.{same, cover, row, block, heard, end, wordOf}
-use Rattle.sheets.specs.declared.word.Word.the-variants.{Cover, Row, Block, Heard, End, Other}
+use Rattle.sheets.specs.Words.{same, cover, mask, row, block, heard, end, wordOf}
+use Rattle.sheets.specs.declared.word.Word.the-variants.{Cover, Mask, Row, Block, Heard, End, Other}
 use Rattle.sheets.proofs.Bytes.{here}
 
 both : (t u : Bool) → u ≡ false → cond t u false ≡ false
@@ -44,6 +44,14 @@ listed3 (a ∷ b ∷ []) h = absurd (omega arith)
 listed3 (a ∷ b ∷ c ∷ []) h = refl
 listed3 (a ∷ b ∷ c ∷ d ∷ f) h = absurd (omega arith)
 
+pub listed4 : (f : List ℕ) → length f ≡ 4 → f ≡ getD f 0 0 ∷ getD f 1 0 ∷ getD f 2 0 ∷ getD f 3 0 ∷ []
+listed4 [] h = absurd (omega arith)
+listed4 (a ∷ []) h = absurd (omega arith)
+listed4 (a ∷ b ∷ []) h = absurd (omega arith)
+listed4 (a ∷ b ∷ c ∷ []) h = absurd (omega arith)
+listed4 (a ∷ b ∷ c ∷ d ∷ []) h = refl
+listed4 (a ∷ b ∷ c ∷ d ∷ e ∷ f) h = absurd (omega arith)
+
 pub listed5 : (f : List ℕ) → length f ≡ 5 → f ≡ getD f 0 0 ∷ getD f 1 0 ∷ getD f 2 0 ∷ getD f 3 0 ∷ getD f 4 0 ∷ []
 listed5 [] h = absurd (omega arith)
 listed5 (a ∷ []) h = absurd (omega arith)
@@ -55,12 +63,26 @@ listed5 (a ∷ b ∷ c ∷ d ∷ e ∷ g ∷ f) h = absurd (omega arith)
 
 -- three letters are row, end or neither
 pub three : (a b c : ℕ) → let f = a ∷ b ∷ c ∷ [] in wordOf f ≡ cond (same f row) Row (cond (same f end) End Other)
-three a b c = let f = a ∷ b ∷ c ∷ [] in rw (apart f cover (λ e. omega arith), apart f block (λ e. omega arith), apart f heard (λ e. omega arith))
+three a b c =
+    let f = a ∷ b ∷ c ∷ [] in
+    rw (apart f cover (λ e. omega arith), apart f mask (λ e. omega arith), apart f block (λ e. omega arith), apart f heard (λ e. omega arith))
+
+-- four letters are mask or not
+pub four : (a b c d : ℕ) → let f = a ∷ b ∷ c ∷ d ∷ [] in wordOf f ≡ cond (same f mask) Mask Other
+four a b c d =
+    let f = a ∷ b ∷ c ∷ d ∷ [] in
+    rw (
+      apart f cover (λ e. omega arith),
+      apart f row (λ e. omega arith),
+      apart f block (λ e. omega arith),
+      apart f heard (λ e. omega arith),
+      apart f end (λ e. omega arith),
+    )
 
 -- five letters are cover, block, heard or none of these
 pub five : (a b c d e : ℕ) → let f = a ∷ b ∷ c ∷ d ∷ e ∷ [] in wordOf f ≡ cond (same f cover) Cover (cond (same f block) Block (cond (same f heard) Heard Other))
-five a b c d e = let f = a ∷ b ∷ c ∷ d ∷ e ∷ [] in rw (apart f row (λ e. omega arith), apart f end (λ e. omega arith))
+five a b c d e = let f = a ∷ b ∷ c ∷ d ∷ e ∷ [] in rw (apart f mask (λ e. omega arith), apart f row (λ e. omega arith), apart f end (λ e. omega arith))
 
--- a text of another length is none of the five words
-pub no-word : (f : List ℕ) → (length f ≡ 3 → ⊥) → (length f ≡ 5 → ⊥) → wordOf f ≡ Other
-no-word f m n = rw (apart f cover n, apart f row m, apart f block n, apart f heard n, apart f end m)
+-- a text of another length is none of the six words
+pub no-word : (f : List ℕ) → (length f ≡ 3 → ⊥) → (length f ≡ 4 → ⊥) → (length f ≡ 5 → ⊥) → wordOf f ≡ Other
+no-word f k m n = rw (apart f cover n, apart f mask m, apart f row k, apart f block n, apart f heard n, apart f end k)

@@ -1,4 +1,4 @@
--- The lines after the cover, turned: the same rows, blocks by position and counters, and the same end.
+-- The lines after the cover, turned: the same mask and rows, blocks by position and counters, and the same end.
 use Prim.Native.Nat.{ℕ, zero, suc}
 use lib.Dec.{eqb}
 use lib.IntN.{ℤ}
@@ -14,6 +14,7 @@ use Rattle.sheets.specs.Numbers.{counterOf, isNumber}
 use Rattle.sheets.specs.Rows.{rowOf}
 use Rattle.sheets.specs.Blocks.{BlockFound, block, noBlock, samplesOf, samplesFound, valuesOf, heardRest, blockBy, blockLine, valuesAfter, listedIn, blockThen, blocksOf, counterBy, counterIn, countersOf, isHeard, heardLine, heardFront}
 use Rattle.sheets.specs.Lines.{lateRow, lateBlock, lateHeard, rowIs, rowRest, blockIs, heardFields, lineBy, lineOf, rowThen, rowsOf, afterEnd, endBy, endingOf}
+use Rattle.sheets.specs.Masks.{maskBy, maskFront, maskIs, maskOf}
 use Rattle.sheets.specs.Turned.{heardTurned, restTurned, fieldsTurned, other, LinesTurned}
 use Rattle.sheets.specs.declared.Order.{Order}
 use Rattle.sheets.specs.declared.word.Word.{Word}
@@ -47,6 +48,7 @@ no-more (S.Bad j) (S.Bad k) ws = refl
 rows-by-word : (n : ℕ) (order : Order) (w : Word) (fs : List (List ℕ)) (ws : List ℕ)
     → rowThen (lineBy n (other order) Nothing w (restTurned w fs)) ws ≡ rowThen (lineBy n order Nothing w fs) ws
 rows-by-word n order W.Cover fs ws = refl
+rows-by-word n order W.Mask fs ws = refl
 rows-by-word n order W.Row [] ws = refl
 rows-by-word n order W.Row (f ∷ []) ws = ap (λ (r : Row). rowThen (rowIs r) ws) (row-turned n order f)
 rows-by-word n order W.Row (f ∷ g ∷ fs) ws = refl
@@ -73,6 +75,33 @@ rows-turned n order (l ∷ k ∷ ls) (m ∷ o ∷ ms) h =
     ∙ rows-by-fields n order (fields l) (rowsOf n (other order) (o ∷ ms))
     ∙ ap (rowThen (lineOf n order Nothing (fields l))) (rows-turned n order (k ∷ ls) (o ∷ ms) (h .1))
 
+-- ---- the mask
+
+mask-by-word : (n : ℕ) (order : Order) (w : Word) (fs : List (List ℕ)) → maskBy n (other order) w (restTurned w fs) ≡ maskBy n order w fs
+mask-by-word n order W.Cover fs = refl
+mask-by-word n order W.Mask [] = refl
+mask-by-word n order W.Mask (f ∷ []) = ap (λ (r : Row). maskIs (rowIs r)) (row-turned n order f)
+mask-by-word n order W.Mask (f ∷ g ∷ fs) = refl
+mask-by-word n order W.Row fs = refl
+mask-by-word n order W.Block fs = refl
+mask-by-word n order W.Heard fs = refl
+mask-by-word n order W.End fs = refl
+mask-by-word n order W.Other fs = refl
+
+mask-by-fields : (n : ℕ) (order : Order) (fs : List (List ℕ)) → maskOf n (other order) (fieldsTurned fs) ≡ maskOf n order fs
+mask-by-fields n order [] = refl
+mask-by-fields n order (w ∷ fs) = mask-by-word n order (wordOf w) fs
+
+-- the same mask under the other order, or the same fault
+pub mask-turned : (n : ℕ) (order : Order) (ls ms : List (List ℕ)) → LinesTurned ls ms → maskFront n (other order) ms ≡ maskFront n order ls
+mask-turned n order [] [] h = refl
+mask-turned n order [] (m ∷ ms) h = absurd h
+mask-turned n order (l ∷ ls) [] h = absurd h
+mask-turned n order (l ∷ []) (m ∷ []) h = refl
+mask-turned n order (l ∷ []) (m ∷ o ∷ ms) h = absurd (h .1)
+mask-turned n order (l ∷ k ∷ ls) (m ∷ []) h = absurd (h .1)
+mask-turned n order (l ∷ k ∷ ls) (m ∷ o ∷ ms) h = ap (maskOf n (other order)) (h .0) ∙ mask-by-fields n order (fields l)
+
 -- ---- blocks
 
 heard-by-word : (fs : List (List ℕ))
@@ -87,6 +116,7 @@ heard-by-word (f ∷ fs) = by (isNumber (counterOf f))
 blocks-by-word : (heard : Bool) (word : Word) (fs : List (List ℕ))
     → samplesFound (blockBy heard word (restTurned word fs)) (valuesAfter heard (restTurned word fs)) ≡ foundTurned (samplesFound (blockBy heard word fs) (valuesAfter heard fs))
 blocks-by-word heard W.Cover fs = refl
+blocks-by-word heard W.Mask fs = refl
 blocks-by-word heard W.Row fs = refl
 blocks-by-word false W.Block fs = samples-turned 2 fs
 blocks-by-word true W.Block fs = refl
@@ -123,6 +153,7 @@ blocks-turned heard order (l ∷ k ∷ ls) (m ∷ o ∷ ms) h =
 
 counter-by-word : (word : Word) (fs : List (List ℕ)) → counterBy word (restTurned word fs) ≡ counterBy word fs
 counter-by-word W.Cover fs = refl
+counter-by-word W.Mask fs = refl
 counter-by-word W.Row fs = refl
 counter-by-word W.Block fs = refl
 counter-by-word W.Heard [] = refl
@@ -189,6 +220,7 @@ module _ (n : ℕ) (order : Order) (came : Came) where
 
   end-by-word : (w : Word) (fs : List (List ℕ)) → lineBy n order came w fs ≡ L.End → lineBy n (other order) came w (restTurned w fs) ≡ L.End
   end-by-word W.Cover fs e = e
+  end-by-word W.Mask fs e = e
   end-by-word W.Row fs e = absurd (late-no-end (lateRow came) fs e)
   end-by-word W.Block fs e = absurd (turn-no-end (lateBlock came) (blockIs (samplesOf 2 0 fs)) (block-no-end (samplesOf 2 0 fs)) e)
   end-by-word W.Heard fs e = absurd (turn-no-end (lateHeard came) (heardFields fs) (heard-no-end fs) e)

@@ -14,7 +14,9 @@ use Rattle.sheets.specs.Turning.{byPosition}
 use Rattle.sheets.specs.Blocks.{blocksOf, countersOf, heardFront}
 use Rattle.sheets.specs.Covers.{kindOf, orderOf, coverIs, coverFields, coverRest, coverBy, coverOf}
 use Rattle.sheets.specs.Lines.{cameAfter, rowsOf}
-use Rattle.sheets.specs.Sheet.{Contents, coverFront, coverIn, contents, contentsOf, coverBad, endingAfter, lineBad, lineVerdict, verdict, says, reading}
+use Rattle.sheets.specs.Masks.{maskFront, maskIn, masksIn}
+use Rattle.sheets.specs.Sheet.{Contents, coverFront, coverIn, contents, contentsOf, contentsWith, says, reading}
+use Rattle.sheets.specs.Sheet.{badBy, coverBad, endingAfter, lineBad, lineVerdict, verdict}
 use Rattle.sheets.specs.Turned.{coverTurned, restTurned, fieldsTurned, otherWord, other, underOther, LinesTurned, IsTurned}
 use Rattle.sheets.specs.declared.Order.{Order}
 use Rattle.sheets.specs.declared.Order.the-variants.{First, Last}
@@ -30,10 +32,12 @@ use Rattle.sheets.specs.declared.cover.OrderField.the-variants as O
 use Rattle.sheets.specs.declared.cover.Cover.{Cover}
 use Rattle.sheets.specs.declared.cover.CoverLine.{CoverLine}
 use Rattle.sheets.specs.declared.cover.CoverLine.the-variants as C
-use Rattle.sheets.specs.declared.body.Ending.{Ending}
-use Rattle.sheets.specs.declared.body.Ending.the-variants.{Fine, NoEnd, After}
+use Rattle.sheets.specs.declared.mask.MaskLine.{MaskLine}
+use Rattle.sheets.specs.declared.mask.MaskLine.the-variants as M
+use Rattle.sheets.specs.declared.body.Ending.the-variants.{Fine}
+use Rattle.sheets.proofs.Following.{fine-after}
 use Rattle.sheets.proofs.Ranges.{accepted, Accepts, all-pass}
-use Rattle.sheets.proofs.TurnedLines.{blocks-turned, counters-turned, drop-turned, fine-turned, heard-turned, rows-turned}
+use Rattle.sheets.proofs.TurnedLines.{blocks-turned, counters-turned, drop-turned, fine-turned, heard-turned, mask-turned, rows-turned}
 use Rattle.sheets.proofs.Turns.{by-position-length}
 
 -- ---- the cover
@@ -68,6 +72,7 @@ rest-turned (f ∷ g ∷ h ∷ i ∷ fs) cover e = let z : _≡_ {A = ℕ} 0 1 =
 
 cover-by-word : (w : Word) (fs : List (List ℕ)) (cover : Cover) → coverBy w fs ≡ C.Is cover → coverBy w (restTurned w fs) ≡ C.Is (coverUnder cover)
 cover-by-word W.Cover fs cover e = rest-turned fs cover e
+cover-by-word W.Mask fs cover e = let z : _≡_ {A = ℕ} 0 1 = cc in absurd (omega arith)
 cover-by-word W.Row fs cover e = let z : _≡_ {A = ℕ} 0 1 = cc in absurd (omega arith)
 cover-by-word W.Block fs cover e = let z : _≡_ {A = ℕ} 0 1 = cc in absurd (omega arith)
 cover-by-word W.Heard fs cover e = let z : _≡_ {A = ℕ} 0 1 = cc in absurd (omega arith)
@@ -92,39 +97,62 @@ cover-is (C.Bad f) e = let z : _≡_ {A = ℕ} 0 1 = cc in absurd (omega arith)
 -- ---- the whole
 
 -- what the lines after some rows say
-abbrev saidBy : Cover → List ℕ → List (List ℕ) → Contents
-saidBy cover rows left = record {
+abbrev saidBy : Cover → ℕ → List ℕ → List (List ℕ) → Contents
+saidBy cover mask rows left = record {
   n = cover .n;
   kind = cover .kind;
   order = cover .order;
+  mask = mask;
   rows = rows;
   heard = heardFront left;
   blocks = byPosition (cover .order) (blocksOf (heardFront left) left);
   counters = countersOf (length (blocksOf (heardFront left) left)) left;
 }
 
-left-under : (cover : Cover) (rows : List ℕ) (ls ms : List (List ℕ)) → LinesTurned ls ms → saidBy (coverUnder cover) rows ms ≡ underOther (saidBy cover rows ls)
-left-under cover rows ls ms h =
-    let o = cover .order in
-    let t = heardFront ls in
-    let b = blocks-turned t o ls ms h in
-    let k : length (blocksOf t ms) ≡ length (blocksOf t ls) =
-    sym (by-position-length (other o) (blocksOf t ms)) ∙ ap length b ∙ by-position-length o (blocksOf t ls) in
-    let c : countersOf (length (blocksOf t ms)) ms ≡ countersOf (length (blocksOf t ls)) ls =
-    ap (λ (j : ℕ). countersOf j ms) k ∙ counters-turned (length (blocksOf t ls)) ls ms h in
-    rw (heard-turned ls ms h, b, c)
+module _ (cover : Cover) (mask : ℕ) where
+  left-under : (rows : List ℕ) (ls ms : List (List ℕ)) → LinesTurned ls ms → saidBy (coverUnder cover) mask rows ms ≡ underOther (saidBy cover mask rows ls)
+  left-under rows ls ms h =
+      let o = cover .order in
+      let t = heardFront ls in
+      let b = blocks-turned t o ls ms h in
+      let k : length (blocksOf t ms) ≡ length (blocksOf t ls) =
+      sym (by-position-length (other o) (blocksOf t ms)) ∙ ap length b ∙ by-position-length o (blocksOf t ls) in
+      let c : countersOf (length (blocksOf t ms)) ms ≡ countersOf (length (blocksOf t ls)) ls =
+      ap (λ (j : ℕ). countersOf j ms) k ∙ counters-turned (length (blocksOf t ls)) ls ms h in
+      rw (heard-turned ls ms h, b, c)
+
+  with-under : (ls ms : List (List ℕ)) → LinesTurned ls ms → contentsWith (coverUnder cover) mask ms ≡ underOther (contentsWith cover mask ls)
+  with-under ls ms h =
+      let rows = rowsOf (cover .n) (cover .order) ls in
+      let k = length rows in
+      ap (λ (found : List ℕ). saidBy (coverUnder cover) mask found (drop (length found) ms)) (rows-turned (cover .n) (cover .order) ls ms h)
+      ∙ left-under rows (drop k ls) (drop k ms) (drop-turned k ls ms h)
 
 contents-under : (cover : Cover) (ls ms : List (List ℕ)) → LinesTurned ls ms → contentsOf (coverUnder cover) ms ≡ underOther (contentsOf cover ls)
 contents-under cover ls ms h =
-    let rows = rowsOf (cover .n) (cover .order) ls in
-    let k = length rows in
-    ap (λ (found : List ℕ). saidBy (coverUnder cover) found (drop (length found) ms)) (rows-turned (cover .n) (cover .order) ls ms h)
-    ∙ left-under cover rows (drop k ls) (drop k ms) (drop-turned k ls ms h)
+    let found = maskFront (cover .n) (cover .order) ls in
+    ap (λ (f : MaskLine). contentsWith (coverUnder cover) (maskIn f) (drop (masksIn f) ms)) (mask-turned (cover .n) (cover .order) ls ms h)
+    ∙ with-under cover (maskIn found) (drop (masksIn found) ls) (drop (masksIn found) ms) (drop-turned (masksIn found) ls ms h)
 
-fine-case : (line : ℕ) (d : Ending) → lineVerdict line d ≡ J.Accepted → d ≡ Fine
-fine-case line Fine e = refl
-fine-case line (NoEnd f) e = let z : _≡_ {A = ℕ} 0 1 = cc in absurd (omega arith)
-fine-case line (After f) e = let z : _≡_ {A = ℕ} 0 1 = cc in absurd (omega arith)
+-- how the lines after the mask end
+after-under : (c : Contents) (ls ms : List (List ℕ)) → LinesTurned ls ms → endingAfter c ls ≡ Fine → endingAfter (underOther c) ms ≡ Fine
+after-under c ls ms h e =
+    let r = length (c .rows) in
+    let k = length (c .blocks) in
+    let d = drop-turned k (drop r ls) (drop r ms) (drop-turned r ls ms h) in
+    fine-turned (c .n) (c .order) (cameAfter (c .heard) k) (drop k (drop r ls)) (drop k (drop r ms)) d e
+
+-- lines that end as they should are not bad, where the mask is not
+bad-under : (found : MaskLine) (c : Contents) (ls ms : List (List ℕ)) → LinesTurned ls ms → badBy found c ls ≡ J.Accepted
+    → badBy found (underOther c) ms ≡ J.Accepted
+bad-under found c ls ms h e =
+    let k = masksIn found in
+    by found e (after-under c (drop k ls) (drop k ms) (drop-turned k ls ms h) (fine-after found c ls e))
+  where
+    by : (f : MaskLine) → badBy f c ls ≡ J.Accepted → endingAfter (underOther c) (drop (masksIn f) ms) ≡ Fine → badBy f (underOther c) ms ≡ J.Accepted
+    by (M.Is w) g d = ap (lineVerdict (3 + length (c .rows) + length (c .blocks))) d
+    by M.NoMask g d = ap (lineVerdict (2 + length (c .rows) + length (c .blocks))) d
+    by (M.Bad f) g d = g
 
 module _ (s t : List ℕ) (h : IsTurned s t) (short : length t ≤ 32768) (p : Accepts s) where
   abbrev cover : Cover
@@ -142,15 +170,11 @@ module _ (s t : List ℕ) (h : IsTurned s t) (short : length t ≤ 32768) (p : A
   ended-there : lineBad (underOther (contents s)) (drop 1 (lines t)) ≡ J.Accepted
   ended-there =
       let c = contents s in
-      let line = length (c .rows) + length (c .blocks) + 2 in
-      let f = fine-case line (endingAfter c (drop 1 (lines s))) (p .ended) in
       let ls = drop 1 (lines s) in
       let ms = drop 1 (lines t) in
-      let ls′ = drop (length (c .rows)) ls in
-      let ms′ = drop (length (c .rows)) ms in
-      let k = length (c .blocks) in
-      let d = drop-turned k ls′ ms′ (drop-turned (length (c .rows)) ls ms (drop-turned 1 (lines s) (lines t) (h .turned))) in
-      ap (lineVerdict line) (fine-turned (c .n) (c .order) (cameAfter (c .heard) k) (drop k ls′) (drop k ms′) d f)
+      let d = drop-turned 1 (lines s) (lines t) (h .turned) in
+      ap (λ (f : MaskLine). badBy f (underOther c) ms) (mask-turned (c .n) (c .order) ls ms d)
+      ∙ bad-under (maskFront (c .n) (c .order) ls) c ls ms d (p .ended)
 
   verdict-there : verdict t ≡ J.Accepted
   unfolding verdict

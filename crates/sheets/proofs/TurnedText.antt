@@ -15,11 +15,11 @@ use Rattle.sheets.proofs.TurnedLines.{some-part}
 
 -- ---- texts without b
 
-abbrev Free : ℕ → List ℕ → Type 0
+abbrev pub Free : ℕ → List ℕ → Type 0
 Free b [] = Unit {0}
 Free b (x ∷ xs) = (eqb x b ≡ false) × Free b xs
 
-abbrev AllFree : ℕ → List (List ℕ) → Type 0
+abbrev pub AllFree : ℕ → List (List ℕ) → Type 0
 AllFree b [] = Unit {0}
 AllFree b (p ∷ ps) = Free b p × AllFree b ps
 
@@ -50,7 +50,7 @@ module _ (b : ℕ) where
   parts-case x ps h true e = (tt, h)
   parts-case x ps h false e = onto-free x ps e h
 
-  parts-free : (s : List ℕ) → AllFree b (parts b s)
+  pub parts-free : (s : List ℕ) → AllFree b (parts b s)
   parts-free [] = (tt, tt)
   parts-free (x ∷ xs) = parts-case x (parts b xs) (parts-free xs) (eqb x b) refl
 
@@ -66,7 +66,7 @@ module _ (b : ℕ) where
   parts-joined p [] h = part-one p (h .0)
   parts-joined p (q ∷ ps) h = part-more p (joinedBy b (q ∷ ps)) (h .0) ∙ ap (λ (rest : List (List ℕ)). p ∷ rest) (parts-joined q ps (h .1))
 
-  joined-parts : (ps : List (List ℕ)) → (ps ≡ [] → ⊥) → AllFree b ps → parts b (joinedBy b ps) ≡ ps
+  pub joined-parts : (ps : List (List ℕ)) → (ps ≡ [] → ⊥) → AllFree b ps → parts b (joinedBy b ps) ≡ ps
   joined-parts [] n h = absurd (n refl)
   joined-parts (p ∷ ps) n h = parts-joined p ps h
 
@@ -86,6 +86,8 @@ module _ (b : ℕ) where
 
     rest-free : (w : Word) (fs : List (List ℕ)) → AllFree b fs → AllFree b (restTurned w fs)
     rest-free W.Cover fs k = cover-free fs k
+    rest-free W.Mask [] k = k
+    rest-free W.Mask (f ∷ fs) k = (free-reverse f (k .0), k .1)
     rest-free W.Row [] k = k
     rest-free W.Row (f ∷ fs) k = (free-reverse f (k .0), k .1)
     rest-free W.Block fs k = all-reverse fs k

@@ -1,20 +1,25 @@
 -- A whole sheet by what was read of it.
-use Prim.Native.Nat.{ℕ, _+_, _-_, _≤_, _<_}
+use Prim.Native.Nat.{ℕ, zero, suc, _+_, _-_, _≤_, _<_}
 use borrow.Author.Tests.{lt-ltb, le-ltb}
 use lib.ListN.{length, take, drop}
 use mathlib.Core.List.{List, [], _∷_}
 use mathlib.Core.Path.{_≡_, refl, sym, _∙_, ap}
+use native.Mathlib.Nat.{zero-add}
 use native.Mathlib.Omega.{arith}
 use Rattle.plates.specs.declared.Refusal.{Refusal}
 use Rattle.plates.specs.declared.Refusal.the-variants.{InputTooLong}
 use Rattle.plates.specs.declared.Verdict.{Verdict}
 use Rattle.plates.specs.declared.Verdict.the-variants as J
 use Rattle.sheets.specs.Text.{lineFeed, lines, linesFrom, begins}
-use Rattle.sheets.specs.Sheet.{Contents, coverFront, coverIn, contentsOf, contents, coverBad, lengthBad, lineBad, rowsTooMany, firstRefusal, verdict, readingBy, sheetAt, startOf, sheetReply, tableAfter, ReadsSheet}
-use Rattle.sheets.specs.Readers.{BodyRead, HeadIs, replyBy, tableBy}
+use Rattle.sheets.specs.Masks.{maskFront, maskIn, masksIn}
+use Rattle.sheets.specs.Sheet.{Contents, coverFront, coverIn, contentsWith, contentsOf, contents, coverBad, lengthBad, badBy, lineBad, rowsTooMany}
+use Rattle.sheets.specs.Sheet.{firstRefusal, verdict, readingBy, sheetAt, startOf, sheetReply, tableAfter, ReadsSheet}
+use Rattle.sheets.specs.Readers.{BodyBy, BodyRead, HeadIs, replyBy, tableBy}
 use Rattle.sheets.specs.declared.Sheet.{Sheet}
 use Rattle.sheets.specs.declared.SheetReply.{SheetReply}
 use Rattle.sheets.specs.declared.SheetReply.the-variants.{Refused}
+use Rattle.sheets.specs.declared.mask.MaskLine.{MaskLine}
+use Rattle.sheets.specs.declared.mask.MaskLine.the-variants as M
 use Rattle.sheets.specs.declared.cover.Cover.{Cover}
 use Rattle.sheets.proofs.Parts.{from-start}
 use Rattle.sheets.proofs.Passing.{line-split, line-length}
@@ -38,6 +43,26 @@ first-of-two : (v w : Verdict) (vs : List Verdict) (q : Refusal) → firstRefusa
 first-of-two J.Accepted J.Accepted vs q e = cc
 first-of-two J.Accepted (J.Refused p) vs q e = e
 first-of-two (J.Refused p) w vs q e = e
+
+-- ---- the mask, and the lines after it
+
+-- where the lines after the first begin
+begins-after : (ls : List (List ℕ)) (k : ℕ) → begins ls 1 + begins (drop 1 ls) k ≡ begins ls (1 + k)
+begins-after [] zero = refl
+begins-after [] (suc k) = let z : 1 + suc k ≡ suc (suc k) = omega arith in rw z
+begins-after (l ∷ ls) k = let z : 1 + k ≡ suc k = omega arith in rw z (omega arith)
+
+module _ (from : ℕ) (cover : Cover) (ls : List (List ℕ)) (table : List ℕ) (r : SheetReply) (table′ : List ℕ) where
+  -- the reply and the table by the line after the cover
+  by-mask : (found : MaskLine) → BodyBy found from cover ls table r table′ → let c = contentsWith cover (maskIn found) (drop (masksIn found) ls) in
+      (r ≡ replyBy (firstRefusal (badBy found c ls ∷ rowsTooMany (length (c .rows)) ∷ [])) (sheetAt (from + begins ls (masksIn found + length (c .rows))) c))
+      × (table′ ≡ tableBy r (c .rows) table)
+  by-mask (M.Is w) b =
+      let k = length (contentsWith cover w (drop 1 ls) .rows) in
+      let e : from + begins ls 1 + begins (drop 1 ls) k ≡ from + begins ls (1 + k) = omega (arith, begins-after ls k) in
+      (rw e at (b .reply), b .kept)
+  by-mask M.NoMask b = let e = zero-add (length (contentsWith cover 0 ls .rows)) in (rw e (b .reply), b .kept)
+  by-mask (M.Bad fault) b = (b .0, rw (b .0) (b .1))
 
 -- ---- the cases of a sheet
 
@@ -76,17 +101,20 @@ module _ (s table : List ℕ) (h : length s ≤ 32768) where
     unfolding verdict
     verdict-is = rw (le-ltb 32768 (length s) h, contents-are, i .form, split, i .range)
 
-    abbrev start : ℕ
-    start = from + begins (linesFrom s from) (length (said .rows))
+    abbrev found : MaskLine
+    found = maskFront (cover .n) (cover .order) (linesFrom s from)
 
-    start-is : startOf s said ≡ start
+    start-is : startOf s said ≡ from + begins (linesFrom s from) (masksIn found + length (said .rows))
     start-is = let n = line-length (i .ended) in rw split (omega arith)
 
     -- its head is read, and what follows decides
-    pub sheet-body : (r : SheetReply) (table′ : List ℕ) → BodyRead from cover (linesFrom s from) table r table′ → ReadsSheet s table r table′
-    sheet-body r table′ b = record {
-      reply = rw (contents-are, verdict-is) (b .reply ∙ sym (reply-by s left said ∙ ap (λ (p : ℕ). replyBy left (sheetAt p said)) start-is));
-      rows =
-          rw (contents-are, verdict-is)
-          (b .kept ∙ ap (λ (q : SheetReply). tableBy q (said .rows) table) (b .reply) ∙ sym (table-by table left said (sheetAt start said)));
-    }
+    pub sheet-body : (r : SheetReply) (table′ : List ℕ) → BodyRead s from cover table r table′ → ReadsSheet s table r table′
+    sheet-body r table′ b =
+        let w = by-mask from cover (linesFrom s from) table r table′ found (b .by) in
+        let start = from + begins (linesFrom s from) (masksIn found + length (said .rows)) in
+        record {
+          reply = rw (contents-are, verdict-is) (w .0 ∙ sym (reply-by s left said ∙ ap (λ (p : ℕ). replyBy left (sheetAt p said)) start-is));
+          rows =
+              rw (contents-are, verdict-is)
+              (w .1 ∙ ap (λ (q : SheetReply). tableBy q (said .rows) table) (w .0) ∙ sym (table-by table left said (sheetAt start said)));
+        }

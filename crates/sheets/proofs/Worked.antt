@@ -1,4 +1,4 @@
--- Sheets on paper, read by the definitions: the paper's sheet, and sheets that meet several refusals, of which the first in order is given.
+-- Sheets on paper, read by the definitions: the paper's sheet, also with a mask, and sheets that meet several refusals, of which the first in order is given.
 use Prim.Native.Nat.{ℕ, zero, suc}
 use lib.IntN.{ℤ, pos, negsuc}
 use mathlib.Core.Bool.{false}
@@ -6,7 +6,7 @@ use mathlib.Core.List.{List, [], _∷_, _++_}
 use mathlib.Core.Path.{_≡_, refl}
 use Rattle.plates.specs.declared.Kind.the-variants.{G}
 use Rattle.plates.specs.declared.Refusal.the-variants.{FieldCount, FieldValue, FirstField, Length, RowField, SheetLine, TooManyRows}
-use Rattle.sheets.specs.Words.{cover, row, block, end, first, last}
+use Rattle.sheets.specs.Words.{cover, mask, row, block, end, first, last}
 use Rattle.sheets.specs.Covers.{coverFields}
 use Rattle.sheets.specs.Sheet.{contents, verdict, says, refused, reading, startOf}
 use Rattle.sheets.specs.declared.Order.the-variants.{First, Last}
@@ -18,6 +18,9 @@ coverLine n kind order = cover ++ 9 ∷ n ++ 9 ∷ kind ++ 9 ∷ order ++ 10 ∷
 
 abbrev rowLine : List ℕ → List ℕ
 rowLine f = row ++ 9 ∷ f ++ 10 ∷ []
+
+abbrev maskLine : List ℕ → List ℕ
+maskLine f = mask ++ 9 ∷ f ++ 10 ∷ []
 
 abbrev endLine : List ℕ
 endLine = end ++ 10 ∷ []
@@ -50,18 +53,128 @@ rowsOnly (suc k) = rowLine (49 ∷ []) ++ rowsOnly k
 
 -- ---- the paper's sheet
 
-with-first : reading (sheet first) ≡ says (record { n = 8; kind = G; order = First; rows = 15 ∷ 90 ∷ 60 ∷ 240 ∷ []; heard = false; blocks = samples ∷ []; counters = 0 ∷ [] })
+with-first : reading (sheet first) ≡ says (record {
+  n = 8;
+  kind = G;
+  order = First;
+  mask = 0;
+  rows = 15 ∷ 90 ∷ 60 ∷ 240 ∷ [];
+  heard = false;
+  blocks = samples ∷ [];
+  counters = 0 ∷ [];
+})
 unfolding verdict contents coverFields
 with-first = refl
 
 -- with last its rows are turned, and so are its samples
-with-last : reading (sheet last) ≡ says (record { n = 8; kind = G; order = Last; rows = 240 ∷ 90 ∷ 60 ∷ 15 ∷ []; heard = false; blocks = turnedSamples ∷ []; counters = 0 ∷ [] })
+with-last : reading (sheet last) ≡ says (record {
+  n = 8;
+  kind = G;
+  order = Last;
+  mask = 0;
+  rows = 240 ∷ 90 ∷ 60 ∷ 15 ∷ [];
+  heard = false;
+  blocks = turnedSamples ∷ [];
+  counters = 0 ∷ [];
+})
 unfolding verdict contents coverFields
 with-last = refl
 
 block-place : startOf (sheet first) (contents (sheet first)) ≡ 68
 unfolding contents coverFields
 block-place = refl
+
+-- ---- the paper's sheet with the mask 11010000
+
+abbrev masked : List ℕ → List ℕ
+masked order = coverLine (56 ∷ []) (71 ∷ []) order ++ maskLine (49 ∷ 49 ∷ 48 ∷ 49 ∷ 48 ∷ 48 ∷ 48 ∷ 48 ∷ []) ++ rowLines ++ blockLine ++ endLine
+
+masked-first : reading (masked first) ≡ says (record {
+  n = 8;
+  kind = G;
+  order = First;
+  mask = 11;
+  rows = 15 ∷ 90 ∷ 60 ∷ 240 ∷ [];
+  heard = false;
+  blocks = samples ∷ [];
+  counters = 0 ∷ [];
+})
+unfolding verdict contents coverFields
+masked-first = refl
+
+-- with last it is turned as the rows are
+masked-last : reading (masked last) ≡ says (record {
+  n = 8;
+  kind = G;
+  order = Last;
+  mask = 208;
+  rows = 240 ∷ 90 ∷ 60 ∷ 15 ∷ [];
+  heard = false;
+  blocks = turnedSamples ∷ [];
+  counters = 0 ∷ [];
+})
+unfolding verdict contents coverFields
+masked-last = refl
+
+-- its line takes 14 bytes
+masked-place : startOf (masked first) (contents (masked first)) ≡ 82
+unfolding contents coverFields
+masked-place = refl
+
+-- ---- refusals of a mask
+
+abbrev cover1 : List ℕ
+cover1 = coverLine (49 ∷ []) (71 ∷ []) first
+
+-- a second one, and one after a row, a block or end
+second-mask : reading (cover1 ++ maskLine (49 ∷ []) ++ maskLine (49 ∷ []) ++ endLine) ≡ refused (FirstField 3)
+unfolding verdict contents coverFields
+second-mask = refl
+
+mask-after-row : reading (cover1 ++ rowLine (49 ∷ []) ++ maskLine (49 ∷ []) ++ endLine) ≡ refused (FirstField 3)
+unfolding verdict contents coverFields
+mask-after-row = refl
+
+mask-after-block : reading (cover1 ++ maskLine (49 ∷ []) ++ block ++ 10 ∷ [] ++ maskLine (49 ∷ []) ++ endLine) ≡ refused (FirstField 4)
+unfolding verdict contents coverFields
+mask-after-block = refl
+
+mask-after-end : reading (cover1 ++ endLine ++ maskLine (49 ∷ [])) ≡ refused (FirstField 3)
+unfolding verdict contents coverFields
+mask-after-end = refl
+
+-- and one before the cover
+mask-before-cover : reading (maskLine (49 ∷ []) ++ cover1 ++ endLine) ≡ refused (FirstField 1)
+unfolding verdict contents coverFields
+mask-before-cover = refl
+
+-- no field after the word; a field too many and a character that is no bit
+mask-alone : reading (cover1 ++ mask ++ 10 ∷ [] ++ endLine) ≡ refused (FieldCount 2 2)
+unfolding verdict contents coverFields
+mask-alone = refl
+
+mask-fields : reading (cover1 ++ mask ++ 9 ∷ 50 ∷ 9 ∷ 10 ∷ [] ++ endLine) ≡ refused (FieldCount 2 3)
+unfolding verdict contents coverFields
+mask-fields = refl
+
+-- a character that is no bit; two characters where n is 1
+mask-character : reading (cover1 ++ maskLine (50 ∷ []) ++ endLine) ≡ refused (RowField 2 2)
+unfolding verdict contents coverFields
+mask-character = refl
+
+mask-length : reading (cover1 ++ maskLine (49 ∷ 49 ∷ []) ++ endLine) ≡ refused (RowField 2 2)
+unfolding verdict contents coverFields
+mask-length = refl
+
+-- not ended
+mask-open : reading (cover1 ++ mask ++ 9 ∷ 49 ∷ []) ≡ refused (SheetLine 2)
+unfolding verdict contents coverFields
+mask-open = refl
+
+-- the mask's line is counted: the end is missing at line 4
+after-mask : reading (cover1 ++ maskLine (49 ∷ []) ++ rowLine (49 ∷ [])) ≡ refused (SheetLine 4)
+unfolding verdict contents coverFields
+after-mask = refl
 
 -- ---- refusals in their order
 

@@ -16,7 +16,7 @@ use Rattle.sheets.specs.declared.Order.{Order}
 use Rattle.sheets.specs.declared.number.Sample.{Sample}
 use Rattle.sheets.specs.declared.number.Sample.the-variants as S
 use Rattle.sheets.specs.declared.word.Word.{Word}
-use Rattle.sheets.specs.declared.word.Word.the-variants.{Cover, Row, Block, Heard, End, Other}
+use Rattle.sheets.specs.declared.word.Word.the-variants.{Cover, Mask, Row, Block, Heard, End, Other}
 use Rattle.sheets.specs.declared.block.Samples.{Samples}
 use Rattle.sheets.specs.declared.block.Samples.the-variants.{Count, Bad}
 use Rattle.sheets.specs.declared.BlockReply.{BlockReply}
@@ -51,6 +51,7 @@ heardRest (f ∷ fs) = cond (isNumber (counterOf f)) (samplesOf 3 0 fs) (Bad 2)
 -- the first field decides: another word than block, or than heard on a sheet of heard lines, is field 1
 abbrev pub blockBy : Bool → Word → List (List ℕ) → Samples
 blockBy heard Cover fs = Bad 1
+blockBy heard Mask fs = Bad 1
 blockBy heard Row fs = Bad 1
 blockBy false Block fs = samplesOf 2 0 fs
 blockBy true Block fs = Bad 1
@@ -76,6 +77,7 @@ listedIn heard fs = valuesAfter heard (drop 1 fs)
 -- the counter of the fields after a word: 0 where there is none
 abbrev pub counterBy : Word → List (List ℕ) → ℕ
 counterBy Cover fs = 0
+counterBy Mask fs = 0
 counterBy Row fs = 0
 counterBy Block fs = 0
 counterBy Heard [] = 0
@@ -123,6 +125,7 @@ countersOf (suc k) (l ∷ ls) = counterIn (fields l) ∷ countersOf k ls
 -- whether the first of some lines begins with heard, so that the lines there are heard lines
 abbrev pub isHeard : Word → Bool
 isHeard Cover = false
+isHeard Mask = false
 isHeard Row = false
 isHeard Block = false
 isHeard Heard = true

@@ -48,6 +48,7 @@ coverRest (f ∷ g ∷ h ∷ i ∷ fs) = Bad (Count 5)
 -- another word than cover is out of its turn
 abbrev pub coverBy : Word → List (List ℕ) → CoverLine
 coverBy W.Cover fs = coverRest fs
+coverBy W.Mask fs = Bad Turn
 coverBy W.Row fs = Bad Turn
 coverBy W.Block fs = Bad Turn
 coverBy W.Heard fs = Bad Turn

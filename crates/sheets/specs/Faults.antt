@@ -22,13 +22,15 @@ use Rattle.sheets.specs.declared.cover.KindField.the-variants as K
 use Rattle.sheets.specs.declared.cover.OrderField.{OrderField}
 use Rattle.sheets.specs.declared.cover.OrderField.the-variants as O
 use Rattle.sheets.specs.declared.word.Word.{Word}
-use Rattle.sheets.specs.declared.word.Word.the-variants.{Cover, Row, Block, Heard, End, Other}
+use Rattle.sheets.specs.declared.word.Word.the-variants.{Cover, Mask, Row, Block, Heard, End, Other}
 
 -- ---- which word a line may begin with
 
--- the parts of a sheet: the cover; rows, until a block or heard line has come; blocks; heard lines; nothing after end
+-- the parts of a sheet: the cover; a mask, which may only come right after the cover; rows, until a block or heard line has come; blocks; heard lines;
+-- nothing after end
 pub data Part : Type 0 where
   onCover : Part
+  onMask : Part
   onRows : Part
   onBlocks : Part
   onHeard : Part
@@ -37,24 +39,35 @@ pub data Part : Type 0 where
 -- the words that are in their turn
 abbrev pub inTurn : Part → Word → Bool
 inTurn onCover Cover = true
+inTurn onCover Mask = false
 inTurn onCover Row = false
 inTurn onCover Block = false
 inTurn onCover Heard = false
 inTurn onCover End = false
 inTurn onCover Other = false
+inTurn onMask Cover = false
+inTurn onMask Mask = true
+inTurn onMask Row = true
+inTurn onMask Block = true
+inTurn onMask Heard = true
+inTurn onMask End = true
+inTurn onMask Other = false
 inTurn onRows Cover = false
+inTurn onRows Mask = false
 inTurn onRows Row = true
 inTurn onRows Block = true
 inTurn onRows Heard = true
 inTurn onRows End = true
 inTurn onRows Other = false
 inTurn onBlocks Cover = false
+inTurn onBlocks Mask = false
 inTurn onBlocks Row = false
 inTurn onBlocks Block = true
 inTurn onBlocks Heard = false
 inTurn onBlocks End = true
 inTurn onBlocks Other = false
 inTurn onHeard Cover = false
+inTurn onHeard Mask = false
 inTurn onHeard Row = false
 inTurn onHeard Block = false
 inTurn onHeard Heard = true
@@ -64,7 +77,8 @@ inTurn onNothing word = false
 
 -- the part after a line that is in its turn
 abbrev pub after : Word → Part
-after Cover = onRows
+after Cover = onMask
+after Mask = onRows
 after Row = onRows
 after Block = onBlocks
 after Heard = onHeard
@@ -76,6 +90,7 @@ after Other = onNothing
 -- how many fields a line of this word is to have, where it has k: a block may have any number, and a heard line any number from two on
 abbrev pub due : Word → ℕ → ℕ
 due Cover k = 4
+due Mask k = 2
 due Row k = 2
 due Block k = k
 due Heard k = cond (ltb k 2) 2 k
@@ -99,15 +114,17 @@ isOrder O.Bad = false
 -- whether field `at` of a line of this word, from 1, is of its form, on a sheet of length n
 abbrev pub goodField : ℕ → Word → ℕ → List ℕ → Bool
 goodField n Cover at f = cond (eqb at 2) (isNumber (numberOf 3 f)) (cond (eqb at 3) (isKind (kindOf f)) (cond (eqb at 4) (isOrder (orderOf f)) true))
+goodField n Mask at f = cond (eqb at 2) (eqb (length f) n && bitsOnly f) true
 goodField n Row at f = cond (eqb at 2) (eqb (length f) n && bitsOnly f) true
 goodField n Block at f = cond (eqb at 1) true (isSample (sampleOf f))
 goodField n Heard at f = cond (eqb at 1) true (cond (eqb at 2) (isNumber (counterOf f)) (isSample (sampleOf f)))
 goodField n End at f = true
 goodField n Other at f = true
 
--- the number of a field that is not: 20 on a row, and else 19
+-- the number of a field that is not: 20 on a mask or row, and else 19
 abbrev pub formNumber : Word → ℕ
 formNumber Cover = 19
+formNumber Mask = 20
 formNumber Row = 20
 formNumber Block = 19
 formNumber Heard = 19
@@ -137,6 +154,7 @@ pub data Wrong (n : ℕ) (part : Part) (fs : List (List ℕ)) (number at : ℕ) 
 -- 10, field 0: a line that is missing or not ended, of which only this text stands; after end nothing is missing
 abbrev pub Open : Part → List ℕ → ℕ → ℕ → Type 0
 Open onCover text number at = (number ≡ 10) × (at ≡ 0)
+Open onMask text number at = (number ≡ 10) × (at ≡ 0)
 Open onRows text number at = (number ≡ 10) × (at ≡ 0)
 Open onBlocks text number at = (number ≡ 10) × (at ≡ 0)
 Open onHeard text number at = (number ≡ 10) × (at ≡ 0)

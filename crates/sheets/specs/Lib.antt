@@ -8,7 +8,9 @@ pub mod Blocks
 pub mod Listed
 pub mod Covers
 pub mod Lines
+pub mod Masks
 pub mod Sheet
 pub mod Faults
 pub mod Turned
+pub mod ZeroMasks
 pub mod Readers

@@ -1,4 +1,4 @@
--- A line after the cover, by its fields: the first decides among the five words.
+-- A line after the cover, by its fields: the first decides among the six words. The mask line, which comes right after the cover, is in specs/Masks.
 -- A fault names the field, from 1; of several in one line it is the one of the lowest number, and of these of the lowest field.
 use Prim.Native.Nat.{ℕ, zero, suc}
 use lib.ListN.{drop}
@@ -88,9 +88,10 @@ lateHeard Nothing = false
 lateHeard Blocks = true
 lateHeard Heards = false
 
--- by what has come before the line; a second cover is always out of its turn
+-- by what has come before the line; a second cover is always out of its turn, and so is a second mask or one later in the sheet
 abbrev pub lineBy : ℕ → Order → Came → Word → List (List ℕ) → Line
 lineBy n order came W.Cover fs = L.Bad F.Turn
+lineBy n order came W.Mask fs = L.Bad F.Turn
 lineBy n order came W.Row fs = cond (lateRow came) (L.Bad F.Turn) (rowRest n order fs)
 lineBy n order came W.Block fs = cond (lateBlock came) (L.Bad F.Turn) (blockRest fs)
 lineBy n order came W.Heard fs = cond (lateHeard came) (L.Bad F.Turn) (heardFields fs)

@@ -12,7 +12,9 @@ use Rattle.sheets.specs.Text.{lineFeed, till, lines, linesFrom, begins}
 use Rattle.sheets.specs.Room.{laid}
 use Rattle.sheets.specs.Blocks.{samplesOf, valuesOf, blockBy, blockLine, valuesAfter, listedIn, heardRest, blocksOf, blockAt, nextLine, blockReply}
 use Rattle.sheets.specs.Lines.{rowsOf}
-use Rattle.sheets.specs.Sheet.{coverFront, coverIn, contentsOf, coverBad, lengthBad, endingAfter, lineVerdict, rowsTooMany, firstRefusal, sheetAt}
+use Rattle.sheets.specs.Masks.{maskFront}
+use Rattle.sheets.specs.Sheet.{coverFront, coverIn, contentsWith, sheetAt}
+use Rattle.sheets.specs.Sheet.{refusalOf, coverBad, lengthBad, endingAfter, lineVerdict, rowsTooMany, firstRefusal}
 use Rattle.sheets.specs.declared.Order.{Order}
 use Rattle.sheets.specs.declared.Order.the-variants.{First, Last}
 use Rattle.sheets.specs.declared.BlockReply.{BlockReply}
@@ -27,6 +29,8 @@ use Rattle.sheets.specs.declared.block.Samples.{Samples}
 use Rattle.sheets.specs.declared.block.Samples.the-variants.{Count}
 use Rattle.sheets.specs.declared.cover.Cover.{Cover}
 use Rattle.sheets.specs.declared.cover.CoverLine.the-variants as C
+use Rattle.sheets.specs.declared.mask.MaskLine.{MaskLine}
+use Rattle.sheets.specs.declared.mask.MaskLine.the-variants as M
 use Rattle.sheets.specs.declared.head.Head.{Head}
 use Rattle.sheets.specs.declared.head.Head.the-variants as H
 use Rattle.sheets.specs.declared.body.Ending.{Ending}
@@ -128,15 +132,16 @@ abbrev pub replyBy : Verdict → Sheet → SheetReply
 replyBy J.Accepted sheet = Read sheet
 replyBy (J.Refused q) sheet = Refused q
 
--- the reply by how the lines end after the rows and blocks
-abbrev pub closed : Sheet → Ending → SheetReply
-closed sheet ending = replyBy (firstRefusal (lineVerdict (sheet .rows + sheet .blocks + 2) ending ∷ rowsTooMany (sheet .rows) ∷ [])) sheet
+-- the reply by how the lines end after the rows and blocks, the first row, or what stands in its place, being line `line`
+abbrev pub closed : ℕ → Sheet → Ending → SheetReply
+closed line sheet ending =
+    replyBy (firstRefusal (lineVerdict (line + sheet .rows + sheet .blocks) ending ∷ rowsTooMany (sheet .rows) ∷ [])) sheet
 
--- the reply by the cover and the lines after it, which begin at `from`
-abbrev pub bodyOf : ℕ → Cover → List (List ℕ) → SheetReply
-bodyOf from cover ls =
-    let c = contentsOf cover ls in
-    closed (sheetAt (from + begins ls (length (c .rows))) c) (endingAfter c ls)
+-- the reply by the cover, the mask and the lines after them, which begin at `from` with line `line`
+abbrev pub linesReply : ℕ → ℕ → Cover → ℕ → List (List ℕ) → SheetReply
+linesReply from line cover mask ls =
+    let c = contentsWith cover mask ls in
+    closed line (sheetAt (from + begins ls (length (c .rows))) c) (endingAfter c ls)
 
 -- the table by the reply
 abbrev pub tableBy : SheetReply → List ℕ → List ℕ → List ℕ
@@ -144,6 +149,16 @@ tableBy (Read sheet) rows table = laid rows table
 tableBy (Refused q) rows table = table
 
 -- r is that reply, and the rows are laid into the table where it is a sheet
-pub record BodyRead (from : ℕ) (cover : Cover) (ls : List (List ℕ)) (table : List ℕ) (r : SheetReply) (table′ : List ℕ) : Type 0 where
-  pub reply : r ≡ bodyOf from cover ls
+pub record LinesRead (from line : ℕ) (cover : Cover) (mask : ℕ) (ls : List (List ℕ)) (table : List ℕ) (r : SheetReply) (table′ : List ℕ) : Type 0 where
+  pub reply : r ≡ linesReply from line cover mask ls
   pub kept : table′ ≡ tableBy r (rowsOf (cover .n) (cover .order) ls) table
+
+-- the same by the line after the cover, which is line 2 and begins at `from`: a mask, or none, or a bad one
+abbrev pub BodyBy : MaskLine → ℕ → Cover → List (List ℕ) → List ℕ → SheetReply → List ℕ → Type 0
+BodyBy (M.Is w) from cover ls table r table′ = LinesRead (from + begins ls 1) 3 cover w (drop 1 ls) table r table′
+BodyBy M.NoMask from cover ls table r table′ = LinesRead from 2 cover 0 ls table r table′
+BodyBy (M.Bad fault) from cover ls table r table′ = (r ≡ Refused (refusalOf 2 fault)) × (table′ ≡ table)
+
+-- the lines after the cover, which begin at `from`
+pub record BodyRead (s : List ℕ) (from : ℕ) (cover : Cover) (table : List ℕ) (r : SheetReply) (table′ : List ℕ) : Type 0 where
+  pub by : BodyBy (maskFront (cover .n) (cover .order) (linesFrom s from)) from cover (linesFrom s from) table r table′

@@ -1,4 +1,5 @@
--- A whole sheet. In order: one cover line, any number of row lines, any number of block lines or any number of heard lines, end, nothing after.
+-- A whole sheet. In order: one cover line, a mask line or none, any number of row lines, any number of block lines or any number of heard lines, end,
+-- nothing after.
 use Prim.Native.Nat.{ℕ, suc, _+_}
 use lib.Dec.{eqb, ltb}
 use lib.IntN.{ℤ}
@@ -18,6 +19,7 @@ use Rattle.sheets.specs.Turning.{byPosition}
 use Rattle.sheets.specs.Blocks.{blocksOf, countersOf, heardFront}
 use Rattle.sheets.specs.Covers.{coverOf}
 use Rattle.sheets.specs.Lines.{cameAfter, rowsOf, endingOf}
+use Rattle.sheets.specs.Masks.{maskFront, maskIn, masksIn}
 use Rattle.sheets.specs.declared.Order.{Order}
 use Rattle.sheets.specs.declared.Order.the-variants.{First}
 use Rattle.sheets.specs.declared.Sheet.{Sheet}
@@ -28,17 +30,20 @@ use Rattle.sheets.specs.declared.line.Fault.the-variants as F
 use Rattle.sheets.specs.declared.cover.Cover.{Cover}
 use Rattle.sheets.specs.declared.cover.CoverLine.{CoverLine}
 use Rattle.sheets.specs.declared.cover.CoverLine.the-variants as C
+use Rattle.sheets.specs.declared.mask.MaskLine.{MaskLine}
+use Rattle.sheets.specs.declared.mask.MaskLine.the-variants as M
 use Rattle.sheets.specs.declared.body.Ending.{Ending}
 use Rattle.sheets.specs.declared.body.Ending.the-variants.{Fine, NoEnd, After}
 
 -- ---- what a sheet says
 
--- its cover, the words of its rows, whether its lines after these are heard lines, the samples of each of its block or heard lines in order of
--- position, and the counter of each, which is 0 on a block line
+-- its cover, its mask, which is 0 where it has no mask line, the words of its rows, whether its lines after these are heard lines, the samples of
+-- each of its block or heard lines in order of position, and the counter of each, which is 0 on a block line
 pub record Contents : Type 0 where
   pub n : ℕ
   pub kind : Kind
   pub order : Order
+  pub mask : ℕ
   pub rows : List ℕ
   pub heard : Bool
   pub blocks : List (List ℤ)
@@ -55,9 +60,10 @@ abbrev pub coverIn : CoverLine → Cover
 coverIn (C.Is cover) = cover
 coverIn (C.Bad fault) = record { n = 0; kind = G; order = First }
 
--- the rows at the front of the lines after the cover, and the blocks, or the heard lines where the first is one, at the front of those after the rows
-abbrev pub contentsOf : Cover → List (List ℕ) → Contents
-contentsOf cover ls =
+-- with this mask, the rows at the front of the lines after the cover and the mask, and the blocks, or the heard lines where the first is one, at the
+-- front of those after the rows
+abbrev pub contentsWith : Cover → ℕ → List (List ℕ) → Contents
+contentsWith cover mask ls =
     let rows = rowsOf (cover .n) (cover .order) ls in
     let left = drop (length rows) ls in
     let found = blocksOf (heardFront left) left in
@@ -65,11 +71,18 @@ contentsOf cover ls =
       n = cover .n;
       kind = cover .kind;
       order = cover .order;
+      mask = mask;
       rows = rows;
       heard = heardFront left;
       blocks = byPosition (cover .order) found;
       counters = countersOf (length found) left;
     }
+
+-- the mask at the front of the lines after the cover, where there is one, and what the lines after it say
+abbrev pub contentsOf : Cover → List (List ℕ) → Contents
+contentsOf cover ls =
+    let found = maskFront (cover .n) (cover .order) ls in
+    contentsWith cover (maskIn found) (drop (masksIn found) ls)
 
 -- what the lines of a text say
 unfoldable pub contents : List ℕ → Contents
@@ -78,7 +91,7 @@ contents s = contentsOf (coverIn (coverFront (lines s))) (drop 1 (lines s))
 -- ---- the refusals of the input
 
 -- a line that is not of its form, by its fault: 10 where it is missing or not ended; 17: its first field is unknown or out of its turn;
--- 18: wrong number of fields, at the first missing or extra; 19: bad number, letter or order; 20: row of wrong length or character
+-- 18: wrong number of fields, at the first missing or extra; 19: bad number, letter or order; 20: row or mask of wrong length or character
 abbrev pub refusalOf : ℕ → Fault → Refusal
 refusalOf line F.Missing = SheetLine line
 refusalOf line F.Turn = FirstField line
@@ -110,9 +123,19 @@ lineVerdict line Fine = J.Accepted
 lineVerdict line (NoEnd fault) = J.Refused (refusalOf line fault)
 lineVerdict line (After fault) = J.Refused (refusalOf (line + 1) fault)
 
--- 10, 17 to 20: the first other bad line. The cover is line 1; the lines after it are good as far as rows and blocks go
+-- the first bad one of the lines after the cover and the mask, which begin with line `line`: they are good as far as rows and blocks go
+abbrev pub bodyBad : ℕ → Contents → List (List ℕ) → Verdict
+bodyBad line c ls = lineVerdict (line + length (c .rows) + length (c .blocks)) (endingAfter c ls)
+
+-- the first bad one of the lines after the cover: the mask is line 2, where there is one
+abbrev pub badBy : MaskLine → Contents → List (List ℕ) → Verdict
+badBy (M.Is w) c ls = bodyBad 3 c (drop 1 ls)
+badBy M.NoMask c ls = bodyBad 2 c ls
+badBy (M.Bad fault) c ls = J.Refused (refusalOf 2 fault)
+
+-- 10, 17 to 20: the first other bad line. The cover is line 1
 abbrev pub lineBad : Contents → List (List ℕ) → Verdict
-lineBad c ls = lineVerdict (length (c .rows) + length (c .blocks) + 2) (endingAfter c ls)
+lineBad c ls = badBy (maskFront (c .n) (c .order) ls) c ls
 
 -- 2: more than 64 rows
 abbrev pub rowsTooMany : ℕ → Verdict
@@ -156,15 +179,20 @@ sheetAt start c = record {
   n = c .n;
   kind = c .kind;
   order = c .order;
+  mask = c .mask;
   rows = length (c .rows);
   start = start;
   heard = c .heard;
   blocks = length (c .blocks);
 }
 
--- where they begin: at the line after the cover and the rows, which is the first block or heard line, or end where there is none
+-- how many mask lines the sheet has: one or none
+abbrev pub masksOf : List ℕ → Contents → ℕ
+masksOf s c = masksIn (maskFront (c .n) (c .order) (drop 1 (lines s)))
+
+-- where its block or heard lines begin: at the line after the cover, the mask and the rows, which is the first of them, or end where there is none
 abbrev pub startOf : List ℕ → Contents → ℕ
-startOf s c = begins (lines s) (suc (length (c .rows)))
+startOf s c = begins (lines s) (suc (masksOf s c + length (c .rows)))
 
 -- the reply for a reading
 abbrev pub sheetReply : List ℕ → Reading → SheetReply

@@ -1,4 +1,4 @@
--- A sheet turned: every row and block reversed, and the samples of every heard line, under the other word of the cover.
+-- A sheet turned: the mask and every row and block reversed, and the samples of every heard line, under the other word of the cover.
 use Prim.Native.Nat.{ℕ}
 use mathlib.Core.Bool.{cond}
 use mathlib.Core.List.{List, [], _∷_, _++_, reverse}
@@ -9,7 +9,7 @@ use Rattle.sheets.specs.Sheet.{Contents}
 use Rattle.sheets.specs.declared.Order.{Order}
 use Rattle.sheets.specs.declared.Order.the-variants.{First, Last}
 use Rattle.sheets.specs.declared.word.Word.{Word}
-use Rattle.sheets.specs.declared.word.Word.the-variants.{Cover, Row, Block, Heard, End, Other}
+use Rattle.sheets.specs.declared.word.Word.the-variants.{Cover, Mask, Row, Block, Heard, End, Other}
 
 -- first for last, and last for first
 abbrev pub otherWord : List ℕ → List ℕ
@@ -22,7 +22,7 @@ coverTurned (f ∷ []) = f ∷ []
 coverTurned (f ∷ g ∷ []) = f ∷ g ∷ []
 coverTurned (f ∷ g ∷ h ∷ fs) = f ∷ g ∷ otherWord h ∷ fs
 
--- the field after row, its characters from the far end
+-- the field after row or mask, its characters from the far end
 abbrev pub rowTurned : List (List ℕ) → List (List ℕ)
 rowTurned [] = []
 rowTurned (f ∷ fs) = reverse f ∷ fs
@@ -35,6 +35,7 @@ heardTurned (f ∷ fs) = f ∷ reverse fs
 -- the fields after a word: those after block from the far end, each as it is
 abbrev pub restTurned : Word → List (List ℕ) → List (List ℕ)
 restTurned Cover fs = coverTurned fs
+restTurned Mask fs = rowTurned fs
 restTurned Row fs = rowTurned fs
 restTurned Block fs = reverse fs
 restTurned Heard fs = heardTurned fs
@@ -53,7 +54,7 @@ LinesTurned [] (m ∷ ms) = ⊥
 LinesTurned (l ∷ ls) [] = ⊥
 LinesTurned (l ∷ ls) (m ∷ ms) = (fields m ≡ fieldsTurned (fields l)) × LinesTurned ls ms
 
--- t is the sheet s with every row and block reversed, under the other word
+-- t is the sheet s with its mask and every row and block reversed, under the other word
 pub record IsTurned (s t : List ℕ) : Type 0 where
   pub turned : LinesTurned (lines s) (lines t)
 
@@ -77,6 +78,15 @@ abbrev pub other : Order → Order
 other First = Last
 other Last = First
 
--- the same contents under the other order: n, kind, rows and blocks, both by position, and the counters are the same
+-- the same contents under the other order: n, kind, mask, rows and blocks, these by position, and the counters are the same
 abbrev pub underOther : Contents → Contents
-underOther c = record { n = c .n; kind = c .kind; order = other (c .order); rows = c .rows; heard = c .heard; blocks = c .blocks; counters = c .counters }
+underOther c = record {
+  n = c .n;
+  kind = c .kind;
+  order = other (c .order);
+  mask = c .mask;
+  rows = c .rows;
+  heard = c .heard;
+  blocks = c .blocks;
+  counters = c .counters;
+}

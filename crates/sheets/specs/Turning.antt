@@ -1,4 +1,4 @@
--- The cover's last word: with first what is listed stands in order of position, with last from the far end. It covers rows, samples and printed words.
+-- The cover's last word: with first what is listed stands in order of position, with last from the far end. It covers mask, rows, samples and printed words.
 use lib.IntN.{ℤ}
 use mathlib.Core.List.{List, [], _∷_, reverse}
 use Rattle.sheets.specs.declared.Order.{Order}

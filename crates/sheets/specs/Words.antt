@@ -4,7 +4,7 @@ use lib.Dec.{eqb}
 use mathlib.Core.Bool.{Bool, true, false, cond}
 use mathlib.Core.List.{List, [], _∷_}
 use Rattle.sheets.specs.declared.word.Word.{Word}
-use Rattle.sheets.specs.declared.word.Word.the-variants.{Cover, Row, Block, Heard, End, Other}
+use Rattle.sheets.specs.declared.word.Word.the-variants.{Cover, Mask, Row, Block, Heard, End, Other}
 
 -- whether two texts are the same
 abbrev pub same : List ℕ → List ℕ → Bool
@@ -16,6 +16,10 @@ same (x ∷ xs) (y ∷ ys) = cond (eqb x y) (same xs ys) false
 -- c o v e r
 abbrev pub cover : List ℕ
 cover = 99 ∷ 111 ∷ 118 ∷ 101 ∷ 114 ∷ []
+
+-- m a s k
+abbrev pub mask : List ℕ
+mask = 109 ∷ 97 ∷ 115 ∷ 107 ∷ []
 
 -- r o w
 abbrev pub row : List ℕ
@@ -41,7 +45,8 @@ first = 102 ∷ 105 ∷ 114 ∷ 115 ∷ 116 ∷ []
 abbrev pub last : List ℕ
 last = 108 ∷ 97 ∷ 115 ∷ 116 ∷ []
 
--- which of the five words a line's first field is
+-- which of the six words a line's first field is
 abbrev pub wordOf : List ℕ → Word
 wordOf f =
-    cond (same f cover) Cover (cond (same f row) Row (cond (same f block) Block (cond (same f heard) Heard (cond (same f end) End Other))))
+    cond (same f cover) Cover
+    (cond (same f mask) Mask (cond (same f row) Row (cond (same f block) Block (cond (same f heard) Heard (cond (same f end) End Other)))))

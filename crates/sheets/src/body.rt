@@ -1,11 +1,11 @@
-// The lines after the cover: rows, blocks or heard lines, end.
+// The lines after the cover: mask, rows, blocks or heard lines, end.
 ghost use Prim.Native.Nat.{_+_, _≤_};
 ghost use lib.ListN.{length, set};
 ghost use mathlib.Core.Path.{_≡_};
 ghost use Rattle.sheets.specs.Text.{fields, linesFrom};
 ghost use Rattle.sheets.specs.Lines.{afterEnd, cameAfter, endingOf};
 ghost use Rattle.sheets.specs.Blocks.{heardFront, heardLine, isHeard};
-ghost use Rattle.sheets.specs.Readers.{closed, bodyOf, RowsRead, BlocksRead, BodyRead};
+ghost use Rattle.sheets.specs.Readers.{closed, linesReply, RowsRead, BlocksRead, LinesRead, BodyRead};
 use crate::BlockReply;
 use crate::Order;
 use crate::Sheet;
@@ -17,6 +17,8 @@ use crate::line::Fault;
 use crate::line::Line;
 use crate::line::line_between;
 use crate::line::refusal_of;
+use crate::mask::MaskLine;
+use crate::mask::mask_between;
 use crate::scan::until;
 use crate::word::Word;
 use crate::word::read_word;
@@ -81,6 +83,7 @@ fn is_heard(word: Word) -> bool
     match word {
         Word::Heard => true,
         Word::Cover => false,
+        Word::Mask => false,
         Word::Row => false,
         Word::Block => false,
         Word::End => false,
@@ -174,13 +177,14 @@ fn read_end(input: &[u8], at: usize, n: usize, order: Order, came: Came) -> Endi
     }
 }
 
-// A sheet by how its lines end: refused at the first bad line, or for too many rows.
-fn close(sheet: Sheet, ending: Ending) -> SheetReply
+// A sheet by how its lines end: refused at the first bad line, or for too many rows. The rows begin with line `first`.
+fn close(first: usize, sheet: Sheet, ending: Ending) -> SheetReply
+    requires { ⌜ first ≤ 3 ⌝ }
     requires { ⌜ sheet .rows + sheet .blocks ≤ 32768 ⌝ }
-    ensures { λ r. ⌜ r ≡ closed sheet ending ⌝ }
+    ensures { λ r. ⌜ r ≡ closed first sheet ending ⌝ }
 {
     let rows = sheet.rows;
-    let line = rows + sheet.blocks + 2;
+    let line = first + rows + sheet.blocks;
     match ending {
         Ending::NoEnd(fault) => SheetReply::Refused(refusal_of(line, fault)),
         Ending::After(fault) => SheetReply::Refused(refusal_of(line + 1, fault)),
@@ -193,12 +197,13 @@ fn close(sheet: Sheet, ending: Ending) -> SheetReply
     }
 }
 
-// The lines after the cover, which begin at `from`, without the words of the rows.
-fn check_body(input: &[u8], from: usize, cover: Cover) -> SheetReply
+// The lines after the cover and the mask, which begin at `from` with line `first`, without the words of the rows.
+fn check_lines(input: &[u8], from: usize, first: usize, cover: Cover, mask: u64) -> SheetReply
     requires { ⌜ from ≤ length (now input) ⌝ }
+    requires { ⌜ first ≤ 3 ⌝ }
     requires { ⌜ length (now input) ≤ 32768 ⌝ }
     requires { ⌜ cover .n ≤ 64 ⌝ }
-    ensures { λ r. ⌜ r ≡ bodyOf from cover (linesFrom (now (input .entry)) from) ⌝ }
+    ensures { λ r. ⌜ r ≡ linesReply from first cover mask (linesFrom (now (input .entry)) from) ⌝ }
 {
     let n = cover.n;
     let kind = cover.kind;
@@ -215,29 +220,56 @@ fn check_body(input: &[u8], from: usize, cover: Cover) -> SheetReply
         n,
         kind,
         order,
+        mask,
         rows: rows.count,
         start,
         heard,
         blocks: blocks.count,
     };
-    close(sheet, ending)
+    close(first, sheet, ending)
 }
 
-// The lines after the cover. The words of the rows go into the table only where nothing is refused.
-pub fn read_body(input: &[u8], from: usize, cover: Cover, table: &mut [u64]) -> SheetReply
+// The same lines. The words of the rows go into the table only where nothing is refused.
+fn read_lines(
+    input: &[u8],
+    from: usize,
+    first: usize,
+    cover: Cover,
+    mask: u64,
+    table: &mut [u64],
+) -> SheetReply
     requires { ⌜ from ≤ length (now input) ⌝ }
+    requires { ⌜ first ≤ 3 ⌝ }
     requires { ⌜ length (now input) ≤ 32768 ⌝ }
     requires { ⌜ cover .n ≤ 64 ⌝ }
-    ensures { λ r. ⌜ BodyRead from cover (linesFrom (now (input .entry)) from) (now (table .entry)) r (now (table .exit)) ⌝ }
+    ensures { λ r. ⌜ LinesRead from first cover mask (linesFrom (now (input .entry)) from) (now (table .entry)) r (now (table .exit)) ⌝ }
 {
     let n = cover.n;
     let order = cover.order;
-    let reply = check_body(input, from, cover);
+    let reply = check_lines(input, from, first, cover, mask);
     match reply {
         SheetReply::Read(sheet) => {
             read_rows(input, from, n, order, table);
             SheetReply::Read(sheet)
         }
         SheetReply::Refused(refusal) => SheetReply::Refused(refusal),
+    }
+}
+
+// The lines after the cover, which begin at `from`: the mask is line 2 where there is one, and the lines after it begin with line 3.
+pub fn read_body(input: &[u8], from: usize, cover: Cover, table: &mut [u64]) -> SheetReply
+    requires { ⌜ from ≤ length (now input) ⌝ }
+    requires { ⌜ length (now input) ≤ 32768 ⌝ }
+    requires { ⌜ cover .n ≤ 64 ⌝ }
+    ensures { λ r. ⌜ BodyRead (now (input .entry)) from cover (now (table .entry)) r (now (table .exit)) ⌝ }
+{
+    let n = cover.n;
+    let order = cover.order;
+    let end = until(input, from, b'\n');
+    let line = mask_between(input, from, end, n, order);
+    match line {
+        MaskLine::Is(mask) => read_lines(input, end + 1, 3, cover, mask, table),
+        MaskLine::NoMask => read_lines(input, from, 2, cover, 0, table),
+        MaskLine::Bad(fault) => SheetReply::Refused(refusal_of(2, fault)),
     }
 }

@@ -128,6 +128,7 @@ fn cover_by(word: Word, line: &[u8], a: usize) -> CoverLine
 {
     match word {
         Word::Cover => cover_rest(line, a),
+        Word::Mask => CoverLine::Bad(Fault::Turn),
         Word::Row => CoverLine::Bad(Fault::Turn),
         Word::Block => CoverLine::Bad(Fault::Turn),
         Word::Heard => CoverLine::Bad(Fault::Turn),

@@ -18,24 +18,26 @@ mod cover;
 mod head;
 mod line;
 pub mod listed;
+mod mask;
 mod number;
 mod placing;
 mod row;
 mod scan;
 mod word;
 
-// Where position 0 stands in a row, among listed samples and in a printed word: with first at the left, with last at the right.
+// Where position 0 stands in a row or mask, among listed samples and in a printed word: with first at the left, with last at the right.
 pub enum Order {
     First,
     Last,
 }
 
-// What a sheet that is not refused says: its cover, the number of its rows, where the line after them begins (its first block or heard line,
-// or end where it has none), whether these are heard lines, and their number.
+// What a sheet that is not refused says: its cover, its mask (0 where it has no mask line), the number of its rows, where the line after them
+// begins (its first block or heard line, or end where it has none), whether these are heard lines, and their number.
 pub struct Sheet {
     pub n: usize,
     pub kind: Kind,
     pub order: Order,
+    pub mask: u64,
     pub rows: usize,
     pub start: usize,
     pub heard: bool,

@@ -34,7 +34,7 @@ pub enum Fault {
     Count(usize),
     // A bad number, letter or order.
     Value(usize),
-    // A row of wrong length or character.
+    // A row or mask of wrong length or character.
     Row(usize),
 }
 
@@ -69,8 +69,8 @@ fn row_is(row: Row) -> Line
     }
 }
 
-// The fields after row, which ends at a.
-fn row_rest(line: &[u8], a: usize, n: usize, order: Order) -> Line
+// The fields after row or mask, which ends at a.
+pub fn row_rest(line: &[u8], a: usize, n: usize, order: Order) -> Line
     requires { ⌜ a ≤ length (now line) ⌝ }
     requires { ⌜ n ≤ 64 ⌝ }
     ensures { λ r. ⌜ r ≡ rowRest n order (fieldsFrom (now (line .entry)) (a + 1)) ⌝ }
@@ -171,6 +171,7 @@ fn line_by(word: Word, line: &[u8], a: usize, n: usize, order: Order, came: Came
 {
     match word {
         Word::Cover => Line::Bad(Fault::Turn),
+        Word::Mask => Line::Bad(Fault::Turn),
         Word::Row => {
             if late_row(came) {
                 return Line::Bad(Fault::Turn);

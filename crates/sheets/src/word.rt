@@ -3,9 +3,10 @@ ghost use mathlib.Core.List.{[], _∷_};
 ghost use mathlib.Core.Path.{_≡_};
 ghost use Rattle.sheets.specs.Words.{same, wordOf};
 
-// Which of the five words a line's first field is.
+// Which of the six words a line's first field is.
 pub enum Word {
     Cover,
+    Mask,
     Row,
     Block,
     Heard,
@@ -28,6 +29,25 @@ fn three_letters(a: u8, b: u8, c: u8) -> Word
         b'e' => match b {
             b'n' => match c {
                 b'd' => Word::End,
+                _ => Word::Other,
+            },
+            _ => Word::Other,
+        },
+        _ => Word::Other,
+    }
+}
+
+// The word of four letters.
+fn four_letters(a: u8, b: u8, c: u8, d: u8) -> Word
+    ensures { λ r. ⌜ r ≡ wordOf (a ∷ b ∷ c ∷ d ∷ []) ⌝ }
+{
+    match a {
+        b'm' => match b {
+            b'a' => match c {
+                b's' => match d {
+                    b'k' => Word::Mask,
+                    _ => Word::Other,
+                },
                 _ => Word::Other,
             },
             _ => Word::Other,
@@ -112,6 +132,7 @@ pub fn read_word(f: &[u8]) -> Word
     let length = f.len();
     match length {
         3 => three_letters(f[0], f[1], f[2]),
+        4 => four_letters(f[0], f[1], f[2], f[3]),
         5 => five_letters(f[0], f[1], f[2], f[3], f[4]),
         _ => Word::Other,
     }

@@ -54,9 +54,10 @@ rows-same C D e rows f l p = record {
 }
 
 -- and the same plate
-pub plate-same : (C D : ℕ → Type 0) → ((w : ℕ) → C w ↔ D w) → (n : ℕ) (plate : Plate) → PlateOf C n plate → PlateOf D n plate
-plate-same C D e n plate a = record {
+pub plate-same : (C D : ℕ → Type 0) → ((w : ℕ) → C w ↔ D w) → (n mask : ℕ) (plate : Plate) → PlateOf C n mask plate → PlateOf D n mask plate
+plate-same C D e n mask plate a = record {
   length-n = a .length-n;
+  mask-is = a .mask-is;
   few = a .few;
   table = a .table;
   rows = rows-same C D e (rowsOf plate) _ _ (a .rows);
@@ -67,14 +68,18 @@ plate-same C D e n plate a = record {
 }
 
 -- a matrix, and what preparing it replies where it accepts
-module _ (n : ℕ) (kind : Kind) (rows : List ℕ) (r : Prepared) (p : Prepares n kind rows r) (e : r .verdict ≡ Accepted) where
+module _ (n : ℕ) (kind : Kind) (rows : List ℕ) (mask : ℕ) (r : Prepared) (p : Prepares n kind rows mask r) (e : r .verdict ≡ Accepted) where
   -- the reply by its case
-  pub accepted : Passes (prepareConditions n kind rows) × PlateOf (InCode kind n rows) n (r .plate)
-  accepted = subst (PreparesAs (prepareConditions n kind rows) (InCode kind n rows) n (r .plate)) e (p .reply)
+  pub accepted : Passes (prepareConditions n kind rows mask) × PlateOf (InCode kind n rows) n mask (r .plate)
+  accepted = subst (PreparesAs (prepareConditions n kind rows mask) (InCode kind n rows) n mask (r .plate)) e (p .reply)
 
   -- the plate has the matrix's length
   pub accepted-length : r .plate .n ≡ n
   accepted-length = accepted .1 .length-n
+
+  -- and the mask
+  pub accepted-mask : r .plate .mask ≡ mask
+  accepted-mask = accepted .1 .mask-is
 
   -- its rows generate the matrix's code
   pub accepted-code : (w : ℕ) → InCode kind n rows w ↔ IsSum (rowsOf (r .plate)) w
@@ -85,8 +90,9 @@ module _ (n : ℕ) (kind : Kind) (rows : List ℕ) (r : Prepared) (p : Prepares 
   pub accepted-prepared : IsPrepared (r .plate)
   accepted-prepared = record {
     few = accepted .1 .few;
-    same = subst (λ (x : ℕ). Prepares x G (rowsOf (r .plate)) (record { verdict = Accepted; plate = r .plate })) (sym accepted-length)
-        (record { reply = (pass, answer) });
+    same = subst (λ (x : ℕ). Prepares x G (rowsOf (r .plate)) (r .plate .mask) (record { verdict = Accepted; plate = r .plate })) (sym accepted-length)
+        (subst (λ (m : ℕ). Prepares n G (rowsOf (r .plate)) m (record { verdict = Accepted; plate = r .plate })) (sym accepted-mask)
+        (record { reply = (pass, answer) }));
   }
     where
       over : (q : Refusal) → RowOver n (rowsOf (r .plate)) q → ⊥
@@ -100,7 +106,7 @@ module _ (n : ℕ) (kind : Kind) (rows : List ℕ) (r : Prepared) (p : Prepares 
 
       wide : (q : Refusal) → Wide (IsSum (rowsOf (r .plate))) n q → ⊥
       wide q w =
-          accepted .0 .1 .1 .1 .0 q (record {
+          accepted .0 .1 .1 .1 .1 .0 q (record {
             rows = w .rows;
             plate = rows-same (IsSum (rowsOf (r .plate))) (InCode kind n rows) (λ x. Iff·symm (accepted-code x)) (w .rows) _ _ (w .plate);
             depth = w .depth;
@@ -110,8 +116,8 @@ module _ (n : ℕ) (kind : Kind) (rows : List ℕ) (r : Prepared) (p : Prepares 
             is = w .is;
           })
 
-      pass : Passes (prepareConditions n G (rowsOf (r .plate)))
-      pass = (accepted .0 .0, ((λ q b. omega (arith, b .0, used-rows (r .plate) (accepted .1 .few) (accepted .1 .table), accepted .1 .few)), (over, (wide, tt))))
+      pass : Passes (prepareConditions n G (rowsOf (r .plate)) mask)
+      pass = (accepted .0 .0, ((λ q b. omega (arith, b .0, used-rows (r .plate) (accepted .1 .few) (accepted .1 .table), accepted .1 .few)), (over, (accepted .0 .1 .1 .1 .0, (wide, tt)))))
 
-      answer : PlateOf (IsSum (rowsOf (r .plate))) n (r .plate)
-      answer = plate-same (InCode kind n rows) (IsSum (rowsOf (r .plate))) accepted-code n (r .plate) (accepted .1)
+      answer : PlateOf (IsSum (rowsOf (r .plate))) n mask (r .plate)
+      answer = plate-same (InCode kind n rows) (IsSum (rowsOf (r .plate))) accepted-code n mask (r .plate) (accepted .1)

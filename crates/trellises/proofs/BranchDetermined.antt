@@ -7,10 +7,11 @@ use Rattle.plates.proofs.Refusing.{Single, never-both, refuses-once}
 use Rattle.plates.specs.declared.Plate.{Plate}
 use Rattle.plates.specs.declared.Refusal.the-variants.{NotPrepared}
 use Rattle.plates.specs.Prepare.{rowsOf}
+use Rattle.trellises.proofs.MaskedGraph.{has-off}
 use Rattle.trellises.proofs.PathsOnce.{one-branch}
 use Rattle.trellises.proofs.PlateTrellis.{plate-kept}
 use Rattle.trellises.proofs.TrellisSpells.{Kept, spans-kept}
-use Rattle.trellises.specs.Branching.{Branches, branchConditions}
+use Rattle.trellises.specs.Branching.{Branches, branchConditions, codeTrellis}
 use Rattle.trellises.specs.declared.Next.{Next}
 use Rattle.trellises.specs.declared.Next.the-variants.{NoBranch, Refused, State}
 use Rattle.trellises.specs.Graph.{Has, branchAt}
@@ -39,8 +40,11 @@ module _ (plate : Plate) (depth state bit : ℕ) where
       go : Dec (x ≡ y) → x ≡ y
       go (yes e) = e
       go (no n) =
-          absurd (p .0 .0 NotPrepared
-          ((λ g. n (next-kept (rowsOf plate) _ _ (plate-kept plate g) depth state bit x y (p .1) (q .1))), refl))
+          absurd (p .0 .0 NotPrepared (
+            (λ g. n (next-kept (rowsOf plate) _ _ (plate-kept plate g) depth state _ x y
+                (has-off (plate .mask) (codeTrellis plate) (p .1)) (has-off (plate .mask) (codeTrellis plate) (q .1)))),
+            refl,
+          ))
   branch-determined (State x) NoBranch p q = absurd (q .1 x (p .1))
   branch-determined (State x) (Refused b) p q = absurd (never-both (branchConditions plate depth state bit) (p .0) b (q))
   branch-determined NoBranch (State y) p q = absurd (p .1 y (q .1))

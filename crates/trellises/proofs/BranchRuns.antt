@@ -1,4 +1,4 @@
--- Asking for branches in turn: a word is a codeword exactly if each of its bits is answered by a state, the last by state 0; otherwise
+-- Asking for branches in turn: a word is one of the plate's exactly if each of its bits is answered by a state, the last by state 0; otherwise
 -- some question on the way is answered by "no branch".
 use lib.ListN.{length}
 use lib.Pow.{pow-pos}
@@ -9,24 +9,26 @@ use native.Mathlib.Decide.{decLt, ℕ-discrete}
 use native.Mathlib.Nat.{le-refl}
 use native.Mathlib.Omega.{arith}
 use Prim.Native.Nat.{_<_, _^_, suc, zero, ℕ, _≤_}
-use Rattle.plates.specs.Code.{InCode}
+use Rattle.plates.specs.Code.{InCode, Masked}
 use Rattle.plates.specs.declared.Kind.{Kind}
 use Rattle.plates.specs.declared.Plate.{Plate}
 use Rattle.plates.specs.declared.Prepared.{Prepared}
 use Rattle.plates.specs.declared.Verdict.the-variants.{Accepted}
-use Rattle.plates.specs.Prepare.{IsPrepared, Prepares, rowsOf}
+use Rattle.plates.specs.Prepare.{IsPrepared, IsWord, Prepares, rowsOf}
 use Rattle.plates.specs.Profile.{liveAt}
 use Rattle.plates.specs.Refusals.{Passes}
-use Rattle.trellises.proofs.AcceptedIsPrepared.{accepted-code, accepted-length, accepted-prepared}
-use Rattle.trellises.proofs.PathsOnce.{kept-branch, paths-once}
-use Rattle.trellises.proofs.PlateTrellis.{plate-kept, plate-path-ends, plate-spells}
-use Rattle.trellises.specs.Branching.{Branches, branchConditions, trellisOf}
+use Rattle.trellises.proofs.AcceptedIsPrepared.{accepted-length, accepted-prepared}
+use Rattle.trellises.proofs.MaskedGraph.{has-off}
+use Rattle.trellises.proofs.PathsOnce.{kept-branch}
+use Rattle.trellises.proofs.PlateTrellis.{plate-kept}
+use Rattle.trellises.proofs.WordsTrellis.{accepted-words, words-once, words-path-ends, words-spelled}
+use Rattle.trellises.specs.Branching.{Branches, branchConditions, codeTrellis, trellisOf}
 use Rattle.trellises.specs.declared.Next.the-variants.{State}
 use Rattle.trellises.specs.Graph.{Branch, Graph, Has, Path, branchAt}
+use Rattle.trellises.specs.Masking.{turned}
 use Rattle.trellises.specs.Running.{Runs, Stops}
 use Rattle.words.proofs.Choice.{gather-lt}
 use Rattle.words.proofs.Word.{bit-lt}
-use Rattle.words.specs.Sum.{IsSum}
 use Rattle.words.specs.Word.{bit}
 
 module _ (g : Graph) (t a b : ℕ) where
@@ -78,33 +80,37 @@ module _ (plate : Plate) (given : IsPrepared plate) (w : ℕ) where
   inside : (t a b c : ℕ) → Has (trellisOf plate) t a b c → c < 2 ^ liveAt (rowsOf plate) (suc t)
   inside t a b c h =
       subst (λ (x : ℕ). x < 2 ^ liveAt (rowsOf plate) (suc t))
-      (sym (ap (λ (b : Branch). b .to) (kept-branch (rowsOf plate) _ _ (plate-kept plate given) t (h .place) (h .there))) ∙ h .leads)
+      (sym (ap (λ (b : Branch). b .to) (kept-branch (rowsOf plate) _ _ (plate-kept plate given) t (own .place) (own .there))) ∙ own .leads)
       (gather-lt (length (rowsOf plate)) _ _)
+    where
+      -- the code's branch
+      own : Has (codeTrellis plate) t a (turned (bit (plate .mask) t) b) c
+      own = has-off (plate .mask) (codeTrellis plate) h
 
   -- a run is a path through the sections that were asked for
   run-path : (t s : ℕ) → Runs plate w t s → Path (trellisOf plate) t w
   run-path t s r = record { state = r .state; inside = within; branch = λ i h. r .answers i h .1 }
     where
       within : (i : ℕ) → i ≤ t → r .state i < trellisOf plate .states i
-      within zero h = omega (arith, r .begins, plate-spells plate given .start)
+      within zero h = omega (arith, r .begins, words-spelled plate given .start)
       within (suc i) h = inside i _ _ _ (r .answers i h .1)
 
   -- a word's questions have one outcome
   pub runs-once : (t s s′ : ℕ) → Runs plate w t s → Runs plate w t s′ → s ≡ s′
   unfolding run-path
   runs-once t s s′ r r′ =
-      sym (r .ends) ∙ paths-once (rowsOf plate) _ _ (plate-kept plate given) t w (run-path t s r) (run-path t s′ r′) .states t (le-refl t) ∙ r′ .ends
+      sym (r .ends) ∙ words-once plate given t w (run-path t s r) (run-path t s′ r′) .states t (le-refl t) ∙ r′ .ends
 
-  -- each bit of a codeword is answered by a state, and the last by state 0
-  pub codeword-runs : IsSum (rowsOf plate) w → Runs plate w (plate .n) 0
-  codeword-runs c = run (plate-spells plate given .exact w .0 c .1)
+  -- each bit of a word of the plate is answered by a state, and the last by state 0
+  pub word-runs : IsWord plate w → Runs plate w (plate .n) 0
+  word-runs c = run (words-spelled plate given .exact w .0 c .1)
     where
       run : Path (trellisOf plate) (plate .n) w → Runs plate w (plate .n) 0
       run p = record {
         state = p .state;
-        begins = plate-path-ends plate given w p .0;
+        begins = words-path-ends plate given w p .0;
         answers = λ i h. (passes i (p .state i) h (p .inside i (omega arith)), p .branch i h);
-        ends = plate-path-ends plate given w p .1;
+        ends = words-path-ends plate given w p .1;
       }
 
   -- ---- the states in turn, as far as there is a branch
@@ -160,36 +166,36 @@ module _ (plate : Plate) (given : IsPrepared plate) (w : ℕ) where
   -- ---- words of length n
 
   module _ (below : w < 2 ^ plate .n) where
-    -- a word whose bits are all answered by states is a codeword, and its last state is 0
-    pub runs-codeword : (s : ℕ) → Runs plate w (plate .n) s → IsSum (rowsOf plate) w × (s ≡ 0)
+    -- a word whose bits are all answered by states is one of the plate's, and its last state is 0
+    pub runs-word : (s : ℕ) → Runs plate w (plate .n) s → IsWord plate w × (s ≡ 0)
     unfolding run-path
-    runs-codeword s r =
+    runs-word s r =
         let p = run-path (plate .n) s r in
-        (plate-spells plate given .exact w .1 (below, p), sym (r .ends) ∙ plate-path-ends plate given w p .1)
+        (words-spelled plate given .exact w .1 (below, p), sym (r .ends) ∙ words-path-ends plate given w p .1)
 
-    -- so exactly the codewords run to depth n
-    pub branch-runs : IsSum (rowsOf plate) w ↔ Runs plate w (plate .n) 0
-    branch-runs = (codeword-runs, λ r. runs-codeword 0 r .0)
+    -- so exactly the plate's words run to depth n
+    pub branch-runs : IsWord plate w ↔ Runs plate w (plate .n) 0
+    branch-runs = (word-runs, λ r. runs-word 0 r .0)
 
     -- with any other word some question on the way is answered by "no branch"
-    pub other-word-stops : (IsSum (rowsOf plate) w → ⊥) → Stops plate w
+    pub other-word-stops : (IsWord plate w → ⊥) → Stops plate w
     other-word-stops n = go (asked (plate .n) (le-refl (plate .n)))
       where
         go : (Answered (plate .n) × (walk (plate .n) < 2 ^ liveAt (rowsOf plate) (plate .n))) ⊎ Stops plate w → Stops plate w
-        go (inl a) = absurd (n (runs-codeword (walk (plate .n)) (walked (plate .n) (a .0)) .0))
+        go (inl a) = absurd (n (runs-word (walk (plate .n)) (walked (plate .n) (a .0)) .0))
         go (inr s) = s
 
-  -- and with no codeword
-  pub codeword-never-stops : IsSum (rowsOf plate) w → Stops plate w → ⊥
+  -- and with no word of the plate
+  pub word-never-stops : IsWord plate w → Stops plate w → ⊥
   unfolding run-path
-  codeword-never-stops c k =
+  word-never-stops c k =
       k .answer .1 (p .state (suc (k .depth)))
       (subst (λ (s : ℕ). Has (trellisOf plate) (k .depth) s (bit w (k .depth)) (p .state (suc (k .depth)))) same (p .branch (k .depth) (k .within)))
     where
       p : Path (trellisOf plate) (plate .n) w
-      p = plate-spells plate given .exact w .0 c .1
+      p = words-spelled plate given .exact w .0 c .1
 
-      -- the first sections of the codeword's path
+      -- the first sections of the word's path
       part : Path (trellisOf plate) (k .depth) w
       part = record {
         state = p .state;
@@ -199,13 +205,13 @@ module _ (plate : Plate) (given : IsPrepared plate) (w : ℕ) where
 
       same : p .state (k .depth) ≡ k .state
       same =
-          paths-once (rowsOf plate) _ _ (plate-kept plate given) (k .depth) w part (run-path (k .depth) (k .state) (k .run)) .states (k .depth)
+          words-once plate given (k .depth) w part (run-path (k .depth) (k .state) (k .run)) .states (k .depth)
           (le-refl (k .depth)) ∙ k .run .ends
 
--- the same of the plate that preparing a matrix accepts: exactly the words of the matrix's code run to depth n
-pub matrix-runs : (n : ℕ) (kind : Kind) (rows : List ℕ) (r : Prepared) → Prepares n kind rows r → r .verdict ≡ Accepted
-    → (w : ℕ) → w < 2 ^ n → InCode kind n rows w ↔ Runs (r .plate) w n 0
-matrix-runs n kind rows r p e w h =
-    Iff·trans (accepted-code n kind rows r p e w)
-    (subst (λ (m : ℕ). w < 2 ^ m → IsSum (rowsOf (r .plate)) w ↔ Runs (r .plate) w m 0) (accepted-length n kind rows r p e)
-    (branch-runs (r .plate) (accepted-prepared n kind rows r p e) w) h)
+-- the same of the plate that preparing a matrix accepts: exactly the words that the mask makes of the matrix's code run to depth n
+pub matrix-runs : (n : ℕ) (kind : Kind) (rows : List ℕ) (mask : ℕ) (r : Prepared) → Prepares n kind rows mask r → r .verdict ≡ Accepted
+    → (w : ℕ) → w < 2 ^ n → Masked (InCode kind n rows) mask w ↔ Runs (r .plate) w n 0
+matrix-runs n kind rows mask r p e w h =
+    Iff·trans (accepted-words n kind rows mask r p e w)
+    (subst (λ (m : ℕ). w < 2 ^ m → IsWord (r .plate) w ↔ Runs (r .plate) w m 0) (accepted-length n kind rows mask r p e)
+    (branch-runs (r .plate) (accepted-prepared n kind rows mask r p e) w) h)

@@ -1,6 +1,7 @@
 -- Preparing a matrix as G and as H: the same verdict, plates of the same length with the same profile, and where they are refused with 4
 -- the same place, which is the first depth over 12 of both.
 use lib.ListN.{getD, length}
+use lib.Pow.{pow-pos}
 use lib.Seq.{ext-getD}
 use mathlib.Core.List.{List, [], _++_, _∷_}
 use mathlib.Core.Logic.{inl, inr, _⊎_}
@@ -21,7 +22,7 @@ use Rattle.plates.specs.declared.Refusal.the-variants.{TooWide}
 use Rattle.plates.specs.declared.Verdict.{Verdict}
 use Rattle.plates.specs.declared.Verdict.the-variants.{Accepted, Refused}
 use Rattle.plates.specs.Heads.{RowsOf}
-use Rattle.plates.specs.Prepare.{Prepares, PreparesAs, RowOver, Wide, badLength, prepareConditions, rowsOf, tooManyRows}
+use Rattle.plates.specs.Prepare.{Prepares, PreparesAs, RowOver, Wide, badLength, maskBeyond, prepareConditions, rowsOf, tooManyRows}
 use Rattle.plates.specs.Profile.{liveAt}
 use Rattle.plates.specs.Refusals.{Passes, Refuses, number, place}
 use Rattle.trellises.proofs.AcceptedIsPrepared.{accepted, all-below}
@@ -71,24 +72,24 @@ record Plated (C : ℕ → Type 0) : Type 0 where
   plate : RowsOf C rows (firsts rows) (lasts rows)
 
 module _ (n : ℕ) (matrix : List ℕ) where
-  -- the conditions of refusals 1 to 3, which do not ask whether the matrix is G or H, and that of 4, which does
+  -- the conditions of refusals 1 to 3 and 23, which do not ask whether the matrix is G or H, and that of 4, which does
   abbrev early : List (Refusal → Type 0)
-  early = badLength n ∷ tooManyRows matrix ∷ RowOver n matrix ∷ []
+  early = badLength n ∷ tooManyRows matrix ∷ RowOver n matrix ∷ maskBeyond n 0 ∷ []
 
   abbrev wide : Kind → Refusal → Type 0
   wide kind = Wide (InCode kind n matrix) n
 
   -- what preparing may reply
   abbrev Reply : Kind → Plate → Verdict → Type 0
-  Reply kind = PreparesAs (prepareConditions n kind matrix) (InCode kind n matrix) n
+  Reply kind = PreparesAs (prepareConditions n kind matrix 0) (InCode kind n matrix) n 0
 
   -- past refusal 3 each row is below 2 ^ n
   below : Passes early → (j : ℕ) → j < length matrix → getD matrix j 0 < 2 ^ n
   below v j = all-below n matrix (v .1 .1 .0) (suc j) j (omega arith)
 
   -- what passes all conditions passes these
-  first-three : (kind : Kind) → Passes (prepareConditions n kind matrix) → Passes early
-  first-three kind p = (p .0, (p .1 .0, (p .1 .1 .0, tt)))
+  first-three : (kind : Kind) → Passes (prepareConditions n kind matrix 0) → Passes early
+  first-three kind p = (p .0, (p .1 .0, (p .1 .1 .0, (p .1 .1 .1 .0, tt))))
 
   -- the profiles are equal, whichever of the two is G
   profiles : Passes early → (kind : Kind) (a b : List ℕ) → RowsOf (InCode kind n matrix) a (firsts a) (lasts a)
@@ -106,12 +107,12 @@ module _ (n : ℕ) (matrix : List ℕ) where
       go (inr x) = let c : wide kind q = by-only (wide kind) q (x .1) in record { rows = c .rows; plate = c .plate }
 
   -- what refuses the one refuses the other
-  refused-both : (kind : Kind) (q : Refusal) (b : Plate) (w : Verdict) → Refuses (prepareConditions n kind matrix) q → Reply (dual kind) b w
-      → Refuses (prepareConditions n (dual kind) matrix) q
+  refused-both : (kind : Kind) (q : Refusal) (b : Plate) (w : Verdict) → Refuses (prepareConditions n kind matrix 0) q → Reply (dual kind) b w
+      → Refuses (prepareConditions n (dual kind) matrix 0) q
   refused-both kind q b w r y = go (by-first early (wide kind ∷ []) q r)
     where
       go : ((es : List (Refusal → Type 0)) → Refuses (early ++ es) q) ⊎ (Passes early × Refuses (wide kind ∷ []) q)
-          → Refuses (prepareConditions n (dual kind) matrix) q
+          → Refuses (prepareConditions n (dual kind) matrix 0) q
       go (inl e) = e (wide (dual kind) ∷ [])
       go (inr x) =
           let c : wide kind q = by-only (wide kind) q (x .1) in
@@ -122,15 +123,18 @@ module _ (n : ℕ) (matrix : List ℕ) where
               x .0 .1 .0,
               inr (
                 x .0 .1 .1 .0,
-                inl (record {
-                  rows = d .rows;
-                  plate = d .plate;
-                  depth = c .depth;
-                  within = c .within;
-                  over = omega (arith, c .over, profiles (x .0) kind (c .rows) (d .rows) (c .plate) (d .plate) (c .depth) (c .within));
-                  first = λ t h. omega (arith, c .first t h, profiles (x .0) kind (c .rows) (d .rows) (c .plate) (d .plate) t (omega (arith, c .within)));
-                  is = c .is;
-                }),
+                inr (
+                  x .0 .1 .1 .1 .0,
+                  inl (record {
+                    rows = d .rows;
+                    plate = d .plate;
+                    depth = c .depth;
+                    within = c .within;
+                    over = omega (arith, c .over, profiles (x .0) kind (c .rows) (d .rows) (c .plate) (d .plate) (c .depth) (c .within));
+                    first = λ t h. omega (arith, c .first t h, profiles (x .0) kind (c .rows) (d .rows) (c .plate) (d .plate) t (omega (arith, c .within)));
+                    is = c .is;
+                  }),
+                ),
               ),
             ),
           )
@@ -149,13 +153,13 @@ module _ (n : ℕ) (matrix : List ℕ) where
           let l : t ≤ n = omega arith in
           x .1 .profile t l ∙ profiles (first-three G (x .0)) G (rowsOf a) (rowsOf b) (x .1 .rows) (y .1 .rows) t l ∙ sym (y .1 .profile t l)
   by-cases a b Accepted (Refused q) x y =
-      same-reply _ _ (prepare-determined n G matrix (record { verdict = Accepted; plate = a }) (record { verdict = Refused q; plate = b })
+      same-reply _ _ (prepare-determined n G matrix 0 (record { verdict = Accepted; plate = a }) (record { verdict = Refused q; plate = b })
       (record { reply = x }) (record { reply = (refused-both H q a Accepted (y .0) x, y .1) }))
   by-cases a b (Refused q) w x y =
-      same-reply _ _ (prepare-determined n H matrix (record { verdict = Refused q; plate = a }) (record { verdict = w; plate = b })
+      same-reply _ _ (prepare-determined n H matrix 0 (record { verdict = Refused q; plate = a }) (record { verdict = w; plate = b })
       (record { reply = (refused-both G q b w (x .0) y, x .1) }) (record { reply = y }))
 
-  -- past the first three conditions a matrix is accepted or refused with 4
+  -- past the first four conditions a matrix is accepted or refused with 4
   accepted-or-wide : Passes early → (kind : Kind) (a : Plate) (v : Verdict) → Reply kind a v → (v ≡ Accepted) ⊎ ((d : ℕ) × (v ≡ Refused (TooWide d)))
   accepted-or-wide p kind a Accepted x = inl refl
   accepted-or-wide p kind a (Refused q) x = go (by-first early (wide kind ∷ []) q (x .0))
@@ -165,14 +169,18 @@ module _ (n : ℕ) (matrix : List ℕ) where
       go (inl e) = absurd (never-both early p q (e []))
       go (inr z) = let c : wide kind q = by-only (wide kind) q (z .1) in inr (c .depth, ap Refused (c .is))
 
-  -- refusal 4 is by none of the first three conditions
+  -- refusal 4 is by none of the first four conditions
   not-early : (d : ℕ) → Refuses early (TooWide d) → ⊥
   not-early d (inl c) = omega (arith, ap number (c .1))
   not-early d (inr x) = second (x .1)
     where
-      second : Refuses (tooManyRows matrix ∷ RowOver n matrix ∷ []) (TooWide d) → ⊥
+      second : Refuses (tooManyRows matrix ∷ RowOver n matrix ∷ maskBeyond n 0 ∷ []) (TooWide d) → ⊥
       second (inl c) = omega (arith, ap number (c .1))
-      second (inr z) = omega (arith, ap number (by-only (RowOver n matrix) (TooWide d) (z .1) .is))
+      second (inr z) = third (z .1)
+        where
+          third : Refuses (RowOver n matrix ∷ maskBeyond n 0 ∷ []) (TooWide d) → ⊥
+          third (inl c) = omega (arith, ap number (c .is))
+          third (inr y) = omega (arith, ap number (by-only (maskBeyond n 0) (TooWide d) (y .1) .1))
 
   -- the place of refusal 4 is the first depth over 12 of the code's plate
   refused-at : (kind : Kind) (d : ℕ) (a : Plate) (v : Verdict) → Reply kind a v → v ≡ Refused (TooWide d) → TooWideAt (InCode kind n matrix) n d
@@ -192,7 +200,7 @@ module _ (n : ℕ) (matrix : List ℕ) where
       go (inr z) = found (by-only (wide kind) (TooWide d) (z .1))
 
   -- ---- preparing the same matrix as G and as H
-  module _ (r s : Prepared) (x : Prepares n G matrix r) (y : Prepares n H matrix s) where
+  module _ (r s : Prepared) (x : Prepares n G matrix 0 r) (y : Prepares n H matrix 0 s) where
     -- what the next three say, together
     both : SameProfile r s
     both = by-cases (r .plate) (s .plate) (r .verdict) (s .verdict) (x .reply) (y .reply)
@@ -219,7 +227,7 @@ module _ (n : ℕ) (matrix : List ℕ) where
         bad (inr h) = omega arith
 
         valid : Passes early
-        valid = ((λ q c. bad (c .0)), ((λ q c. omega (arith, c .0)), ((λ q c. omega (arith, low (c .row) (c .there), c .over)), tt)))
+        valid = ((λ q c. bad (c .0)), ((λ q c. omega (arith, c .0)), ((λ q c. omega (arith, low (c .row) (c .there), c .over)), ((λ q c. omega (arith, c .0, pow-pos n)), tt))))
 
         go : (r .verdict ≡ Accepted) ⊎ ((d : ℕ) × (r .verdict ≡ Refused (TooWide d)))
             → ((r .verdict ≡ Accepted) × (s .verdict ≡ Accepted)) ⊎ ((d : ℕ) × (r .verdict ≡ Refused (TooWide d)) × (s .verdict ≡ Refused (TooWide d)))
@@ -229,8 +237,8 @@ module _ (n : ℕ) (matrix : List ℕ) where
     -- where they are accepted, k of the one and k of the other are n
     pub dimensions-together : r .verdict ≡ Accepted → r .plate .k + s .plate .k ≡ n
     dimensions-together e =
-        let g = accepted n G matrix r x e in
-        let h = accepted n H matrix s y (sym same-verdict ∙ e) in
+        let g = accepted n G matrix 0 r x e in
+        let h = accepted n H matrix 0 s y (sym same-verdict ∙ e) in
         omega (
           arith,
           dual-dimensions n matrix (below (first-three G (g .0))) (rowsOf (r .plate)) (rowsOf (s .plate)) (g .1 .rows) (h .1 .rows),

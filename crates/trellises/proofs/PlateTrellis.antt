@@ -1,27 +1,21 @@
--- The trellis of a prepared plate spells exactly the codewords, and no layered graph for the code has fewer states at any depth or fewer
--- branches in any section; the same of the plate that preparing a matrix accepts.
+-- The trellis of a prepared plate's code spells exactly the codewords, and no layered graph for the code has fewer states at any depth or
+-- fewer branches in any section. WordsTrellis has the same of the plate's words.
 use lib.ListN.{getD, length}
 use mathlib.Core.List.{List}
-use mathlib.Core.Logic.{Iff·symm, Iff·trans, _↔_}
 use mathlib.Core.Path.{ap, refl, subst, sym, _∙_, _≡_}
 use native.Mathlib.Decide.{decLt}
 use native.Mathlib.Nat.{le-refl, pow-succ'}
 use native.Mathlib.Omega.{arith}
 use Prim.Native.Nat.{_*_, _<_, _^_, zero-le, ℕ, _≤_}
 use Rattle.plates.proofs.SoundIsPrepared.{sound, used-row, used-rows}
-use Rattle.plates.specs.Code.{InCode}
-use Rattle.plates.specs.declared.Kind.{Kind}
 use Rattle.plates.specs.declared.Plate.{Plate}
-use Rattle.plates.specs.declared.Prepared.{Prepared}
-use Rattle.plates.specs.declared.Verdict.the-variants.{Accepted}
-use Rattle.plates.specs.Prepare.{IsPrepared, Prepares, rowsOf}
+use Rattle.plates.specs.Prepare.{IsPrepared, rowsOf}
 use Rattle.plates.specs.Profile.{liveAt}
-use Rattle.trellises.proofs.AcceptedIsPrepared.{accepted-code, accepted-length, accepted-prepared}
 use Rattle.trellises.proofs.ActiveNumber.{active-more, active-same}
 use Rattle.trellises.proofs.NoneSmaller.{branches-bound, states-bound}
 use Rattle.trellises.proofs.PathsOnce.{branches-differ, paths-once, spelled-once}
 use Rattle.trellises.proofs.TrellisSpells.{Kept, own-branches, trellis-spells}
-use Rattle.trellises.specs.Branching.{keptTo, trellisOf}
+use Rattle.trellises.specs.Branching.{codeTrellis, keptTo}
 use Rattle.trellises.specs.Graph.{Branch, Graph, Path, Spells}
 use Rattle.trellises.specs.Smallest.{Begins, Different, HasAll, SamePath, Smallest, activeAt}
 use Rattle.words.proofs.Span.{zero-one}
@@ -33,20 +27,6 @@ use Rattle.words.specs.Sum.{IsSum}
 -- full paths begin and end in state 0
 pub full-path-ends : (g : Graph) (n : ℕ) (C : ℕ → Type 0) → Spells g n C → (w : ℕ) (p : Path g n w) → (p .state 0 ≡ 0) × (p .state n ≡ 0)
 full-path-ends g n C s w p = (omega (arith, s .start, p .inside 0 zero-le), omega (arith, s .end, p .inside n (le-refl n)))
-
--- two codes with the same words: a graph that spells one spells the other
-spells-same : (g : Graph) (n : ℕ) (C D : ℕ → Type 0) → ((w : ℕ) → C w ↔ D w) → Spells g n C → Spells g n D
-spells-same g n C D e s = record { start = s .start; end = s .end; exact = λ w. Iff·trans (Iff·symm (e w)) (s .exact w) }
-
--- and one that is smallest for one is smallest for the other
-smallest-same : (g : Graph) (n : ℕ) (C D : ℕ → Type 0) → ((w : ℕ) → C w ↔ D w) → Smallest g n C → Smallest g n D
-smallest-same g n C D e s = record {
-  spells = spells-same g n C D e (s .spells);
-  once = s .once;
-  different = s .different;
-  states-least = λ h r. s .states-least h (spells-same h n D C (λ w. Iff·symm (e w)) r);
-  branches-least = λ h r. s .branches-least h (spells-same h n D C (λ w. Iff·symm (e w)) r);
-}
 
 module _ (plate : Plate) (given : IsPrepared plate) where
   pub plate-spans : Spans (rowsOf plate) (firsts (rowsOf plate)) (lasts (rowsOf plate))
@@ -77,20 +57,20 @@ module _ (plate : Plate) (given : IsPrepared plate) where
   plate-within j k = omega (arith, plate-fits j k)
 
   -- full paths spell exactly the codewords
-  pub plate-spells : Spells (trellisOf plate) (plate .n) (IsSum (rowsOf plate))
+  pub plate-spells : Spells (codeTrellis plate) (plate .n) (IsSum (rowsOf plate))
   plate-spells = trellis-spells (plate .n) (rowsOf plate) _ _ plate-kept plate-within
 
   -- each by exactly one path
   pub plate-spelled-once : (w : ℕ) → IsSum (rowsOf plate) w
-      → (p : Path (trellisOf plate) (plate .n) w) × ((q : Path (trellisOf plate) (plate .n) w) → SamePath (trellisOf plate) (plate .n) w p q)
+      → (p : Path (codeTrellis plate) (plate .n) w) × ((q : Path (codeTrellis plate) (plate .n) w) → SamePath (codeTrellis plate) (plate .n) w p q)
   plate-spelled-once = spelled-once (rowsOf plate) _ _ plate-kept (plate .n) plate-within
 
   -- which begins and ends in state 0
-  pub plate-path-ends : (w : ℕ) (p : Path (trellisOf plate) (plate .n) w) → (p .state 0 ≡ 0) × (p .state (plate .n) ≡ 0)
-  plate-path-ends = full-path-ends (trellisOf plate) (plate .n) (IsSum (rowsOf plate)) plate-spells
+  pub plate-path-ends : (w : ℕ) (p : Path (codeTrellis plate) (plate .n) w) → (p .state 0 ≡ 0) × (p .state (plate .n) ≡ 0)
+  plate-path-ends = full-path-ends (codeTrellis plate) (plate .n) (IsSum (rowsOf plate)) plate-spells
 
   -- depth t has 2 ^ s(t) states
-  pub states-number : (t : ℕ) → trellisOf plate .states t ≡ 2 ^ liveAt (rowsOf plate) t
+  pub states-number : (t : ℕ) → codeTrellis plate .states t ≡ 2 ^ liveAt (rowsOf plate) t
   states-number t = refl
 
   -- and no graph for the code has fewer there
@@ -98,11 +78,11 @@ module _ (plate : Plate) (given : IsPrepared plate) where
   states-minimal g = states-bound g (plate .n) (rowsOf plate) _ _ plate-spans
 
   -- section t has a branch for each choice among the active rows
-  pub branches-number : (t : ℕ) → length (trellisOf plate .branches t) ≡ 2 ^ activeAt (rowsOf plate) t
+  pub branches-number : (t : ℕ) → length (codeTrellis plate .branches t) ≡ 2 ^ activeAt (rowsOf plate) t
   branches-number = own-branches (plate .n) (rowsOf plate) _ _ plate-kept plate-within
 
   -- all different
-  pub branches-different : (t : ℕ) → Different (trellisOf plate) t
+  pub branches-different : (t : ℕ) → Different (codeTrellis plate) t
   branches-different = branches-differ (rowsOf plate) _ _ plate-kept
 
   -- and no graph for the code has fewer there, counting each once
@@ -122,18 +102,18 @@ module _ (plate : Plate) (given : IsPrepared plate) where
 
   -- so none has fewer states than the trellis at any depth
   pub states-least : (other : Graph) → Spells other (plate .n) (IsSum (rowsOf plate)) → (t : ℕ) → t ≤ plate .n
-      → trellisOf plate .states t ≤ other .states t
+      → codeTrellis plate .states t ≤ other .states t
   states-least = states-minimal
 
   -- or fewer branches in any section
   pub branches-least : (other : Graph) → Spells other (plate .n) (IsSum (rowsOf plate)) → (t : ℕ) → t < plate .n → (once : List Branch)
-      → HasAll other t once → length (trellisOf plate .branches t) ≤ length once
+      → HasAll other t once → length (codeTrellis plate .branches t) ≤ length once
   branches-least other r t h once all =
       subst (λ (x : ℕ). x ≤ length once) (sym (own-branches (plate .n) (rowsOf plate) _ _ plate-kept plate-within t))
       (branches-minimal other r t h once all)
 
   -- all of it
-  pub plate-smallest : Smallest (trellisOf plate) (plate .n) (IsSum (rowsOf plate))
+  pub plate-smallest : Smallest (codeTrellis plate) (plate .n) (IsSum (rowsOf plate))
   plate-smallest = record {
     spells = plate-spells;
     once = paths-once (rowsOf plate) _ _ plate-kept (plate .n);
@@ -141,17 +121,3 @@ module _ (plate : Plate) (given : IsPrepared plate) where
     states-least = states-least;
     branches-least = branches-least;
   }
-
--- The same of a matrix: the trellis of the plate that preparing it replies is the smallest whose full paths spell the matrix's code
-pub matrix-smallest : (n : ℕ) (kind : Kind) (rows : List ℕ) (r : Prepared) → Prepares n kind rows r → r .verdict ≡ Accepted
-    → Smallest (trellisOf (r .plate)) n (InCode kind n rows)
-matrix-smallest n kind rows r p e =
-    smallest-same (trellisOf (r .plate)) n (IsSum (rowsOf (r .plate))) (InCode kind n rows)
-    (λ w. Iff·symm (accepted-code n kind rows r p e w))
-    (subst (λ (x : ℕ). Smallest (trellisOf (r .plate)) x (IsSum (rowsOf (r .plate)))) (accepted-length n kind rows r p e)
-    (plate-smallest (r .plate) (accepted-prepared n kind rows r p e)))
-
--- its full paths spell exactly the words of the matrix's code
-pub matrix-spells : (n : ℕ) (kind : Kind) (rows : List ℕ) (r : Prepared) → Prepares n kind rows r → r .verdict ≡ Accepted
-    → Spells (trellisOf (r .plate)) n (InCode kind n rows)
-matrix-spells n kind rows r p e = matrix-smallest n kind rows r p e .spells

@@ -12,7 +12,7 @@ use Rattle.plates.specs.Profile.{live}
 use Rattle.trellises.proofs.PathsOnce.{kept-branch, kept-state, one-branch}
 use Rattle.trellises.proofs.PlateTrellis.{plate-kept, plate-within}
 use Rattle.trellises.proofs.TrellisSpells.{Kept, trellis-spells}
-use Rattle.trellises.specs.Branching.{trellisOf}
+use Rattle.trellises.specs.Branching.{codeTrellis}
 use Rattle.trellises.specs.Graph.{Branch, Path}
 use Rattle.trellises.specs.Smallest.{Proper}
 use Rattle.trellises.specs.States.{active, trellis}
@@ -50,5 +50,5 @@ module _ (n : ℕ) (rows : List ℕ) (f l : ℕ → ℕ) (s : Kept rows f l) (fi
   }
 
 -- the same of a prepared plate
-pub plate-proper : (plate : Plate) → IsPrepared plate → Proper (trellisOf plate) (plate .n)
+pub plate-proper : (plate : Plate) → IsPrepared plate → Proper (codeTrellis plate) (plate .n)
 plate-proper plate given = trellis-proper (plate .n) (rowsOf plate) _ _ (plate-kept plate given) (plate-within plate given)

@@ -1,6 +1,6 @@
--- The states of Massey and of Wolf: two beginnings of codewords lead to the same state exactly if they have the same continuations, and,
+-- The states of Massey and of Wolf: two beginnings of words of the plate lead to the same state exactly if they have the same continuations, and,
 -- for a parity-check matrix of the code, exactly if they have the same partial syndrome. So the trellis is theirs up to the names of states.
-use lib.Bits.{bitXor, differ, xor-zero-r}
+use lib.Bits.{bitXor, differ, xor-mod, xor-zero-r}
 use lib.Dec.{ltb, ltb→lt, lt→ltb}
 use lib.ListN.{getD, length}
 use lib.Pow.{mod-pow-add, pow-pos}
@@ -12,23 +12,25 @@ use native.Mathlib.Numerals.{add-one}
 use native.Mathlib.Omega.{arith}
 use Prim.Native.Nat.{_%_, _*_, _+_, _/_, _<_, _^_, suc, zero, ℕ, _≤_}
 use Rattle.plates.proofs.Live.{is-live, live-is}
-use Rattle.plates.specs.Code.{Checked, InCode}
+use Rattle.plates.specs.Code.{Checked, InCode, Masked}
 use Rattle.plates.specs.declared.Kind.{Kind}
 use Rattle.plates.specs.declared.Plate.{Plate}
 use Rattle.plates.specs.declared.Prepared.{Prepared}
 use Rattle.plates.specs.declared.Verdict.the-variants.{Accepted}
-use Rattle.plates.specs.Prepare.{IsPrepared, Prepares, rowsOf}
+use Rattle.plates.specs.Prepare.{IsPrepared, IsWord, Prepares, rowsOf}
 use Rattle.plates.specs.Profile.{live}
 use Rattle.trellises.proofs.AcceptedIsPrepared.{accepted-code, accepted-length, accepted-prepared}
 use Rattle.trellises.proofs.Gluing.{splice, splice-below, splice-high, splice-low}
+use Rattle.trellises.proofs.MaskedGraph.{path-off, xor-twice}
 use Rattle.trellises.proofs.PathsOnce.{kept-state}
 use Rattle.trellises.proofs.PlateTrellis.{plate-kept, plate-spans}
+use Rattle.trellises.proofs.WordsTrellis.{accepted-words}
 use Rattle.trellises.specs.Beginnings.{SameSyndrome, beginning, syndrome}
-use Rattle.trellises.specs.Branching.{keptTo, trellisOf}
+use Rattle.trellises.specs.Branching.{codeTrellis, keptTo, trellisOf}
 use Rattle.trellises.specs.Graph.{Path}
 use Rattle.trellises.specs.States.{stateOf}
 use Rattle.words.proofs.Choice.{gather-same, gather-shows, spread-gather, spread-zero}
-use Rattle.words.proofs.Parity.{parity-comm, parity-xor}
+use Rattle.words.proofs.Parity.{differ-mod, parity-comm, parity-xor}
 use Rattle.words.proofs.Span.{cut}
 use Rattle.words.proofs.Sums.{in-xor, sum-agree, sum-xor, sum-zero}
 use Rattle.words.proofs.Word.{bit-ext, bit-xor, bit-zero, differ-eq, differ-self, xor-cancel, xor-self}
@@ -127,7 +129,7 @@ module _ (rows : List ℕ) (f l : ℕ → ℕ) (s : Spans rows f l) (t : ℕ) wh
       subst (IsSum rows) (splice-xor t (sumOf rows u) (bitXor (sumOf rows u) (sumOf rows v)) c 0
       ∙ ap₂ (splice t) (xor-cancel (sumOf rows u) (sumOf rows v)) (xor-zero-r c)) (in-xor g (states-meet u v .0 e))
 
-  -- two beginnings of codewords lead to the same state exactly if they have the same continuations
+  -- two beginnings of words of the plate lead to the same state exactly if they have the same continuations
   pub massey : (u v : ℕ) → (stateOf rows f l t u ≡ stateOf rows f l t v) ↔ SameContinuations (IsSum rows) t (sumOf rows u) (sumOf rows v)
   massey u v = ((λ e c. (carried u v c e, carried v u c (sym e))), λ h. states-meet u v .1 (difference (h (sumOf rows v) .1 own)))
     where
@@ -170,48 +172,94 @@ module _ (rows : List ℕ) (f l : ℕ → ℕ) (s : Spans rows f l) (t : ℕ) wh
 abbrev reached : Plate → ℕ → ℕ → ℕ
 reached plate t u = stateOf (rowsOf plate) (firsts (rowsOf plate)) (keptTo plate) t u
 
-module _ (plate : Plate) (given : IsPrepared plate) (a b : ℕ) (x : IsSum (rowsOf plate) a) (y : IsSum (rowsOf plate) b)
+-- a word plus mask is spliced of the beginning and the continuation, each plus mask
+splice-masked : (t a c mask : ℕ) → bitXor (splice t a c) mask ≡ splice t (bitXor a mask) (bitXor c mask)
+splice-masked t a c mask = ap (bitXor (splice t a c)) (sym (splice-self t mask)) ∙ splice-xor t a mask c mask
+
+-- what two beginnings have alike they have alike with the mask added
+continuations-masked : (C : ℕ → Type 0) (mask t a b : ℕ) → SameContinuations C t (bitXor a mask) (bitXor b mask) ↔ SameContinuations (Masked C mask) t a b
+continuations-masked C mask t a b = (
+  (λ s c. (
+    (λ x. subst C (sym (splice-masked t b c mask)) (s (bitXor c mask) .0 (subst C (splice-masked t a c mask) x))),
+    λ x. subst C (sym (splice-masked t a c mask)) (s (bitXor c mask) .1 (subst C (splice-masked t b c mask) x)),
+  )),
+  λ s c. (
+    (λ x. subst C (back b c) (s (bitXor c mask) .0 (subst C (sym (back a c)) x))),
+    λ x. subst C (back a c) (s (bitXor c mask) .1 (subst C (sym (back b c)) x)),
+  ),
+)
+  where
+    back : (v c : ℕ) → bitXor (splice t v (bitXor c mask)) mask ≡ splice t (bitXor v mask) c
+    back v c = splice-masked t v (bitXor c mask) mask ∙ ap (splice t (bitXor v mask)) (xor-twice c mask)
+
+syndrome-masked : (checks : List ℕ) (mask t w j : ℕ)
+    → syndrome checks t (bitXor w mask) j ≡ differ (syndrome checks t w j) (syndrome checks t mask j)
+syndrome-masked checks mask t w j =
+    let c : ℕ = getD checks j 0 in
+    ap (parity c) (xor-mod w mask t) ∙ parity-comm c (bitXor (beginning t w) (beginning t mask)) ∙ parity-xor (beginning t w) (beginning t mask) c
+    ∙ ap₂ differ (parity-comm (beginning t w) c) (parity-comm (beginning t mask) c)
+
+syndromes-masked : (checks : List ℕ) (mask t a b : ℕ) → SameSyndrome checks t (bitXor a mask) (bitXor b mask) ↔ SameSyndrome checks t a b
+syndromes-masked checks mask t a b = (
+  (λ s j h. same-added _ _ _ (digit a j) (digit b j) (digit mask j)
+      (sym (syndrome-masked checks mask t a j) ∙ s j h ∙ syndrome-masked checks mask t b j)),
+  λ s j h. syndrome-masked checks mask t a j ∙ ap (λ (d : ℕ). differ d (syndrome checks t mask j)) (s j h) ∙ sym (syndrome-masked checks mask t b j),
+)
+  where
+    digit : (w j : ℕ) → syndrome checks t w j < 2
+    digit w j = let r : parity (getD checks j 0) (beginning t w) < 2 = omega arith in r
+
+    -- digits to which the same is added are the same where their sums are
+    same-added : (x y d : ℕ) → x < 2 → y < 2 → d < 2 → differ x d ≡ differ y d → x ≡ y
+    same-added x y d hx hy hd e = omega (arith, differ-mod x d hx hd, differ-mod y d hy hd, e)
+
+module _ (plate : Plate) (given : IsPrepared plate) (a b : ℕ) (x : IsWord plate a) (y : IsWord plate b)
     (p : Path (trellisOf plate) (plate .n) a) (q : Path (trellisOf plate) (plate .n) b) (t : ℕ) (h : t ≤ plate .n) where
-  -- there a codeword's path stands
-  stands : (w : ℕ) (g : IsSum (rowsOf plate) w) (r : Path (trellisOf plate) (plate .n) w) → r .state t ≡ reached plate t (g .by)
-  stands w g =
-      subst (λ (v : ℕ). (r : Path (trellisOf plate) (plate .n) v) → r .state t ≡ reached plate t (g .by))
-      (g .sum) (λ r. kept-state (rowsOf plate) _ _ (plate-kept plate given) (plate .n) (g .by) r t h)
+  -- a word's path stands where the code's path of the word plus mask does
+  stands : (w : ℕ) (g : IsWord plate w) (r : Path (trellisOf plate) (plate .n) w) → r .state t ≡ reached plate t (g .by)
+  stands w g r =
+      subst (λ (v : ℕ). (r : Path (codeTrellis plate) (plate .n) v) → r .state t ≡ reached plate t (g .by)) (g .sum)
+      (λ r. kept-state (rowsOf plate) _ _ (plate-kept plate given) (plate .n) (g .by) r t h) (path-off (plate .mask) (codeTrellis plate) r)
 
   -- so what says when two choices of rows reach the same state says when the two paths meet
   meet : (R : ℕ → ℕ → Type 0) → ((reached plate t (x .by) ≡ reached plate t (y .by)) ↔ R (sumOf (rowsOf plate) (x .by)) (sumOf (rowsOf plate) (y .by)))
-      → (p .state t ≡ q .state t) ↔ R a b
+      → (p .state t ≡ q .state t) ↔ R (bitXor a (plate .mask)) (bitXor b (plate .mask))
   meet R e = (
-    (λ m. subst (R a) (y .sum) (subst (λ (v : ℕ). R v (sumOf (rowsOf plate) (y .by))) (x .sum) (e .0 (sym (stands a x p) ∙ m ∙ stands b y q)))),
-    λ r. stands a x p ∙ e .1 (subst (λ (v : ℕ). R v (sumOf (rowsOf plate) (y .by))) (sym (x .sum)) (subst (R a) (sym (y .sum)) r)) ∙ sym (stands b y q),
+    (λ m. subst (R (bitXor a (plate .mask))) (y .sum)
+        (subst (λ (v : ℕ). R v (sumOf (rowsOf plate) (y .by))) (x .sum) (e .0 (sym (stands a x p) ∙ m ∙ stands b y q)))),
+    λ r. stands a x p ∙ e .1 (subst (λ (v : ℕ). R v (sumOf (rowsOf plate) (y .by))) (sym (x .sum)) (subst (R (bitXor a (plate .mask))) (sym (y .sum)) r))
+        ∙ sym (stands b y q),
   )
 
-  -- Massey: two codewords' paths meet at depth t exactly if their beginnings have the same continuations
-  pub plate-massey : (p .state t ≡ q .state t) ↔ SameContinuations (IsSum (rowsOf plate)) t a b
-  plate-massey = meet (SameContinuations (IsSum (rowsOf plate)) t) (massey (rowsOf plate) _ _ (plate-spans plate given) t (x .by) (y .by))
+  -- Massey: two words' paths meet at depth t exactly if their beginnings have the same continuations
+  pub plate-massey : (p .state t ≡ q .state t) ↔ SameContinuations (IsWord plate) t a b
+  plate-massey =
+      Iff·trans (meet (SameContinuations (IsSum (rowsOf plate)) t) (massey (rowsOf plate) _ _ (plate-spans plate given) t (x .by) (y .by)))
+      (continuations-masked (IsSum (rowsOf plate)) (plate .mask) t a b)
 
   -- Wolf: exactly if their beginnings have the same partial syndrome, by any parity-check matrix of the code
   pub plate-wolf : (checks : List ℕ) → ((w : ℕ) → IsSum (rowsOf plate) w ↔ Checked (plate .n) checks w) → (p .state t ≡ q .state t) ↔ SameSyndrome checks t a b
   plate-wolf checks same =
-      meet (SameSyndrome checks t) (wolf (rowsOf plate) _ _ (plate-spans plate given) t (plate .n) checks same h (x .by) (y .by))
+      Iff·trans (meet (SameSyndrome checks t) (wolf (rowsOf plate) _ _ (plate-spans plate given) t (plate .n) checks same h (x .by) (y .by)))
+      (syndromes-masked checks (plate .mask) t a b)
 
--- ---- the same of the plate that preparing a matrix accepts
+-- ---- the same of the plate that preparing a matrix and a mask accepts
 
-module _ (n : ℕ) (kind : Kind) (rows : List ℕ) (r : Prepared) (p : Prepares n kind rows r) (e : r .verdict ≡ Accepted) (a b : ℕ)
-    (x : InCode kind n rows a) (y : InCode kind n rows b) where
-  -- the matrix's code is the plate's
-  code : (w : ℕ) → InCode kind n rows w ↔ IsSum (rowsOf (r .plate)) w
-  code = accepted-code n kind rows r p e
+module _ (n : ℕ) (kind : Kind) (rows : List ℕ) (mask : ℕ) (r : Prepared) (p : Prepares n kind rows mask r) (e : r .verdict ≡ Accepted) (a b : ℕ)
+    (x : Masked (InCode kind n rows) mask a) (y : Masked (InCode kind n rows) mask b) where
+  -- the words that the mask makes of the matrix's code are the plate's
+  words : (w : ℕ) → Masked (InCode kind n rows) mask w ↔ IsWord (r .plate) w
+  words = accepted-words n kind rows mask r p e
 
   -- Massey
   pub matrix-massey : (s : Path (trellisOf (r .plate)) n a) (q : Path (trellisOf (r .plate)) n b) (t : ℕ) → t ≤ n
-      → (s .state t ≡ q .state t) ↔ SameContinuations (InCode kind n rows) t a b
+      → (s .state t ≡ q .state t) ↔ SameContinuations (Masked (InCode kind n rows) mask) t a b
   matrix-massey =
       subst (λ (m : ℕ). (s : Path (trellisOf (r .plate)) m a) (q : Path (trellisOf (r .plate)) m b) (t : ℕ) → t ≤ m
-      → (s .state t ≡ q .state t) ↔ SameContinuations (InCode kind n rows) t a b) (accepted-length n kind rows r p e)
-      (λ s q t h. Iff·trans (plate-massey (r .plate) (accepted-prepared n kind rows r p e) a b (code a .0 x) (code b .0 y) s q t h) (
-        (λ c w. Iff·trans (code (splice t a w)) (Iff·trans (c w) (Iff·symm (code (splice t b w))))),
-        λ c w. Iff·trans (Iff·symm (code (splice t a w))) (Iff·trans (c w) (code (splice t b w))),
+      → (s .state t ≡ q .state t) ↔ SameContinuations (Masked (InCode kind n rows) mask) t a b) (accepted-length n kind rows mask r p e)
+      (λ s q t h. Iff·trans (plate-massey (r .plate) (accepted-prepared n kind rows mask r p e) a b (words a .0 x) (words b .0 y) s q t h) (
+        (λ c w. Iff·trans (words (splice t a w)) (Iff·trans (c w) (Iff·symm (words (splice t b w))))),
+        λ c w. Iff·trans (Iff·symm (words (splice t a w))) (Iff·trans (c w) (words (splice t b w))),
       ))
 
   -- Wolf: with any parity-check matrix of the code, as the matrix itself is where it was prepared as H
@@ -219,6 +267,6 @@ module _ (n : ℕ) (kind : Kind) (rows : List ℕ) (r : Prepared) (p : Prepares 
       → (s : Path (trellisOf (r .plate)) n a) (q : Path (trellisOf (r .plate)) n b) (t : ℕ) → t ≤ n → (s .state t ≡ q .state t) ↔ SameSyndrome checks t a b
   matrix-wolf checks same =
       subst (λ (m : ℕ). ((w : ℕ) → IsSum (rowsOf (r .plate)) w ↔ Checked m checks w) → (s : Path (trellisOf (r .plate)) m a)
-      (q : Path (trellisOf (r .plate)) m b) (t : ℕ) → t ≤ m → (s .state t ≡ q .state t) ↔ SameSyndrome checks t a b) (accepted-length n kind rows r p e)
-      (λ checked s q t h. plate-wolf (r .plate) (accepted-prepared n kind rows r p e) a b (code a .0 x) (code b .0 y) s q t h checks checked)
-      (λ w. Iff·trans (Iff·symm (code w)) (same w))
+      (q : Path (trellisOf (r .plate)) m b) (t : ℕ) → t ≤ m → (s .state t ≡ q .state t) ↔ SameSyndrome checks t a b) (accepted-length n kind rows mask r p e)
+      (λ checked s q t h. plate-wolf (r .plate) (accepted-prepared n kind rows mask r p e) a b (words a .0 x) (words b .0 y) s q t h checks checked)
+      (λ w. Iff·trans (Iff·symm (accepted-code n kind rows mask r p e w)) (same w))

@@ -13,15 +13,20 @@ use Rattle.plates.specs.Refusals.{Refuses, Passes}
 use Rattle.trellises.specs.declared.Next.{Next}
 use Rattle.trellises.specs.declared.Next.the-variants.{State, NoBranch, Refused}
 use Rattle.trellises.specs.Graph.{Graph, Has}
+use Rattle.trellises.specs.Masking.{masked}
 use Rattle.trellises.specs.States.{trellis}
 
 -- the position up to which a row is kept: its last one
 abbrev pub keptTo : Plate → ℕ → ℕ
 keptTo plate j = lasts (rowsOf plate) j
 
--- the trellis of a plate
+-- the trellis of a plate's code
+abbrev pub codeTrellis : Plate → Graph
+codeTrellis plate = trellis (rowsOf plate) (firsts (rowsOf plate)) (keptTo plate)
+
+-- the trellis of a plate: the mask's bit is added to each branch's
 abbrev pub trellisOf : Plate → Graph
-trellisOf plate = trellis (rowsOf plate) (firsts (rowsOf plate)) (keptTo plate)
+trellisOf plate = masked (plate .mask) (codeTrellis plate)
 
 -- 12: the depth is n or more, the state is not present, or the bit is over 1
 abbrev pub noSuchBranch : Plate → ℕ → ℕ → ℕ → Refusal → Type 0

@@ -1,4 +1,5 @@
 pub mod Graph
+pub mod Masking
 pub mod States
 pub mod Numbers
 pub mod Branching

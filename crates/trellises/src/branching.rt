@@ -73,5 +73,6 @@ pub fn branch_of(plate: Plate, depth: usize, state: usize, bit: u64) -> Next
     if weight_of(section.live) <= state {
         return Next::Refused(Refusal::NoSuchBranch);
     }
-    next_of(section, state, bit)
+    // the branch's bit is the mask's added to that of the code's branch
+    next_of(section, state, bit ^ words::bit_at(plate.mask, depth))
 }

@@ -7,9 +7,8 @@ use mathlib.Core.Logic.{inl, inr, _⊎_}
 use mathlib.Core.Path.{ap, refl, subst, sym, _∙_, _≡_}
 use native.Mathlib.Decide.{decLt}
 use native.Mathlib.Omega.{arith}
-use Prim.Native.Nat.{_*_, _/_, _<_, _^_, max, ℕ, _≤_}
-use Rattle.decoding.proofs.PlateSizes.{sizes-are}
-use Rattle.decoding.specs.declared.sweep.Sizes.{Sizes}
+use Prim.Native.Nat.{_*_, _/_, _<_, _^_, ℕ, _≤_}
+use Rattle.decoding.proofs.PlateSizes.{entry-widest}
 use Rattle.decoding.specs.Decode.{widest}
 use Rattle.decoding.specs.Needs.{widestEntry}
 use Rattle.plates.proofs.SoundIsPrepared.{sound, used-rows}
@@ -35,10 +34,7 @@ ones-none = bin-ind (λ (x : ℕ). ones x ≡ 0 → x ≡ 0) (λ e. refl) (λ x 
 
 -- the room that the profile asks for
 pub half-is : (plate : Plate) → IsPrepared plate → 2 ^ widestEntry (plate .profile) (plate .n) * 65 ≡ 2 ^ widest plate * 65
-half-is plate given =
-    ap (λ (z : Sizes). z .half * 65)
-    (sizes-are plate given (record { n = plate .n; k = plate .k; half = 2 ^ widestEntry (plate .profile) (plate .n); words = max 1 (2 ^ widestEntry (plate .profile) (plate .n) / 64) })
-    (record { n-is = refl; k-is = refl; half-is = refl; words-is = refl }))
+half-is plate given = ap (λ (m : ℕ). 2 ^ m * 65) (entry-widest plate given)
 
 -- a room that is too short by another name of its need
 pub by-need : {A : Type 0} {a m n : ℕ} → m ≡ n → A ⊎ (a < m) → A ⊎ (a < n)

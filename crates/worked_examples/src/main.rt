@@ -12,7 +12,7 @@ use plates::Prepared;
 // The plate, in its reply.
 fn even_words() -> Prepared {
     let rows: [u64; 1] = [7];
-    plates::prepare(3, Kind::H, &rows)
+    plates::prepare(3, Kind::H, &rows, 0)
 }
 
 // How many bytes stand before the first that is `stop`; all of them where none is.

@@ -2,10 +2,9 @@
 use borrow.Author.Needs.{needs}
 use borrow.Author.Tests.{not-false, not-true}
 use mathlib.Core.Logic.{inl, inr}
-use mathlib.Core.Path.{_∙_, refl}
-use native.Mathlib.Omega.{arith}
+use mathlib.Core.Path.{refl}
 use Rattle.plates.proofs.SoundIsPrepared.{sound}
-use Rattle.coding.proofs.CodingCalls.{test-refuses}
+use Rattle.coding.proofs.CodingCalls.{encoded-word, test-refuses}
 use Rattle.coding.proofs.encode.Statement.{statement}
 use Rattle.coding.proofs.encode.Tie as tie
 
@@ -30,9 +29,9 @@ sum-rows-requires c κs =
 
 returns-3 : tie.Need-returns-3
 returns-3 c =
-    let given = c .before .before .before .before .before .before .is-prepared .ensures .yes-is (not-false _ (c .before .before .before .before .before .if1 .left)) in
-    let short = c .before .before .before .before .reaches .ensures .no-is (c .before .before .before .if2 .left) in
-    (((λ q b. b .0 given), ((λ q b. omega (arith, b .0, short)), tt)), c .sum-rows .ensures)
+    let s = c .before .before .before in
+    let given = s .before .before .before .is-prepared .ensures .yes-is (not-false _ (s .before .before .if1 .left)) in
+    encoded-word given (s .before .reaches .ensures .no-is (s .if2 .left)) (c .sum-rows .ensures)
 
 pub encode-spec : {M : Type 1} → statement M
 encode-spec =

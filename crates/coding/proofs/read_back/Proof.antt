@@ -1,9 +1,7 @@
 -- `coding::read_back` meets its contract: each refusal, and the information.
 use borrow.Author.Needs.{needs}
 use borrow.Author.Tests.{not-false, not-true}
-use mathlib.Core.Logic.{inl, inr}
-use mathlib.Core.Path.{_∙_, refl}
-use native.Mathlib.Omega.{arith}
+use mathlib.Core.Logic.{inl}
 use Rattle.plates.proofs.SoundIsPrepared.{sound}
 use Rattle.coding.proofs.CodingCalls.{plate-headed, read-information, read-refused, test-refuses}
 use Rattle.coding.proofs.read_back.Statement.{statement}
@@ -20,13 +18,17 @@ take-rows-requires c κs = plate-headed (sound (c .before .before .before .is-pr
 
 returns-2 : tie.Need-returns-2
 returns-2 c =
-    let given = c .before .before .before .before .before .before .is-prepared .ensures .yes-is (not-false _ (c .before .before .before .before .before .if1 .left)) in
-    read-refused given (c .before .before .before .before .before .before .before .args .word) (c .before .before .take-rows .result) (c .before .before .take-rows .ensures) (c .if2 .taken)
+    let s = c .before .before .before .before .before in
+    let t = c .before .before .take-rows in
+    let given = s .before .is-prepared .ensures .yes-is (not-false _ (s .if1 .left)) in
+    read-refused given (s .before .before .args .word) (t .result) (t .ensures) (c .if2 .taken)
 
 returns-3 : tie.Need-returns-3
 returns-3 c =
-    let given = c .before .before .before .before .before .before .is-prepared .ensures .yes-is (not-false _ (c .before .before .before .before .before .if1 .left)) in
-    read-information given (c .before .before .before .before .before .before .before .args .word) (c .before .before .take-rows .result) (c .before .before .take-rows .ensures) (c .if2 .left)
+    let s = c .before .before .before .before .before in
+    let t = c .before .before .take-rows in
+    let given = s .before .is-prepared .ensures .yes-is (not-false _ (s .if1 .left)) in
+    read-information given (s .before .before .args .word) (t .result) (t .ensures) (c .if2 .left)
 
 pub read-back-spec : {M : Type 1} → statement M
 read-back-spec =

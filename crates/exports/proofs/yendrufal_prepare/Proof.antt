@@ -48,7 +48,13 @@ returns-4 : tie.Need-returns-4
 returns-4 c =
     let done = c .before .before .before .before .before .before in
     let start = done .before .before .before .before .before .before .before .before in
-    replied (search needs) (done .prepare .result) (done .prepare .result) (subst (λ (k : Kind). Prepares (start .args .n) k (start .args .rows .now) (done .prepare .result)) (done .before .kind-of .ensures) (done .prepare .ensures)) refl (crossed-accepted (start .args .plate .now) (start .args .at .now) (done .prepare .result .plate) (c .before .before .before .before .enum-told .given .1) (c .before .before .put-plate .ensures))
+    let made = done .prepare .result in
+    replied (search needs) made made
+    (subst (λ (k : Kind). Prepares (start .args .n) k (start .args .rows .now) (start .args .mask) made)
+    (done .before .kind-of .ensures) (done .prepare .ensures))
+    refl
+    (crossed-accepted (start .args .plate .now) (start .args .at .now) (made .plate)
+    (c .before .before .before .before .enum-told .given .1) (c .before .before .put-plate .ensures))
 
 same-length-3 : tie.Need-same-length-3
 same-length-3 c = search needs
@@ -57,7 +63,13 @@ returns-5 : tie.Need-returns-5
 returns-5 c =
     let done = c .before .before .before .before .before .before .before in
     let start = done .before .before .before .before .before .before .before .before in
-    replied (search needs) (done .prepare .result) (done .prepare .result) (subst (λ (k : Kind). Prepares (start .args .n) k (start .args .rows .now) (done .prepare .result)) (done .before .kind-of .ensures) (done .prepare .ensures)) refl (crossed-refused (start .args .plate .now) (start .args .at .now) (done .prepare .result .plate) (c .before .before .before .before .before .verdict .given .1) (c .before .before .refused-at .ensures))
+    let made = done .prepare .result in
+    replied (search needs) made made
+    (subst (λ (k : Kind). Prepares (start .args .n) k (start .args .rows .now) (start .args .mask) made)
+    (done .before .kind-of .ensures) (done .prepare .ensures))
+    refl
+    (crossed-refused (start .args .plate .now) (start .args .at .now) (made .plate)
+    (c .before .before .before .before .before .verdict .given .1) (c .before .before .refused-at .ensures))
 
 pub yendrufal-prepare-spec : {M : Type 1} → statement M
 yendrufal-prepare-spec =

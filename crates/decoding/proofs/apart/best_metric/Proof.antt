@@ -14,7 +14,7 @@ use Rattle.decoding.specs.Searching.{MetricSearched}
 use Rattle.decoding.specs.Sweeping.{RoomsFit, SizesFit, undecided}
 use Rattle.decoding.proofs.ApartCalls.{measured, refused-5, refused-6, refused-7, refused-8, room-fits}
 use Rattle.decoding.proofs.Filled.{length-filled}
-use Rattle.decoding.proofs.PlateSizes.{plate-sizes-fit, profile-fits, sizes-are}
+use Rattle.decoding.proofs.PlateSizes.{plate-sizes-fit, profile-fits, rows-there, sizes-are}
 use Rattle.decoding.proofs.apart.best_metric.Statement.{statement}
 use Rattle.decoding.proofs.apart.best_metric.Tie as tie
 
@@ -43,33 +43,33 @@ returns-3 c =
 
 sizes-of-requires : tie.Need-sizes-of-requires
 sizes-of-requires c κs =
-    let s = c .before .before .before .before .before .before .before in
-    let given = c .before .before .before .before .before .before .is-prepared .ensures .yes-is (not-false _ (c .before .before .before .before .before .if1 .left)) in
-    (sound given .short, profile-fits (s .args .t1) given)
+    let s = c .before .before .before .before .before .before .before .before .before in
+    let given = c .before .before .before .before .before .before .before .before .is-prepared .ensures .yes-is (not-false _ (c .before .before .before .before .before .before .before .if1 .left)) in
+    (sound given .short, profile-fits (s .args .t1) given, rows-there (s .args .t1) given)
 
 add-metric-need : tie.Need-add-metric-need
 add-metric-need c =
-    let s = c .before .before .before .before .before .before .before .before .before in
-    let given = c .before .before .before .before .before .before .before .before .is-prepared .ensures .yes-is (not-false _ (c .before .before .before .before .before .before .before .if1 .left)) in
+    let s = c .before .before .before .before .before .before .before .before .before .before .before in
+    let given = c .before .before .before .before .before .before .before .before .before .before .is-prepared .ensures .yes-is (not-false _ (c .before .before .before .before .before .before .before .before .before .if1 .left)) in
     let e = sizes-are (s .args .t1) given (c .before .sizes-of .result) (c .before .sizes-of .ensures) in
     record { fits = omega (arith, ap (λ (z : Sizes). z .half) e, plate-sizes-fit (s .args .t1) given .half-small) }
 
 returns-4 : tie.Need-returns-4
 returns-4 c =
-    let s = c .before .before .before .before .before .before .before .before .before .before in
-    let given = c .before .before .before .before .before .before .before .before .before .is-prepared .ensures .yes-is (not-false _ (c .before .before .before .before .before .before .before .before .if1 .left)) in
+    let s = c .before .before .before .before .before .before .before .before .before .before .before .before in
+    let given = c .before .before .before .before .before .before .before .before .before .before .before .is-prepared .ensures .yes-is (not-false _ (c .before .before .before .before .before .before .before .before .before .before .if1 .left)) in
     let e = sizes-are (s .args .t1) given (c .before .before .sizes-of .result) (c .before .before .sizes-of .ensures) in
     let h : length (s .args .metrics .now) < metricNeed (s .args .t1) = omega (arith, c .if4 .taken, ap (λ (z : Sizes). z .half) e) in
-    refused-8 (s .args .t1) (s .args .samples .now) (s .args .metrics .now) given (c .before .before .before .before .before .before .before .if2 .left) (c .before .before .before .before .before .before .first-over .result) (c .before .before .before .before .before .before .first-over .ensures) (λ h. omega (arith, h, c .before .before .before .before .before .if3 .left)) h
+    refused-8 (s .args .t1) (s .args .samples .now) (s .args .metrics .now) given (c .before .before .before .before .before .before .before .before .before .if2 .left) (c .before .before .before .before .before .before .before .before .first-over .result) (c .before .before .before .before .before .before .before .before .first-over .ensures) (λ h. omega (arith, h, c .before .before .before .before .before .before .before .if3 .left)) h
 
 search-metric-requires : tie.Need-search-metric-requires
 search-metric-requires c κs =
-    let s = c .before .before .before .before .before .before .before .before .before .before .before .before .before in
-    let given = c .before .before .before .before .before .before .before .before .before .before .before .before .is-prepared .ensures .yes-is (not-false _ (c .before .before .before .before .before .before .before .before .before .before .before .if1 .left)) in
+    let s = c .before .before .before .before .before .before .before .before .before .before .before .before .before .before .before in
+    let given = c .before .before .before .before .before .before .before .before .before .before .before .before .before .before .is-prepared .ensures .yes-is (not-false _ (c .before .before .before .before .before .before .before .before .before .before .before .before .before .if1 .left)) in
     let e = sizes-are (s .args .t1) given (c .before .before .before .before .before .sizes-of .result) (c .before .before .before .before .before .sizes-of .ensures) in
     let m : metricNeed (s .args .t1) ≤ length (s .args .metrics .now) = omega (arith, c .before .before .before .if4 .left, ap (λ (z : Sizes). z .half) e) in
     subst (λ (z : Sizes). SizesFit (s .args .t1 .rows) z × RoomsFit (undecided z) (s .args .samples .now) (s .args .metrics .now) []) (sym e)
-    (plate-sizes-fit (s .args .t1) given, room-fits (s .args .t1) (s .args .samples .now) (s .args .metrics .now) given (c .before .before .before .before .before .before .before .before .before .before .if2 .left) (c .before .before .before .before .before .before .before .before .before .first-over .result) (c .before .before .before .before .before .before .before .before .before .first-over .ensures) (λ h. omega (arith, h, c .before .before .before .before .before .before .before .before .if3 .left)) m)
+    (plate-sizes-fit (s .args .t1) given, room-fits (s .args .t1) (s .args .samples .now) (s .args .metrics .now) given (c .before .before .before .before .before .before .before .before .before .before .before .before .if2 .left) (c .before .before .before .before .before .before .before .before .before .before .before .first-over .result) (c .before .before .before .before .before .before .before .before .before .before .before .first-over .ensures) (λ h. omega (arith, h, c .before .before .before .before .before .before .before .before .before .before .if3 .left)) m)
 
 clear-metrics-requires : tie.Need-clear-metrics-requires
 clear-metrics-requires c κs = omega (arith, c .before .before .before .before .before .before .if4 .left, c .before .before .search-metric .ensures .size)
@@ -82,11 +82,11 @@ same-length c =
 
 returns-5 : tie.Need-returns-5
 returns-5 c =
-    let s = c .before .before .before .before .before .before .before .before .before .before .before .before .before .before .before .before .before .before in
-    let given = c .before .before .before .before .before .before .before .before .before .before .before .before .before .before .before .before .before .is-prepared .ensures .yes-is (not-false _ (c .before .before .before .before .before .before .before .before .before .before .before .before .before .before .before .before .if1 .left)) in
+    let s = c .before .before .before .before .before .before .before .before .before .before .before .before .before .before .before .before .before .before .before .before in
+    let given = c .before .before .before .before .before .before .before .before .before .before .before .before .before .before .before .before .before .before .before .is-prepared .ensures .yes-is (not-false _ (c .before .before .before .before .before .before .before .before .before .before .before .before .before .before .before .before .before .before .if1 .left)) in
     let e = sizes-are (s .args .t1) given (c .before .before .before .before .before .before .before .before .before .before .sizes-of .result) (c .before .before .before .before .before .before .before .before .before .before .sizes-of .ensures) in
     let m : metricNeed (s .args .t1) ≤ length (s .args .metrics .now) = omega (arith, c .before .before .before .before .before .before .before .before .if4 .left, ap (λ (z : Sizes). z .half) e) in
-    measured (s .args .t1) (s .args .samples .now) (s .args .metrics .now) given (c .before .before .before .before .before .before .before .before .before .before .before .before .before .before .before .if2 .left) (c .before .before .before .before .before .before .before .before .before .before .before .before .before .before .first-over .result) (c .before .before .before .before .before .before .before .before .before .before .before .before .before .before .first-over .ensures) (λ h. omega (arith, h, c .before .before .before .before .before .before .before .before .before .before .before .before .before .if3 .left)) m (c .before .before .before .before .search-metric .last .1 .1 .1 .0) (c .before .before .before .before .search-metric .result)
+    measured (s .args .t1) (s .args .samples .now) (s .args .metrics .now) given (c .before .before .before .before .before .before .before .before .before .before .before .before .before .before .before .before .before .if2 .left) (c .before .before .before .before .before .before .before .before .before .before .before .before .before .before .before .before .first-over .result) (c .before .before .before .before .before .before .before .before .before .before .before .before .before .before .before .before .first-over .ensures) (λ h. omega (arith, h, c .before .before .before .before .before .before .before .before .before .before .before .before .before .before .before .if3 .left)) m (c .before .before .before .before .search-metric .last .1 .1 .1 .0) (c .before .before .before .before .search-metric .result)
     (subst (λ (z : Sizes). MetricSearched (s .args .t1 .rows) z (s .args .samples .now) (s .args .metrics .now) (c .before .before .before .before .search-metric .last .1 .1 .1 .0) (c .before .before .before .before .search-metric .result)) e (c .before .before .before .before .search-metric .ensures))
     _ (ap (λ (z : Sizes). z .half + z .half) e ∙ omega arith) _ (c .before .clear-metrics .ensures)
 

@@ -9,8 +9,14 @@ use Rattle.decoding.proofs.firmness.reading_at.Tie as tie
 first-with-requires : tie.Need-first-with-requires
 first-with-requires c κs = search needs
 
+bit-at-requires : tie.Need-bit-at-requires
+bit-at-requires c κs = search needs
+
 returns : tie.Need-returns
-returns c = let s = c .before .before .before .before in fixed-read (s .args .rows .now) (s .args .sizes) (s .args .samples .now) (s .args .metrics .now) (s .args .decisions .now) (s .args .position) (c .before .before .first-with .result) (c .before .before .first-with .ensures) (c .if1 .taken)
+returns c =
+    let s = c .before .before .before .before .before in
+    fixed-read (s .args .rows .now) (s .args .sizes) (s .args .samples .now) (s .args .metrics .now) (s .args .decisions .now) (s .args .position)
+    (c .before .before .before .first-with .result) (c .before .before .before .first-with .ensures) (c .before .if1 .taken) (c .bit-at .result) (c .bit-at .ensures)
 
 ending-rows-requires : tie.Need-ending-rows-requires
 ending-rows-requires c κs = search needs
@@ -40,6 +46,7 @@ reading-at-spec =
     tie.close
     (tie.spec
     first-with-requires
+    bit-at-requires
     returns
     ending-rows-requires
     best-with-requires

@@ -4,7 +4,8 @@ use mathlib.Core.Path.{_≡_, _∙_, refl}
 use native.Mathlib.Omega.{arith}
 use mir.Facts.{toZ-ofZ}
 use mir.Syntax.{w32}
-use Rattle.decoding.proofs.SearchEnds.{from-small, metric-there, rooms-unforced, searched, swept-unforced, walk-fits}
+use Rattle.decoding.specs.Turning.{turnedBy}
+use Rattle.decoding.proofs.SearchEnds.{from-small, metric-there, rooms-turned, rooms-unforced, searched, swept-unforced, walk-fits}
 use Rattle.decoding.proofs.search.search.Statement.{statement}
 use Rattle.decoding.proofs.search.search.Tie as tie
 
@@ -19,17 +20,17 @@ sweep-requires c κs =
 read-off-requires : tie.Need-read-off-requires
 read-off-requires c κs =
     let s = c .before .before .before .before .before .before .before .before .before .before .before in
-    walk-fits (s .args .rows .now) (s .args .sizes) (s .args .samples .now) (s .args .metrics .now) (s .args .decisions .now) (s .pre .0) (s .pre .1 .0) _ (c .before .before .before .before .before .before .before .before .before .ending-rows .ensures) _ _ _ (swept-unforced (s .pre .1 .0) (c .before .before .before .before .before .sweep .ensures)) (s .pre .1 .1)
+    walk-fits (s .args .rows .now) (s .args .sizes) (turnedBy (s .args .sizes .rest) (s .args .samples .now)) (s .args .metrics .now) (s .args .decisions .now) (s .pre .0) (rooms-turned (s .args .sizes .rest) (s .pre .1 .0)) _ (c .before .before .before .before .before .before .before .before .before .ending-rows .ensures) _ _ _ (swept-unforced (s .pre .1 .0) (c .before .before .before .before .before .sweep .ensures)) (s .pre .1 .1)
 
 mul-metric : tie.Need-mul-metric
 mul-metric c =
     let s = c .before .before .before .before .before .before .before .before .before .before .before .before in
-    record { fits = omega (arith, from-small (s .args .rows .now) (s .args .sizes) (s .args .samples .now) (s .args .metrics .now) (s .args .decisions .now) (s .pre .0) (s .pre .1 .0) _ (c .before .before .before .before .before .before .before .before .before .before .ending-rows .ensures) _ _ _ (swept-unforced (s .pre .1 .0) (c .before .before .before .before .before .before .sweep .ensures)), s .pre .0 .half-small) }
+    record { fits = omega (arith, from-small (s .args .rows .now) (s .args .sizes) (turnedBy (s .args .sizes .rest) (s .args .samples .now)) (s .args .metrics .now) (s .args .decisions .now) (s .pre .0) (rooms-turned (s .args .sizes .rest) (s .pre .1 .0)) _ (c .before .before .before .before .before .before .before .before .before .before .ending-rows .ensures) _ _ _ (swept-unforced (s .pre .1 .0) (c .before .before .before .before .before .before .sweep .ensures)), s .pre .0 .half-small) }
 
 slice-copy-out-metric : tie.Need-slice-copy-out-metric
 slice-copy-out-metric c =
     let s = c .before .before .before .before .before .before .before .before .before .before .before .before in
-    metric-there (s .args .rows .now) (s .args .sizes) (s .args .samples .now) (s .args .metrics .now) (s .args .decisions .now) (s .pre .0) (s .pre .1 .0) _ (c .before .before .before .before .before .before .before .before .before .before .ending-rows .ensures) _ _ _ (swept-unforced (s .pre .1 .0) (c .before .before .before .before .before .before .sweep .ensures))
+    metric-there (s .args .rows .now) (s .args .sizes) (turnedBy (s .args .sizes .rest) (s .args .samples .now)) (s .args .metrics .now) (s .args .decisions .now) (s .pre .0) (rooms-turned (s .args .sizes .rest) (s .pre .1 .0)) _ (c .before .before .before .before .before .before .before .before .before .before .ending-rows .ensures) _ _ _ (swept-unforced (s .pre .1 .0) (c .before .before .before .before .before .before .sweep .ensures))
 
 same-length : tie.Need-same-length
 same-length c = c .before .before .before .before .before .before .before .before .sweep .ensures .kept .metrics-size

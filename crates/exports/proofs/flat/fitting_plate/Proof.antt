@@ -13,6 +13,9 @@ shared-slice-read-t4 c = search needs
 shared-slice-read-t7 : tie.Need-shared-slice-read-t7
 shared-slice-read-t7 c = search needs
 
+shared-slice-read-t10 : tie.Need-shared-slice-read-t10
+shared-slice-read-t10 c = search needs
+
 load-rows-requires : tie.Need-load-rows-requires
 load-rows-requires c κs = search needs
 
@@ -21,8 +24,10 @@ load-profile-requires c κs = search needs
 
 returns : tie.Need-returns
 returns c =
-    let w = c .before .before .before .before .before .before .before .args .words .now in
-    ap₂ (λ (r p : List ℕ). record { n = getD w 0 0; k = getD w 1 0; rows = r; profile = p }) (c .before .before .load-rows .ensures) (c .load-profile .ensures)
+    let w = c .before .before .before .before .before .before .before .before .args .words .now in
+    ap₂ (λ (r p : List ℕ). record { n = getD w 0 0; k = getD w 1 0; mask = getD w 131 0; rows = r; profile = p })
+    (c .before .before .load-rows .ensures)
+    (c .load-profile .ensures)
 
 pub fitting-plate-spec : {M : Type 1} → statement M
 fitting-plate-spec =
@@ -30,6 +35,7 @@ fitting-plate-spec =
     (tie.spec
     shared-slice-read-t4
     shared-slice-read-t7
+    shared-slice-read-t10
     load-rows-requires
     load-profile-requires
     returns)

@@ -4,8 +4,8 @@ use Rattle.exports.proofs.PlateStands.{put-whole}
 use Rattle.exports.proofs.flat.put_plate.Statement.{statement}
 use Rattle.exports.proofs.flat.put_plate.Tie as tie
 
-put-head-requires : tie.Need-put-head-requires
-put-head-requires c κs = search needs
+put-numbers-requires : tie.Need-put-numbers-requires
+put-numbers-requires c κs = search needs
 
 put-rows-requires : tie.Need-put-rows-requires
 put-rows-requires c κs = search needs
@@ -19,11 +19,14 @@ same-length c = search needs
 returns : tie.Need-returns
 returns c =
     let rows = c .before .before .before .before .before .before .before .before in
-    let head = rows .before .before .before .before .before .before in
-    let start = head .before .before .before in
-    put-whole (start .args .words .now) (start .args .t2) (start .pre .0) (start .pre .1) _ _ _ (head .put-head .ensures) (rows .put-rows .ensures) (c .before .before .put-profile .ensures)
+    let numbers = rows .before .before .before .before .before .before in
+    let start = numbers .before .before .before in
+    put-whole (start .args .words .now) (start .args .t2) (start .pre .0) (start .pre .1) (start .pre .2) _ _ _
+    (numbers .put-numbers .ensures)
+    (rows .put-rows .ensures)
+    (c .before .before .put-profile .ensures)
 
 pub put-plate-spec : {M : Type 1} → statement M
 put-plate-spec =
     tie.close
-    (tie.spec put-head-requires put-rows-requires put-profile-requires same-length returns)
+    (tie.spec put-numbers-requires put-rows-requires put-profile-requires same-length returns)

@@ -9,15 +9,15 @@ use Rattle.judging.proofs.telling.tell_all.Statement.{statement}
 use Rattle.judging.proofs.telling.tell_all.Tie as tie
 
 abbrev Inv-loop : tie.InvT-loop
-Inv-loop rows n room₀ lines i₀ room i = (i ≤ lines) × SameLines lines room₀ room × ToldFrom (theirs n lines room₀) rows n lines room i
+Inv-loop rows mask n room₀ lines i₀ room i = (i ≤ lines) × SameLines lines room₀ room × ToldFrom (theirs n lines room₀) rows mask n lines room i
 
 abbrev μ-loop : tie.MeasureT-loop
-μ-loop rows n room₀ lines i₀ room i = i
+μ-loop rows mask n room₀ lines i₀ room i = i
 
 loop-holds : tie.Need-loop-holds Inv-loop μ-loop
 loop-holds c =
     let s = c .before .before in
-    (omega arith, same-none _ _, told-none (s .args .rows .now) (s .args .n) _ _ _)
+    (omega arith, same-none _ _, told-none (s .args .rows .now) (s .args .mask) (s .args .n) _ _ _)
 
 sub-i : tie.Need-sub-i Inv-loop μ-loop
 sub-i c = search needs
@@ -49,18 +49,18 @@ add-tell c =
     let l = c .before .before .before .before .loop in
     let s = c .before .before .before .before .before .before .before in
     let d : l .i ≡ suc (l .i - 1) = omega (arith, c .before .before .before .loop-test .taken) in
-    let t = subst (λ (k : ℕ). ToldFrom (theirs (s .args .n) (s .args .lines) (s .args .room .now)) (s .args .rows .now) (s .args .n) (s .args .lines) (l .room) k) d (l .inv .2) in
+    let t = subst (λ (k : ℕ). ToldFrom (theirs (s .args .n) (s .args .lines) (s .args .room .now)) (s .args .rows .now) (s .args .mask) (s .args .n) (s .args .lines) (l .room) k) d (l .inv .2) in
     let m : l .i - 1 < s .args .lines = omega (arith, c .before .before .before .loop-test .taken, l .inv .0) in
-    record { fits = omega (arith, depth-below (s .args .rows .now) (s .args .n) (s .args .lines) (s .args .room .now) (l .room) (l .i - 1) (s .pre) (l .inv .1) t m, s .pre .holds .short) }
+    record { fits = omega (arith, depth-below (s .args .rows .now) (s .args .mask) (s .args .n) (s .args .lines) (s .args .room .now) (l .room) (l .i - 1) (s .pre) (l .inv .1) t m, s .pre .holds .short) }
 
 tell-requires : tie.Need-tell-requires Inv-loop μ-loop
 tell-requires c κs =
     let l = c .before .before .before .before .loop in
     let s = c .before .before .before .before .before .before .before in
     let d : l .i ≡ suc (l .i - 1) = omega (arith, c .before .before .before .loop-test .taken) in
-    let t = subst (λ (k : ℕ). ToldFrom (theirs (s .args .n) (s .args .lines) (s .args .room .now)) (s .args .rows .now) (s .args .n) (s .args .lines) (l .room) k) d (l .inv .2) in
+    let t = subst (λ (k : ℕ). ToldFrom (theirs (s .args .n) (s .args .lines) (s .args .room .now)) (s .args .rows .now) (s .args .mask) (s .args .n) (s .args .lines) (l .room) k) d (l .inv .2) in
     let m : l .i - 1 < s .args .lines = omega (arith, c .before .before .before .loop-test .taken, l .inv .0) in
-    (asking (s .args .rows .now) (s .args .n) (s .args .lines) (s .args .room .now) (l .room) (l .i - 1) (s .pre) (l .inv .1) t m, lead-small (s .args .rows .now) (s .args .n) (s .args .lines) (s .args .room .now) (l .room) (l .i - 1) (s .pre) (l .inv .1) t m)
+    (asking (s .args .rows .now) (s .args .mask) (s .args .n) (s .args .lines) (s .args .room .now) (l .room) (l .i - 1) (s .pre) (l .inv .1) t m, lead-small (s .args .rows .now) (s .args .mask) (s .args .n) (s .args .lines) (s .args .room .now) (l .room) (l .i - 1) (s .pre) (l .inv .1) t m)
 
 add-room : tie.Need-add-room Inv-loop μ-loop
 add-room c = search needs
@@ -81,9 +81,9 @@ loop-again c =
     let l = c .before .before .before .before .before .loop in
     let s = c .before .before .before .before .before .before .before .before in
     let d : l .i ≡ suc (l .i - 1) = omega (arith, c .before .before .before .before .loop-test .taken) in
-    let t = subst (λ (k : ℕ). ToldFrom (theirs (s .args .n) (s .args .lines) (s .args .room .now)) (s .args .rows .now) (s .args .n) (s .args .lines) (l .room) k) d (l .inv .2) in
+    let t = subst (λ (k : ℕ). ToldFrom (theirs (s .args .n) (s .args .lines) (s .args .room .now)) (s .args .rows .now) (s .args .mask) (s .args .n) (s .args .lines) (l .room) k) d (l .inv .2) in
     let m : l .i - 1 < s .args .lines = omega (arith, c .before .before .before .before .loop-test .taken, l .inv .0) in
-    (omega (arith, l .inv .0), same-more (s .args .rows .now) (s .args .n) (s .args .lines) (s .args .room .now) (l .room) (l .i - 1) (s .pre) (l .inv .1) t m (c .tell .result), told-more (s .args .rows .now) (s .args .n) (s .args .lines) (s .args .room .now) (l .room) (l .i - 1) (s .pre) (l .inv .1) t m (c .tell .result) (c .tell .ensures))
+    (omega (arith, l .inv .0), same-more (s .args .rows .now) (s .args .mask) (s .args .n) (s .args .lines) (s .args .room .now) (l .room) (l .i - 1) (s .pre) (l .inv .1) t m (c .tell .result), told-more (s .args .rows .now) (s .args .mask) (s .args .n) (s .args .lines) (s .args .room .now) (l .room) (l .i - 1) (s .pre) (l .inv .1) t m (c .tell .result) (c .tell .ensures))
 
 same-length : tie.Need-same-length Inv-loop μ-loop
 same-length c = c .before .loop .inv .1 .size
@@ -93,7 +93,7 @@ returns c =
     let l = c .before .loop in
     let s = c .before .before .before .before in
     let e : l .i ≡ 0 = omega (arith, c .loop-test .left) in
-    record { same = l .inv .1; told = subst (λ (k : ℕ). ToldFrom (theirs (s .args .n) (s .args .lines) (s .args .room .now)) (s .args .rows .now) (s .args .n) (s .args .lines) (l .room) k) e (l .inv .2) }
+    record { same = l .inv .1; told = subst (λ (k : ℕ). ToldFrom (theirs (s .args .n) (s .args .lines) (s .args .room .now)) (s .args .rows .now) (s .args .mask) (s .args .n) (s .args .lines) (l .room) k) e (l .inv .2) }
 
 pub tell-all-spec : {M : Type 1} → statement M
 tell-all-spec =

@@ -22,12 +22,12 @@ walk-requires c κs =
 returns-2 : tie.Need-returns-2
 returns-2 c =
     let s = c .before .before .before .before .before .before in
-    subst (Differs (theirs (s .args .n) (s .args .lines) (s .args .room .now)) (ours (s .args .rows .now)) (s .args .n) 0 1 1 (c .before .walk .result .word)) (c .if2 .taken) (c .before .walk .ensures)
+    subst (Differs (theirs (s .args .n) (s .args .lines) (s .args .room .now)) (ours (s .args .rows .now) (s .args .mask)) (s .args .n) 0 1 1 (c .before .walk .result .word)) (c .if2 .taken) (c .before .walk .ensures)
 
 returns-3 : tie.Need-returns-3
 returns-3 c =
     let s = c .before .before .before .before .before .before in
-    subst (Differs (theirs (s .args .n) (s .args .lines) (s .args .room .now)) (ours (s .args .rows .now)) (s .args .n) 0 1 1 (c .before .walk .result .word)) (c .if2 .left) (c .before .walk .ensures)
+    subst (Differs (theirs (s .args .n) (s .args .lines) (s .args .room .now)) (ours (s .args .rows .now) (s .args .mask)) (s .args .n) 0 1 1 (c .before .walk .result .word)) (c .if2 .left) (c .before .walk .ensures)
 
 pub verdict-spec : {M : Type 1} → statement M
 verdict-spec = tie.close (tie.spec tell-requires returns walk-requires returns-2 returns-3)

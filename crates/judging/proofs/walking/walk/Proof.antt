@@ -11,15 +11,15 @@ use Rattle.judging.proofs.walking.walk.Statement.{statement}
 use Rattle.judging.proofs.walking.walk.Tie as tie
 
 abbrev Inv-loop : tie.InvT-loop
-Inv-loop rows n room lines word₀ t₀ u₀ y₀ word t u y = Walked (theirs n lines room) (ours rows) n t u y word
+Inv-loop rows mask n room lines word₀ t₀ u₀ y₀ word t u y = Walked (theirs n lines room) (ours rows mask) n t u y word
 
 abbrev μ-loop : tie.MeasureT-loop
-μ-loop rows n room lines word₀ t₀ u₀ y₀ word t u y = n - t
+μ-loop rows mask n room lines word₀ t₀ u₀ y₀ word t u y = n - t
 
 loop-holds : tie.Need-loop-holds Inv-loop μ-loop
 loop-holds c =
     let s = c .before .before in
-    walked-start (theirs (s .args .n) (s .args .lines) (s .args .room .now)) (ours (s .args .rows .now)) (s .args .n) (start-states (s .pre .ready .plate)) (s .pre .apart)
+    walked-start (theirs (s .args .n) (s .args .lines) (s .args .room .now)) (ours (s .args .rows .now) (s .args .mask)) (s .args .n) (start-states (s .pre .ready .plate)) (s .pre .apart)
 
 step-requires : tie.Need-step-requires Inv-loop μ-loop
 step-requires c κs =
@@ -48,14 +48,14 @@ loop-again : tie.Need-loop-again Inv-loop μ-loop
 loop-again c =
     let s = c .before .before .before .before .before .before in
     let l = c .before .before .before .loop in
-    walked-on (theirs (s .args .n) (s .args .lines) (s .args .room .now)) (ours (s .args .rows .now)) (s .args .n) (l .t) (l .u) (l .y) (l .word) (c .before .before .loop-test .taken) (l .inv) (c .before .step .result) (c .before .step .ensures) (c .with-bit .result) (c .with-bit .ensures .0) (c .with-bit .ensures .1)
+    walked-on (theirs (s .args .n) (s .args .lines) (s .args .room .now)) (ours (s .args .rows .now) (s .args .mask)) (s .args .n) (l .t) (l .u) (l .y) (l .word) (c .before .before .loop-test .taken) (l .inv) (c .before .step .result) (c .before .step .ensures) (c .with-bit .result) (c .with-bit .ensures .0) (c .with-bit .ensures .1)
 
 returns : tie.Need-returns Inv-loop μ-loop
 returns c =
     let s = c .before .before .before .before in
     let l = c .before .loop in
     let e : l .t ≡ s .args .n = omega (arith, c .loop-test .left, l .inv .within) in
-    walked-end (theirs (s .args .n) (s .args .lines) (s .args .room .now)) (ours (s .args .rows .now)) (s .args .n) (l .u) (l .y) (l .word) (end-states (s .pre .ready .plate)) (subst (λ (k : ℕ). Walked (theirs (s .args .n) (s .args .lines) (s .args .room .now)) (ours (s .args .rows .now)) (s .args .n) k (l .u) (l .y) (l .word)) e (l .inv))
+    walked-end (theirs (s .args .n) (s .args .lines) (s .args .room .now)) (ours (s .args .rows .now) (s .args .mask)) (s .args .n) (l .u) (l .y) (l .word) (end-states (s .pre .ready .plate)) (subst (λ (k : ℕ). Walked (theirs (s .args .n) (s .args .lines) (s .args .room .now)) (ours (s .args .rows .now) (s .args .mask)) (s .args .n) k (l .u) (l .y) (l .word)) e (l .inv))
 
 pub walk-spec : {M : Type 1} → statement M
 walk-spec =

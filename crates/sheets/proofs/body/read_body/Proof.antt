@@ -1,41 +1,24 @@
 -- `body::read_body` meets its contract.
 use borrow.Author.Needs.{needs}
-use mathlib.Core.Path.{_∙_, refl, sym}
+use Rattle.sheets.proofs.MaskLines.{bad-mask, mask-ended, next-inside, with-mask, without-mask}
 use Rattle.sheets.proofs.body.read_body.Statement.{statement}
 use Rattle.sheets.proofs.body.read_body.Tie as tie
-
-check-body-requires : tie.Need-check-body-requires
-check-body-requires c κs = search needs
-
-enum-known-reply : tie.Need-enum-known-reply
-enum-known-reply c = search needs
-
-read-rows-requires : tie.Need-read-rows-requires
-read-rows-requires c κs = search needs
-
-enum-known-reply-2 : tie.Need-enum-known-reply-2
-enum-known-reply-2 c = search needs
-
-same-length : tie.Need-same-length
-same-length c = search needs
-
-returns : tie.Need-returns
-returns c = record {
-  reply = sym (c .before .before .before .before .before .reply .given .1) ∙ c .before .before .before .before .before .before .before .check-body .ensures;
-  kept = c .before .before .read-rows .ensures .stored;
-}
-
-returns-2 : tie.Need-returns-2
-returns-2 c = record { reply = sym (c .before .reply2 .given .1) ∙ c .before .before .before .check-body .ensures; kept = refl }
 
 pub read-body-spec : {M : Type 1} → statement M
 read-body-spec =
     tie.close
     (tie.spec
-    check-body-requires
-    enum-known-reply
-    read-rows-requires
-    enum-known-reply-2
-    same-length
-    returns
-    returns-2)
+    (λ c κs. search needs)  -- until
+    (λ c κs. search needs)  -- mask_between
+    (λ c. search needs)
+    (λ c. search needs)  -- end + 1
+    (λ c κs. (search next-inside, search needs))  -- read_lines
+    (λ c. search needs)
+    (λ c κs. search needs)  -- read_lines
+    (λ c. search needs)
+    (λ c κs. search needs)  -- refusal_of
+    (λ c. search needs)
+    (λ c. search (with-mask, mask-ended))
+    (λ c. search needs)
+    (λ c. search without-mask)
+    (λ c. search bad-mask))

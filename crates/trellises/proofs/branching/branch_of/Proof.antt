@@ -1,8 +1,9 @@
 -- `trellises::branching::branch_of` meets its contract: refusal 12, or the reply by the section's numbers.
 use borrow.Author.Needs.{needs}
+use lib.Bits.{bitXor}
 use lib.Seq.{length-take-le}
 use mathlib.Core.Logic.{inl, inr}
-use mathlib.Core.Path.{_∙_, ap, subst, sym}
+use mathlib.Core.Path.{_∙_, ap, ap₂, subst, sym}
 use native.Mathlib.Omega.{arith}
 use Prim.Native.Nat.{ℕ, _^_}
 use Rattle.trellises.specs.Branching.{Branches}
@@ -41,27 +42,35 @@ returns-3 c =
     refused-twelve (s .args .plate) (s .pre) (s .args .depth) (s .args .state) (s .args .bit)
     (inr (inl (omega (arith, c .before .weight-of .ensures, ap (λ (n : ℕ). 2 ^ n) l, c .if3 .taken))))
 
+bit-at-requires : tie.Need-bit-at-requires
+bit-at-requires c κs = search needs
+
 next-of-requires : tie.Need-next-of-requires
 next-of-requires c κs =
-    let s = c .before .before .before .before .before .before .before in
-    let r = c .before .before .section-of in
-    let d = c .before .before .before .before .before .before .if1 .left in (
-      found-live (s .pre) (s .args .depth) d (r .result) (r .ensures) .1,
-      (found-ending (s .pre) (s .args .depth) d (r .result) (r .ensures), omega (arith, c .before .weight-of .ensures, c .if3 .left)),
+    let weighed = c .before .before in
+    let r = weighed .before .section-of in
+    let ranged = weighed .before .before .before .before .before in
+    let s = ranged .before in (
+      found-live (s .pre) (s .args .depth) (ranged .if1 .left) (r .result) (r .ensures) .1,
+      (found-ending (s .pre) (s .args .depth) (ranged .if1 .left) (r .result) (r .ensures), omega (arith, weighed .weight-of .ensures, c .before .if3 .left)),
     )
 
 returns-4 : tie.Need-returns-4
 returns-4 c =
-    let s = c .before .before .before .before .before .before .before .before in
+    let asked = c .before in
+    let weighed = asked .before .before in
+    let r = weighed .before .section-of in
+    let binary = weighed .before .before .before .before in
+    let ranged = binary .before in
+    let s = ranged .before in
     let a = s .args in
-    let r = c .before .before .before .section-of in
-    let d = c .before .before .before .before .before .before .before .if1 .left in
+    let d = ranged .if1 .left in
     let l = found-live (s .pre) (a .depth) d (r .result) (r .ensures) .0 in
     subst (Branches (a .plate) (a .depth) (a .state) (a .bit))
-    (sym (c .next-of .ensures ∙ ap (λ (z : Section). nextOf z (a .state) (a .bit)) (found (s .pre) (a .depth) d (r .result) (r .ensures))))
+    (sym (c .next-of .ensures
+    ∙ ap₂ (λ (z : Section) (b : ℕ). nextOf z (a .state) (bitXor (a .bit) b)) (found (s .pre) (a .depth) d (r .result) (r .ensures)) (asked .bit-at .ensures)))
     (next-branches (a .plate) (s .pre) (a .depth) (a .state) (a .bit) d
-    (omega (arith, c .before .before .weight-of .ensures, ap (λ (n : ℕ). 2 ^ n) l, c .before .if3 .left))
-    (omega (arith, c .before .before .before .before .before .before .if2 .left)))
+    (omega (arith, weighed .weight-of .ensures, ap (λ (n : ℕ). 2 ^ n) l, asked .before .if3 .left)) (omega (arith, binary .if2 .left)))
 
 pub branch-of-spec : {M : Type 1} → statement M
 branch-of-spec =
@@ -74,5 +83,6 @@ branch-of-spec =
     section-of-requires
     weight-of-requires
     returns-3
+    bit-at-requires
     next-of-requires
     returns-4)
