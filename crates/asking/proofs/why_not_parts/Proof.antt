@@ -1,30 +1,33 @@
--- `asking::why_not` meets its contract: decoding's refusals, or the reason against decoding's answer.
+-- `asking::why_not_parts` meets its contract: decoding's refusals, or the reason against decoding's answer.
 use borrow.Author.Needs.{needs}
 use borrow.Author.Tests.{not-false, not-true}
+use Rattle.plates.specs.Prepare.{ofParts}
 use Rattle.asking.proofs.Replies.{asked-of, explained, refused, refused-5}
-use Rattle.asking.proofs.why_not.Statement.{statement}
-use Rattle.asking.proofs.why_not.Tie as tie
+use Rattle.asking.proofs.why_not_parts.Statement.{statement}
+use Rattle.asking.proofs.why_not_parts.Tie as tie
 
-is-prepared-requires : tie.Need-is-prepared-requires
-is-prepared-requires c κs = search needs
+parts-prepared-requires : tie.Need-parts-prepared-requires
+parts-prepared-requires c κs = search needs
 
 returns : tie.Need-returns
 returns c =
-    let s = c .before .before .before in
-    refused-5 (s .args .plate) (s .args .samples .now) (s .args .word) (s .args .metrics .now) (s .args .decisions .now) (c .before .is-prepared .ensures .no-is (not-true _ (c .if1 .taken)))
+    let s = c .before .before .before .before .before in
+    let plate = ofParts (s .args .n) (s .args .k) (s .args .mask) (s .args .rows .now) (s .args .profile .now) in
+    refused-5 plate (s .args .samples .now) (s .args .word) (s .args .metrics .now) (s .args .decisions .now) (c .before .parts-prepared .ensures .no-is (not-true _ (c .if1 .taken)))
 
-decode-requires : tie.Need-decode-requires
-decode-requires c κs = search needs
+decode-prepared-requires : tie.Need-decode-prepared-requires
+decode-prepared-requires c κs = c .before .before .before .parts-prepared .ensures .yes-is (not-false _ (c .before .before .if1 .left))
 
 enum-known-answer : tie.Need-enum-known-answer
 enum-known-answer c = search needs
 
 reason-for-requires : tie.Need-reason-for-requires
 reason-for-requires c κs =
-    let s = c .before .before .before .before .before .before .before .before .before .before .before .before in
-    let d = c .before .before .before .before .before .before .decode in
-    let given = c .before .before .before .before .before .before .before .before .before .before .is-prepared .ensures .yes-is (not-false _ (c .before .before .before .before .before .before .before .before .before .if1 .left)) in
-    asked-of (s .args .plate) (s .args .samples .now) (s .args .word) (s .args .metrics .now) (s .args .decisions .now) _ _ (d .result) (d .ensures) given _ (c .before .answer .given .1)
+    let s = c .before .before .before .before .before .before .before .before .before .before .before .before .before .before in
+    let plate = ofParts (s .args .n) (s .args .k) (s .args .mask) (s .args .rows .now) (s .args .profile .now) in
+    let d = c .before .before .before .before .before .before .decode-prepared in
+    let given = c .before .before .before .before .before .before .before .before .before .before .parts-prepared .ensures .yes-is (not-false _ (c .before .before .before .before .before .before .before .before .before .if1 .left)) in
+    record { profile = s .args .profile .now; asked = asked-of plate (s .args .samples .now) (s .args .word) (s .args .metrics .now) (s .args .decisions .now) _ _ (d .result) (d .ensures) given _ (c .before .answer .given .1) }
 
 enum-known-refusal : tie.Need-enum-known-refusal
 enum-known-refusal c = search needs
@@ -37,9 +40,10 @@ same-length-2 c = search needs
 
 returns-2 : tie.Need-returns-2
 returns-2 c =
-    let s = c .before .before .before .before .before .before .before .before .before .before .before .before .before in
-    let d = c .before .before .before .before .before .before .before .decode in
-    explained (s .args .plate) (s .args .samples .now) (s .args .word) (s .args .metrics .now) (s .args .decisions .now) _ _ (d .result) (d .ensures) _ (c .before .before .answer .given .1) (c .reason-for .result) (c .reason-for .ensures)
+    let s = c .before .before .before .before .before .before .before .before .before .before .before .before .before .before .before in
+    let plate = ofParts (s .args .n) (s .args .k) (s .args .mask) (s .args .rows .now) (s .args .profile .now) in
+    let d = c .before .before .before .before .before .before .before .decode-prepared in
+    explained plate (s .args .samples .now) (s .args .word) (s .args .metrics .now) (s .args .decisions .now) _ _ (d .result) (d .ensures) _ (c .before .before .answer .given .1) (c .reason-for .result) (c .reason-for .ensures)
 
 same-length-3 : tie.Need-same-length-3
 same-length-3 c = search needs
@@ -49,17 +53,18 @@ same-length-4 c = search needs
 
 returns-3 : tie.Need-returns-3
 returns-3 c =
-    let s = c .before .before .before .before .before .before .before .before .before .before .before .before in
-    let d = c .before .before .before .before .before .before .decode in
-    refused (s .args .plate) (s .args .samples .now) (s .args .word) (s .args .metrics .now) (s .args .decisions .now) _ _ (d .result) (d .ensures) _ (c .before .refusal .given .1)
+    let s = c .before .before .before .before .before .before .before .before .before .before .before .before .before .before in
+    let plate = ofParts (s .args .n) (s .args .k) (s .args .mask) (s .args .rows .now) (s .args .profile .now) in
+    let d = c .before .before .before .before .before .before .decode-prepared in
+    refused plate (s .args .samples .now) (s .args .word) (s .args .metrics .now) (s .args .decisions .now) _ _ (d .result) (d .ensures) _ (c .before .refusal .given .1)
 
-pub why-not-spec : {M : Type 1} → statement M
-why-not-spec =
+pub why-not-parts-spec : {M : Type 1} → statement M
+why-not-parts-spec =
     tie.close
     (tie.spec
-    is-prepared-requires
+    parts-prepared-requires
     returns
-    decode-requires
+    decode-prepared-requires
     enum-known-answer
     reason-for-requires
     enum-known-refusal
