@@ -2,7 +2,7 @@
 use decoding::Answer;
 use decoding::Decoded;
 use decoding::cosets::rest_of;
-use decoding::prepared::decode_prepared;
+use decoding::decode_parts;
 use plates::Refusal;
 ghost use lib.IntN.{_+ℤ_};
 ghost use lib.ListN.{length, take};
@@ -120,10 +120,7 @@ pub fn why_not_parts<'a>(
 ) -> Verdict
     ensures { λ r. ⌜ Asks (ofParts n k mask (now (rows .entry)) (now (profile .entry))) (now (samples .entry)) word (now (metrics .entry)) (now (decisions .entry)) (now (metrics .exit)) (now (decisions .exit)) r ⌝ }
 {
-    if !plates::parts_prepared(n, k, mask, rows, profile) {
-        return Verdict::Refused(Refusal::NotPrepared);
-    }
-    match decode_prepared(n, k, mask, rows, profile, samples, metrics, decisions) {
+    match decode_parts(n, k, mask, rows, profile, samples, metrics, decisions) {
         Decoded::Found(answer) => {
             Verdict::Explained(reason_for(n, k, mask, rows, samples, word, answer))
         }

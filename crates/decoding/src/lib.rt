@@ -12,7 +12,7 @@ pub mod cosets;
 pub mod firmness;
 mod live;
 mod patterns;
-pub mod prepared;
+mod prepared;
 mod rooms;
 mod samples;
 mod search;
