@@ -1,7 +1,6 @@
--- The replies of `why_not`, case by case, from what decoding replies.
+-- The replies of `why_not_parts`, case by case, from what decoding replies.
 use lib.IntN.{ℤ}
 use mathlib.Core.List.{List}
-use mathlib.Core.Logic.{inl}
 use mathlib.Core.Path.{refl, subst, _≡_}
 use Prim.Native.Nat.{ℕ}
 use Rattle.asking.specs.Asking.{Asks, Explains}
@@ -15,17 +14,15 @@ use Rattle.decoding.specs.Decode.{Decodes}
 use Rattle.plates.specs.declared.Plate.{Plate}
 use Rattle.plates.specs.declared.Refusal.{Refusal}
 use Rattle.plates.specs.declared.Refusal.the-variants.{NotPrepared}
-use Rattle.plates.specs.Prepare.{IsPrepared}
+use Rattle.plates.proofs.PreparedStable.{prepared-stable}
 use Rattle.decoding.specs.declared.Decoded.the-variants as D
 
 module _ (plate : Plate) (samples : List ℤ) (w : ℕ) (metrics : List ℤ) (decisions : List ℕ) where
-  pub refused-5 : (IsPrepared plate → ⊥) → Asks plate samples w metrics decisions metrics decisions (Refused NotPrepared)
-  refused-5 n = (inl (n, refl), refl, refl)
-
   module _ (metrics′ : List ℤ) (decisions′ : List ℕ) (r : Decoded) (d : Decodes plate samples metrics decisions metrics′ decisions′ r) where
-    pub asked-of : IsPrepared plate → (a : Answer) → r ≡ D.Found a → Asked plate samples a
-    asked-of given a e =
+    pub asked-of : (a : Answer) → r ≡ D.Found a → Asked plate samples a
+    asked-of a e =
         let x = subst (Decodes plate samples metrics decisions metrics′ decisions′) e d in
+        let given = prepared-stable (λ n. x .0 .0 NotPrepared (n, refl)) in
         record { given = given; size = samples-are-n plate samples (x .0 .1 .0); within = none-over samples (x .0 .1 .1 .0); best = x .1 }
 
     pub explained : (a : Answer) → r ≡ D.Found a → (reason : Reason) → Explains plate samples a w reason

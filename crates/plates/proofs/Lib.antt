@@ -7,6 +7,7 @@ pub mod RefusalTable
 pub mod Refusing
 pub mod LastOnesDiffer
 pub mod SoundIsPrepared
+pub mod PreparedStable
 pub mod PrepareDetermined
 pub mod Live
 pub mod ProfileSteps
