@@ -68,7 +68,16 @@ pub extern "C" fn yendrufal_branch(
     if next.len() < 1 {
         return MISSHAPEN;
     }
-    match trellises::branch(flat::plate_of(plate), depth as usize, state as usize, bit) {
+    match trellises::branch_parts(
+        plate[0] as usize,
+        plate[1] as usize,
+        plate[131],
+        &plate[2..66],
+        &plate[66..131],
+        depth as usize,
+        state as usize,
+        bit,
+    ) {
         Next::State(found) => {
             next[0] = found as u64;
             0
@@ -89,7 +98,14 @@ pub extern "C" fn yendrufal_encode(plate: &[u64], information: u64, word: &mut [
     if word.len() < 1 {
         return MISSHAPEN;
     }
-    match coding::encode(flat::plate_of(plate), information) {
+    match coding::encode_parts(
+        plate[0] as usize,
+        plate[1] as usize,
+        plate[131],
+        &plate[2..66],
+        &plate[66..131],
+        information,
+    ) {
         Encoded::Word(found) => {
             word[0] = found;
             0
@@ -109,7 +125,14 @@ pub extern "C" fn yendrufal_read_back(plate: &[u64], word: u64, information: &mu
     if information.len() < 1 {
         return MISSHAPEN;
     }
-    match coding::read_back(flat::plate_of(plate), word) {
+    match coding::read_back_parts(
+        plate[0] as usize,
+        plate[1] as usize,
+        plate[131],
+        &plate[2..66],
+        &plate[66..131],
+        word,
+    ) {
         ReadBack::Information(found) => {
             information[0] = found;
             0
@@ -129,7 +152,17 @@ pub extern "C" fn yendrufal_write_plate(plate: &[u64], line: &mut [u8], written:
     if written.len() < 1 {
         return MISSHAPEN;
     }
-    cells::written_length(listings::write_plate(flat::plate_of(plate), line), written)
+    cells::written_length(
+        listings::write_plate_parts(
+            plate[0] as usize,
+            plate[1] as usize,
+            plate[131],
+            &plate[2..66],
+            &plate[66..131],
+            line,
+        ),
+        written,
+    )
 }
 
 // The line `profile`.
@@ -148,7 +181,14 @@ pub extern "C" fn yendrufal_write_profile(
         return MISSHAPEN;
     }
     cells::written_length(
-        listings::write_profile(flat::plate_of(plate), line),
+        listings::write_profile_parts(
+            plate[0] as usize,
+            plate[1] as usize,
+            plate[131],
+            &plate[2..66],
+            &plate[66..131],
+            line,
+        ),
         written,
     )
 }
@@ -173,8 +213,12 @@ pub extern "C" fn yendrufal_write_word(
         return MISSHAPEN;
     }
     cells::written_length(
-        listings::write_word(
-            flat::plate_of(plate),
+        listings::write_word_parts(
+            plate[0] as usize,
+            plate[1] as usize,
+            plate[131],
+            &plate[2..66],
+            &plate[66..131],
             word,
             metric,
             additions,

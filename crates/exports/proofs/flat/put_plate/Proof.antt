@@ -1,6 +1,6 @@
 -- `exports::flat::put_plate` meets its contract: the three steps.
 use borrow.Author.Needs.{needs}
-use Rattle.exports.proofs.PlateStands.{put-whole}
+use Rattle.exports.proofs.PlatePut.{put-whole}
 use Rattle.exports.proofs.flat.put_plate.Statement.{statement}
 use Rattle.exports.proofs.flat.put_plate.Tie as tie
 
