@@ -11,6 +11,7 @@ pub mod PrepareDetermined
 pub mod Live
 pub mod ProfileSteps
 pub mod Deciding
+pub mod EntriesCopied
 pub mod RowsPlaced
 pub mod HeadsClear
 pub mod ProfileTested

@@ -1,6 +1,7 @@
 -- A plate is prepared exactly if it is sound, so refusal 5 is a direct test of its rows.
 use lib.ListN.{getD, length}
 use lib.Seq.{getD-take, length-take-le}
+use mathlib.Core.Bool.{Bool}
 use mathlib.Core.List.{List}
 use mathlib.Core.Logic.{inl, inr, _⊎_}
 use mathlib.Core.Path.{refl, subst, sym, _≡_}
@@ -16,10 +17,11 @@ use Rattle.plates.specs.declared.Plate.{Plate}
 use Rattle.plates.specs.declared.Refusal.{Refusal}
 use Rattle.plates.specs.declared.Refusal.the-variants.{Length, MaskBeyond, RowBeyond, TooWide}
 use Rattle.plates.specs.Heads.{RowsOf}
-use Rattle.plates.specs.Prepare.{IsPrepared, PlateOf, RowOver, Wide, prepareConditions, rowsOf}
+use Rattle.plates.specs.Prepare.{IsPrepared, PlateOf, RowOver, Tests, Wide, ofParts, prepareConditions, rowsOf}
 use Rattle.plates.specs.Profile.{liveAt}
 use Rattle.plates.specs.Refusals.{Passes}
 use Rattle.plates.specs.Sound.{Sound}
+use Rattle.plates.specs.Tested.{Decides}
 use Rattle.words.proofs.Span.{lt-tri}
 use Rattle.words.proofs.Sums.{in-xor}
 use Rattle.words.specs.Ends.{firsts, lasts}
@@ -142,3 +144,10 @@ prepared {plate} s = record { few = s .few; same = record { reply = (pass, answe
       profile = s .profile;
       unused-entries = s .unused-entries;
     }
+
+-- what the test of a plate's parts says of the plate
+pub sound-tested : (plate : Plate) {profile : List ℕ} {r : Bool} → profile ≡ plate .profile
+    → Decides (Sound (ofParts (plate .n) (plate .k) (plate .mask) (plate .rows) profile)) r → Tests plate r
+sound-tested plate {r = r} same d =
+    let s = subst (λ (p : List ℕ). Decides (Sound (ofParts (plate .n) (plate .k) (plate .mask) (plate .rows) p)) r) same d in
+    record { yes-is = λ e. prepared (s .yes-is e); no-is = λ e p. s .no-is e (sound p) }

@@ -7,16 +7,18 @@ use Prim.Native.Nat.{_+_, _<_, _^_, ℕ, _≤_}
 use Rattle.plates.proofs.HeadsClear.{cleared-reduced, reduced-cleared}
 use Rattle.plates.proofs.SoundIsPrepared.{used-row, used-rows}
 use Rattle.plates.specs.declared.Plate.{Plate}
+use Rattle.plates.specs.Prepare.{ofParts}
 use Rattle.plates.specs.Sound.{Sound}
 use Rattle.plates.specs.Tested.{Standing, UsedSound, ZeroFrom}
 
 module _ (n k mask : ℕ) (rows profile : List ℕ) (table : length rows ≡ 64) (entries : length profile ≡ 65) where
   -- the plate of these parts
   abbrev whole : Plate
-  whole = record { n = n; k = k; mask = mask; rows = rows; profile = profile }
+  whole = ofParts n k mask rows profile
 
   -- the parts make it sound
-  pub sound-parts : 1 ≤ n → n ≤ 64 → k ≤ 64 → mask < 2 ^ n → UsedSound n (take k rows) profile → ZeroFrom k rows → ZeroFrom (n + 1) profile → Sound (record { n = n; k = k; mask = mask; rows = rows; profile = profile })
+  pub sound-parts : 1 ≤ n → n ≤ 64 → k ≤ 64 → mask < 2 ^ n → UsedSound n (take k rows) profile → ZeroFrom k rows → ZeroFrom (n + 1) profile
+      → Sound (ofParts n k mask rows profile)
   sound-parts positive short few masked u r e = record {
     positive = positive;
     short = short;
@@ -33,7 +35,7 @@ module _ (n k mask : ℕ) (rows profile : List ℕ) (table : length rows ≡ 64)
   }
 
   -- a sound plate has them all
-  module _ (s : Sound (record { n = n; k = k; mask = mask; rows = rows; profile = profile })) where
+  module _ (s : Sound (ofParts n k mask rows profile)) where
     pub used-part : UsedSound n (take k rows) profile
     used-part = record {
       standing = standing;

@@ -90,6 +90,10 @@ PreparesAs conditions C n mask plate Accepted = Passes conditions × PlateOf C n
 pub record Prepares (n : ℕ) (kind : Kind) (rows : List ℕ) (mask : ℕ) (r : Prepared) : Type 0 where
   pub reply : PreparesAs (prepareConditions n kind rows mask) (InCode kind n rows) n mask (r .plate) (r .verdict)
 
+-- the plate of parts that are lent each by itself
+abbrev pub ofParts : ℕ → ℕ → ℕ → List ℕ → List ℕ → Plate
+ofParts n k mask rows profile = record { n = n; k = k; mask = mask; rows = rows; profile = profile }
+
 -- ---- refusal 5
 
 -- the plate has k at most 64, and is what preparing its own first k rows as G, with its own mask, gives

@@ -3,7 +3,7 @@ ghost use mathlib.Core.Path.{_≡_};
 ghost use Prim.Native.Nat.{ℕ, _^_, _<_, _≤_};
 ghost use lib.ListN.{getD, length};
 ghost use Rattle.plates.specs.Code.{InCode};
-ghost use Rattle.plates.specs.Prepare.{PlateOf, Prepares, Tests};
+ghost use Rattle.plates.specs.Prepare.{PlateOf, Prepares, Tests, ofParts};
 ghost use Rattle.plates.specs.Refusals.{entryOf, field, number, place, told};
 ghost use Rattle.plates.specs.Replying.{refusedWith};
 
@@ -224,9 +224,42 @@ pub fn prepare(n: usize, kind: Kind, rows: &[u64], mask: u64) -> Prepared
     }
 }
 
+// A profile's entries as words.
+pub fn widened(profile: [u8; 65]) -> [u64; 65]
+    ensures { λ r. ⌜ r ≡ profile ⌝ }
+{
+    let mut wide = [0u64; 65];
+    let mut t = 0;
+    while t < 65 {
+        wide[t] = profile[t] as u64;
+        t += 1;
+    }
+    wide
+}
+
+// Whether parts are those of a plate that preparing its own first k rows as G, with its own mask, gives.
+pub fn parts_prepared<'a>(
+    n: usize,
+    k: usize,
+    mask: u64,
+    rows: &'a [u64],
+    profile: &'a [u64],
+) -> bool
+    ensures { λ r. ⌜ Tests (ofParts n k mask (now (rows .entry)) (now (profile .entry))) r ⌝ }
+{
+    if rows.len() != 64 {
+        return false;
+    }
+    if profile.len() != 65 {
+        return false;
+    }
+    tested::sound(n, k, mask, rows, profile)
+}
+
 // Whether a plate is what preparing its own first k rows as G, with its own mask, gives.
 pub fn is_prepared(plate: Plate) -> bool
     ensures { λ r. ⌜ Tests plate r ⌝ }
 {
-    tested::sound(plate.n, plate.k, plate.mask, &plate.rows, &plate.profile)
+    let profile = widened(plate.profile);
+    tested::sound(plate.n, plate.k, plate.mask, &plate.rows, &profile)
 }

@@ -4,6 +4,7 @@ ghost use Prim.Native.Nat.{_≤_, _<_};
 ghost use lib.ListN.{length};
 ghost use Rattle.words.specs.Ends.{firsts, lasts};
 ghost use Rattle.words.specs.Span.{Spans};
+ghost use Rattle.plates.specs.Prepare.{ofParts};
 ghost use Rattle.plates.specs.Sound.{Sound};
 ghost use Rattle.plates.specs.Tested.{Decides, ByLast, MayFollow, Standing, Placed, RowEnding, HeadsOf, HeadWord, Cleared, endingAt, Profiled, UsedSound, ZeroFrom};
 use crate::matrix::reaches;
@@ -123,7 +124,7 @@ fn ending_at(by_last: &[u8; 64], t: usize) -> usize
 }
 
 // Whether an entry of the profile is the number of live rows, and at most 12.
-fn entry_is(entry: u8, live: usize) -> bool
+fn entry_is(entry: u64, live: usize) -> bool
     ensures { λ r. ⌜ Decides ((entry ≡ live) × (live ≤ 12)) r ⌝ }
 {
     if 12 < live {
@@ -133,8 +134,8 @@ fn entry_is(entry: u8, live: usize) -> bool
 }
 
 // Whether the profile is that of the rows. From depth to depth it gains 1 where a row begins, and loses 1 where one ends.
-fn profile_is(rows: &[u64], n: usize, by_last: &[u8; 64], profile: &[u8; 65]) -> bool
-    requires { ⌜ n ≤ 64 ⌝ }
+fn profile_is(rows: &[u64], n: usize, by_last: &[u8; 64], profile: &[u64]) -> bool
+    requires { ⌜ (n ≤ 64) × (length (now profile) ≡ 65) ⌝ }
     requires { ⌜ length (now rows) ≤ 64 ⌝ }
     requires { ⌜ Standing n (now rows) ⌝ }
     requires { ⌜ ByLast (now rows) (length (now rows)) (now «by_last») ⌝ }
@@ -154,8 +155,8 @@ fn profile_is(rows: &[u64], n: usize, by_last: &[u8; 64], profile: &[u8; 65]) ->
 }
 
 // Whether the rows in use, and their profile, are those of a plate.
-fn used_sound(rows: &[u64], n: usize, profile: &[u8; 65]) -> bool
-    requires { ⌜ n ≤ 64 ⌝ }
+fn used_sound(rows: &[u64], n: usize, profile: &[u64]) -> bool
+    requires { ⌜ (n ≤ 64) × (length (now profile) ≡ 65) ⌝ }
     requires { ⌜ length (now rows) ≤ 64 ⌝ }
     ensures { λ r. ⌜ Decides (UsedSound n (now (rows .entry)) (now (profile .entry))) r ⌝ }
 {
@@ -169,38 +170,24 @@ fn used_sound(rows: &[u64], n: usize, profile: &[u8; 65]) -> bool
     profile_is(rows, n, &by_last, profile)
 }
 
-// Whether the rows from a place on are zero. The loop stops nowhere, so that it takes several rows at a time.
-fn rows_zero(rows: &[u64], from: usize) -> bool
-    ensures { λ r. ⌜ Decides (ZeroFrom from (now (rows .entry))) r ⌝ }
+// Whether the words from a place on are zero. The loop stops nowhere, so that it takes several words at a time.
+fn zero_from(words: &[u64], from: usize) -> bool
+    ensures { λ r. ⌜ Decides (ZeroFrom from (now (words .entry))) r ⌝ }
 {
     let mut ones: u64 = 0;
     let mut i = from;
-    while i < rows.len() {
-        ones = ones | rows[i];
-        i += 1;
-    }
-    ones == 0
-}
-
-// Whether the entries of a profile from a place on are zero.
-fn entries_zero(entries: &[u8; 65], from: usize) -> bool
-    requires { ⌜ length (now entries) ≡ 65 ⌝ }
-    ensures { λ r. ⌜ Decides (ZeroFrom from (now (entries .entry))) r ⌝ }
-{
-    let mut ones: u8 = 0;
-    let mut i = from;
-    while i < 65 {
-        ones = ones | entries[i];
+    while i < words.len() {
+        ones = ones | words[i];
         i += 1;
     }
     ones == 0
 }
 
 // Whether all that can be tested of a plate holds.
-pub fn sound<'a>(n: usize, k: usize, mask: u64, rows: &'a [u64], profile: &'a [u8; 65]) -> bool
+pub fn sound<'a>(n: usize, k: usize, mask: u64, rows: &'a [u64], profile: &'a [u64]) -> bool
     requires { ⌜ length (now rows) ≡ 64 ⌝ }
     requires { ⌜ length (now profile) ≡ 65 ⌝ }
-    ensures { λ r. ⌜ Decides (Sound (record { n = n; k = k; mask = mask; rows = now (rows .entry); profile = now (profile .entry) })) r ⌝ }
+    ensures { λ r. ⌜ Decides (Sound (ofParts n k mask (now (rows .entry)) (now (profile .entry)))) r ⌝ }
 {
     if n == 0 {
         return false;
@@ -217,8 +204,8 @@ pub fn sound<'a>(n: usize, k: usize, mask: u64, rows: &'a [u64], profile: &'a [u
     if !used_sound(&rows[..k], n, profile) {
         return false;
     }
-    if !rows_zero(rows, k) {
+    if !zero_from(rows, k) {
         return false;
     }
-    entries_zero(profile, n + 1)
+    zero_from(profile, n + 1)
 }

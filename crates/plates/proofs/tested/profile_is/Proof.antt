@@ -15,13 +15,16 @@ abbrev μ-loop : tie.MeasureT-loop
 μ-loop rows n by-last profile heads live₀ t₀ live t = n - t
 
 all-heads-requires : tie.Need-all-heads-requires Inv-loop μ-loop
-all-heads-requires c κs = c .before .pre .1 .1 .0 .spans
+all-heads-requires c κs = c .before .before .pre .1 .1 .0 .spans
 
 loop-holds : tie.Need-loop-holds Inv-loop μ-loop
-loop-holds c = profiled-none _ _ (c .before .before .pre .1 .1 .0) _
+loop-holds c = profiled-none _ _ (c .before .before .before .pre .1 .1 .0) _
 
-element-copy-out-entry-is : tie.Need-element-copy-out-entry-is Inv-loop μ-loop
-element-copy-out-entry-is c = omega (arith, c .before .before .before .before .pre .0)
+mul-entry-is : tie.Need-mul-entry-is Inv-loop μ-loop
+mul-entry-is c = search needs
+
+shared-slice-read-entry-is : tie.Need-shared-slice-read-entry-is Inv-loop μ-loop
+shared-slice-read-entry-is c = let p = c .before .before .before .before .before .before .pre in omega (arith, c .before .loop-test .taken, p .0 .0, p .0 .1)
 
 entry-is-requires : tie.Need-entry-is-requires Inv-loop μ-loop
 entry-is-requires c κs = search needs
@@ -29,8 +32,8 @@ entry-is-requires c κs = search needs
 returns : tie.Need-returns Inv-loop μ-loop
 returns c =
     let h = c .before .before .before in
-    let p = h .before .before .before .before .pre in
-    fails (profiled-stop _ _ (p .1 .1 .0) (p .1 .0) (p .0) _ _ _ _ _ (h .before .before .all-heads .ensures) (p .1 .1 .1) (h .before .loop .inv) (h .loop-test .taken)
+    let p = h .before .before .before .before .before .pre in
+    fails (profiled-stop _ _ (p .1 .1 .0) (p .1 .0) (p .0 .0) _ _ _ _ _ (h .before .before .all-heads .ensures) (p .1 .1 .1) (h .before .loop .inv) (h .loop-test .taken)
     (failed (c .before .entry-is .ensures) (c .if1 .taken)))
 
 bit-at-requires : tie.Need-bit-at-requires Inv-loop μ-loop
@@ -42,17 +45,17 @@ add-live c =
     record { fits = omega (arith, e .1, c .bit-at .ensures, bit-lt (c .before .before .before .before .before .loop .t) (c .before .before .before .before .before .before .all-heads .result)) }
 
 ending-at-requires : tie.Need-ending-at-requires Inv-loop μ-loop
-ending-at-requires c κs = omega (arith, c .before .before .before .before .before .before .before .before .pre .0)
+ending-at-requires c κs = omega (arith, c .before .before .before .before .before .before .before .before .before .pre .0 .0)
 
 sub-live : tie.Need-sub-live Inv-loop μ-loop
 sub-live c =
     let h = c .before .before .before .before .before in
-    let p = h .before .before .before .before .pre in
+    let p = h .before .before .before .before .before .pre in
     omega (
       arith,
       c .ending-at .ensures,
       c .before .bit-at .ensures,
-      next-live _ _ (p .1 .1 .0) (p .1 .0) (p .0) _ _ _ _ _ (h .before .before .all-heads .ensures) (p .1 .1 .1) (h .before .loop .inv) (h .loop-test .taken),
+      next-live _ _ (p .1 .1 .0) (p .1 .0) (p .0 .0) _ _ _ _ _ (h .before .before .all-heads .ensures) (p .1 .1 .1) (h .before .loop .inv) (h .loop-test .taken),
     )
 
 add-t : tie.Need-add-t Inv-loop μ-loop
@@ -64,16 +67,19 @@ loop-less c = search needs
 loop-again : tie.Need-loop-again Inv-loop μ-loop
 loop-again c =
     let h = c .before .before .before .before .before in
-    let p = h .before .before .before .before .pre in
+    let p = h .before .before .before .before .before .pre in
     rw (c .ending-at .ensures, c .before .bit-at .ensures)
-    (profiled-more _ _ (p .1 .1 .0) (p .1 .0) (p .0) _ _ _ _ _ (h .before .before .all-heads .ensures) (p .1 .1 .1) (h .before .loop .inv) (h .loop-test .taken)
+    (profiled-more _ _ (p .1 .1 .0) (p .1 .0) (p .0 .0) _ _ _ _ _ (h .before .before .all-heads .ensures) (p .1 .1 .1) (h .before .loop .inv) (h .loop-test .taken)
     (held (c .before .before .before .entry-is .ensures) (c .before .before .if1 .left)))
 
-element-copy-out-result : tie.Need-element-copy-out-result Inv-loop μ-loop
-element-copy-out-result c = omega (arith, c .before .before .before .before .pre .0)
+mul-result : tie.Need-mul-result Inv-loop μ-loop
+mul-result c = search needs
+
+shared-slice-read-result : tie.Need-shared-slice-read-result Inv-loop μ-loop
+shared-slice-read-result c = let p = c .before .before .before .before .before .before .pre in omega (arith, p .0 .0, p .0 .1)
 
 returns-2 : tie.Need-returns-2 Inv-loop μ-loop
-returns-2 c = profiled-all _ _ (c .before .before .before .before .before .pre .1 .1 .0) _ _ _ (c .before .loop-test .left) (c .before .before .loop .inv)
+returns-2 c = profiled-all _ _ (c .before .before .before .before .before .before .pre .1 .1 .0) _ _ _ (c .before .loop-test .left) (c .before .before .loop .inv)
 
 pub profile-is-spec : {M : Type 1} → statement M
 profile-is-spec =
@@ -83,7 +89,8 @@ profile-is-spec =
     μ-loop
     all-heads-requires
     loop-holds
-    element-copy-out-entry-is
+    mul-entry-is
+    shared-slice-read-entry-is
     entry-is-requires
     returns
     bit-at-requires
@@ -93,5 +100,6 @@ profile-is-spec =
     add-t
     loop-less
     loop-again
-    element-copy-out-result
+    mul-result
+    shared-slice-read-result
     returns-2)

@@ -28,46 +28,47 @@ returns-4 c = fails (λ s. omega (arith, s .masked, c .before .reaches .ensures 
 slice-aggregate-used-sound : tie.Need-slice-aggregate-used-sound
 slice-aggregate-used-sound c =
     let ranged = c .before .before .before in
-    sym (length-take-le _ _ (omega (arith, ranged .before .before .before .before .pre .0, ranged .if3 .left)))
+    sym (length-take-le _ _ (omega (arith, ranged .before .before .before .before .before .pre .0, ranged .if3 .left)))
 
 used-sound-requires : tie.Need-used-sound-requires
 used-sound-requires c κs =
     let ranged = c .before .before .before in
-    let a = ranged .before .before .before .before .args in
-    (ranged .before .if2 .left, omega (arith, length-take (a .k) (a .rows .now), ranged .if3 .left))
+    let start = ranged .before .before .before .before .before in
+    let a = start .args in
+    ((ranged .before .if2 .left, start .pre .1), omega (arith, length-take (a .k) (a .rows .now), ranged .if3 .left))
 
 returns-5 : tie.Need-returns-5
 returns-5 c =
     let ranged = c .before .before .before .before .before in
-    let p = ranged .before .before .before .before .pre in
+    let p = ranged .before .before .before .before .before .pre in
     fails (λ s. failed (c .before .used-sound .ensures) (c .if5 .taken) (used-part _ _ _ _ _ (p .0) (p .1) s))
 
-rows-zero-requires : tie.Need-rows-zero-requires
-rows-zero-requires c κs = search needs
+zero-from-requires : tie.Need-zero-from-requires
+zero-from-requires c κs = search needs
 
 returns-6 : tie.Need-returns-6
 returns-6 c =
     let ranged = c .before .before .before .before .before .before .before in
-    let p = ranged .before .before .before .before .pre in
-    fails (λ s. failed (c .before .rows-zero .ensures) (c .if6 .taken) (rows-part _ _ _ _ _ (p .0) (p .1) s _ (omega (arith, ranged .if3 .left))))
+    let p = ranged .before .before .before .before .before .pre in
+    fails (λ s. failed (c .before .zero-from .ensures) (c .if6 .taken) (rows-part _ _ _ _ _ (p .0) (p .1) s _ (omega (arith, ranged .if3 .left))))
 
-add-entries-zero : tie.Need-add-entries-zero
-add-entries-zero c = search needs
+add-zero-from : tie.Need-add-zero-from
+add-zero-from c = search needs
 
-entries-zero-requires : tie.Need-entries-zero-requires
-entries-zero-requires c κs = c .before .before .before .before .before .before .before .before .before .before .before .pre .1
+zero-from-requires-2 : tie.Need-zero-from-requires-2
+zero-from-requires-2 c κs = search needs
 
 returns-7 : tie.Need-returns-7
 returns-7 c =
     let u = c .before .before .before in
     let m = u .before .before .before in
     let b = m .before .before in
-    let p = b .before .before .before .before .pre in
+    let p = b .before .before .before .before .before .pre in
     alike
     (λ e. sound-parts _ _ _ _ _ (p .0) (p .1) (omega (arith, b .before .before .if1 .left)) (b .before .if2 .left) (b .if3 .left)
     (mask-short (m .before .reaches .ensures) (m .if4 .left)) (held (u .before .used-sound .ensures) (u .if5 .left))
-    (held (c .before .before .rows-zero .ensures) (c .before .if6 .left)) e)
-    (entries-part _ _ _ _ _ (p .0) (p .1)) (c .entries-zero .ensures)
+    (held (c .before .before .zero-from .ensures) (c .before .if6 .left)) e)
+    (entries-part _ _ _ _ _ (p .0) (p .1)) (c .zero-from2 .ensures)
 
 pub sound-spec : {M : Type 1} → statement M
 sound-spec =
@@ -81,8 +82,8 @@ sound-spec =
     slice-aggregate-used-sound
     used-sound-requires
     returns-5
-    rows-zero-requires
+    zero-from-requires
     returns-6
-    add-entries-zero
-    entries-zero-requires
+    add-zero-from
+    zero-from-requires-2
     returns-7)

@@ -6,23 +6,23 @@ use Rattle.plates.proofs.tested.used_sound.Statement.{statement}
 use Rattle.plates.proofs.tested.used_sound.Tie as tie
 
 place-rows-requires : tie.Need-place-rows-requires
-place-rows-requires c κs = let p = c .before .before .pre in (p .0, (p .1, empty-table _))
+place-rows-requires c κs = let p = c .before .before .before .pre in (p .0 .0, (p .1, empty-table _))
 
 returns : tie.Need-returns
 returns c = fails (λ u. failed (c .before .place-rows .ensures .decides) (c .if1 .taken) (u .standing))
 
 heads-clear-requires : tie.Need-heads-clear-requires
 heads-clear-requires c κs =
-    let p = c .before .before .before .before .before .pre in
+    let p = c .before .before .before .before .before .before .pre in
     let e = c .before .before .place-rows .ensures in
-    (p .0, (p .1, (held (e .decides) (c .before .if1 .left), e .by-last (not-false _ (c .before .if1 .left)))))
+    (p .0 .0, (p .1, (held (e .decides) (c .before .if1 .left), e .by-last (not-false _ (c .before .if1 .left)))))
 
 returns-2 : tie.Need-returns-2
 returns-2 c = fails (λ u. failed (c .before .heads-clear .ensures) (c .if2 .taken) (u .cleared))
 
 profile-is-requires : tie.Need-profile-is-requires
 profile-is-requires c κs =
-    let p = c .before .before .before .before .before .before .before .before .pre in
+    let p = c .before .before .before .before .before .before .before .before .before .pre in
     let b = c .before .before .before .before in
     let e = b .before .place-rows .ensures in
     (p .0, (p .1, (held (e .decides) (b .if1 .left), e .by-last (not-false _ (b .if1 .left)))))
