@@ -118,4 +118,3 @@ module _ {plate : Plate} {p : Bool} (t : Tests plate p) where
 
       pub informed : r .rest ≡ 0 → ReadsBack plate word (R.Information (r .information))
       informed = read-information given word r read
-
