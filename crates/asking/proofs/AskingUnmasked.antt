@@ -1,4 +1,4 @@
--- With a zero mask the promise of `why_not` is the earlier one, over the codewords.
+-- With a zero mask the promise of `why_not_parts` is the earlier one, over the codewords.
 use lib.IntN.{ℤ}
 use mathlib.Core.List.{List}
 use mathlib.Core.Logic.{_↔_}

@@ -1,4 +1,4 @@
--- The replies of `why_not`, case by case, from what decoding replies.
+-- The replies of `why_not_parts`, case by case, from what decoding replies.
 use lib.IntN.{ℤ}
 use mathlib.Core.List.{List}
 use mathlib.Core.Logic.{inl}

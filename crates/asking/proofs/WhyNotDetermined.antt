@@ -1,4 +1,4 @@
--- Determined: two replies of `why_not`, with both rooms, that meet its promise are equal; and a reason is given exactly when it holds.
+-- Determined: two replies of `why_not_parts`, with both rooms, that meet its promise are equal; and a reason is given exactly when it holds.
 use lib.IntN.{ℤ}
 use mathlib.Core.List.{List}
 use mathlib.Core.Logic.{_↔_}

@@ -6,7 +6,7 @@ use mathlib.Core.List.{List}
 use mathlib.Core.Path.{_≡_}
 use Rattle.words.specs.Span.{First}
 use Rattle.plates.specs.declared.Plate.{Plate}
-use Rattle.plates.specs.Prepare.{IsPrepared}
+use Rattle.plates.specs.Prepare.{IsPrepared, ofParts}
 use Rattle.decoding.specs.declared.Answer.{Answer}
 use Rattle.decoding.specs.Decode.{Best}
 use Rattle.decoding.specs.Metric.{limit}
@@ -31,3 +31,8 @@ pub record Asked (plate : Plate) (samples : List ℤ) (a : Answer) : Type 0 wher
   pub size : length samples ≡ plate .n
   pub within : (i : ℕ) → i < length samples → natAbs (getD samples i (pos 0)) ≤ limit
   pub best : Best plate samples a
+
+-- the same, where the plate is lent in parts and the profile is not needed
+pub record AskedOf (n k mask : ℕ) (rows : List ℕ) (samples : List ℤ) (a : Answer) : Type 0 where
+  pub profile : List ℕ
+  pub asked : Asked (ofParts n k mask rows profile) samples a

@@ -2,17 +2,20 @@
 use decoding::Answer;
 use decoding::Decoded;
 use decoding::cosets::rest_of;
-use plates::Plate;
+use decoding::prepared::decode_prepared;
 use plates::Refusal;
 ghost use lib.IntN.{_+ℤ_};
 ghost use lib.ListN.{length, take};
 ghost use mathlib.Core.Path.{_≡_};
 ghost use Prim.Native.Nat.{_≤_};
-ghost use Rattle.asking.specs.Asking.{Asks, Explains};
-ghost use Rattle.asking.specs.Working.{AddingFits, Asked, FirstStop, Sampled};
+ghost use Rattle.asking.specs.Asking.{Asks, ExplainsIn};
+ghost use Rattle.asking.specs.Working.{AddingFits, AskedOf, FirstStop, Sampled};
 ghost use Rattle.decoding.specs.Cosets.{takenOff};
 ghost use Rattle.decoding.specs.Metric.{metricOf};
 ghost use Rattle.decoding.specs.Taking.{signed};
+ghost use Rattle.plates.specs.Code.{Masked};
+ghost use Rattle.plates.specs.Prepare.{ofParts};
+ghost use Rattle.words.specs.Sum.{IsSum};
 
 // Why a word was chosen or not.
 pub enum Reason {
@@ -74,16 +77,24 @@ fn metric_of(samples: &[i16], word: u64) -> i32
 }
 
 // Why a word is not the answer, or that it is.
-fn reason_for(plate: Plate, samples: &[i16], word: u64, answer: Answer) -> Reason
-    requires { ⌜ Asked plate (now samples) answer ⌝ }
-    ensures { λ r. ⌜ Explains plate (now (samples .entry)) answer word r ⌝ }
+fn reason_for(
+    n: usize,
+    k: usize,
+    mask: u64,
+    rows: &[u64],
+    samples: &[i16],
+    word: u64,
+    answer: Answer,
+) -> Reason
+    requires { ⌜ AskedOf n k mask (now rows) (now samples) answer ⌝ }
+    ensures { λ r. ⌜ ExplainsIn (Masked (IsSum (take k (now (rows .entry)))) mask) n (now (samples .entry)) answer word r ⌝ }
 {
     if word == answer.word {
         return Reason::Chosen;
     }
-    let rest = left_of(&plate.rows, plate.k, word ^ plate.mask);
+    let rest = left_of(rows, k, word ^ mask);
     if rest != 0 {
-        return Reason::NoCodeword(stop_of(rest, plate.n));
+        return Reason::NoCodeword(stop_of(rest, n));
     }
     let metric = metric_of(samples, word);
     let best = answer.metric;
@@ -94,21 +105,28 @@ fn reason_for(plate: Plate, samples: &[i16], word: u64, answer: Answer) -> Reaso
     Reason::TiesAndLoses(words::first_one(word ^ answer.word))
 }
 
-// Why a word was not the one that decoding picks: it was chosen, it is no codeword, it scores less, or it ties and loses.
-pub fn why_not(
-    plate: Plate,
+// Why a word was not the one that decoding picks: it was chosen, it is no codeword, it scores less, or it ties and loses. The plate is lent in
+// parts: rows and profile are 64 and 65 words.
+pub fn why_not_parts<'a>(
+    n: usize,
+    k: usize,
+    mask: u64,
+    rows: &'a [u64],
+    profile: &'a [u64],
     samples: &[i16],
     word: u64,
     metrics: &mut [i32],
     decisions: &mut [u64],
 ) -> Verdict
-    ensures { λ r. ⌜ Asks plate (now (samples .entry)) word (now (metrics .entry)) (now (decisions .entry)) (now (metrics .exit)) (now (decisions .exit)) r ⌝ }
+    ensures { λ r. ⌜ Asks (ofParts n k mask (now (rows .entry)) (now (profile .entry))) (now (samples .entry)) word (now (metrics .entry)) (now (decisions .entry)) (now (metrics .exit)) (now (decisions .exit)) r ⌝ }
 {
-    if !plates::is_prepared(plate) {
+    if !plates::parts_prepared(n, k, mask, rows, profile) {
         return Verdict::Refused(Refusal::NotPrepared);
     }
-    match decoding::decode(plate, samples, metrics, decisions) {
-        Decoded::Found(answer) => Verdict::Explained(reason_for(plate, samples, word, answer)),
+    match decode_prepared(n, k, mask, rows, profile, samples, metrics, decisions) {
+        Decoded::Found(answer) => {
+            Verdict::Explained(reason_for(n, k, mask, rows, samples, word, answer))
+        }
         Decoded::Refused(refusal) => Verdict::Refused(refusal),
     }
 }

@@ -3,7 +3,7 @@ use lib.IntN.{natAbs, pos, ℤ}
 use lib.ListN.{drop, getD, length, replicate}
 use mathlib.Core.List.{_++_, List}
 use mathlib.Core.Logic.{inl, inr}
-use mathlib.Core.Path.{refl, _≡_}
+use mathlib.Core.Path.{refl, subst, _≡_}
 use native.Mathlib.Omega.{arith}
 use Prim.Native.Nat.{_<_, ℕ, _≤_}
 use Rattle.decoding.proofs.BestWord.{best-word}
@@ -11,6 +11,7 @@ use Rattle.decoding.proofs.PlateSizes.{plateSizes}
 use Rattle.decoding.proofs.SampleLimits.{within-passes}
 use Rattle.decoding.proofs.ZeroedRooms.{zeroed}
 use Rattle.decoding.specs.declared.Answer.{Answer}
+use Rattle.decoding.specs.declared.Decoded.{Decoded}
 use Rattle.decoding.specs.declared.Decoded.the-variants.{Found, Refused}
 use Rattle.decoding.specs.Decode.{Decodes, SampleOver, decisionNeed, decodeConditions, metricNeed}
 use Rattle.decoding.specs.Metric.{limit}
@@ -19,9 +20,16 @@ use Rattle.decoding.specs.Sweeping.{RoomsFit}
 use Rattle.plates.specs.declared.Plate.{Plate}
 use Rattle.plates.specs.declared.Refusal.{Refusal}
 use Rattle.plates.specs.declared.Refusal.the-variants.{DecisionRoom, MetricRoom, NotPrepared, SampleCount, SampleRange}
-use Rattle.plates.specs.Prepare.{IsPrepared}
+use Rattle.plates.specs.Prepare.{IsPrepared, ofParts}
 use Rattle.plates.specs.Refusals.{Passes}
 use Rattle.trellises.proofs.NextIsBranch.{found}
+
+-- what a plate's parts are replied is what the plate is, where the profile was widened
+pub by-parts : (plate : Plate) (samples metrics : List ℤ) (decisions : List ℕ) (metrics′ : List ℤ) (decisions′ : List ℕ) (r : Decoded) {profile : List ℕ} → profile ≡ plate .profile
+    → Decodes (ofParts (plate .n) (plate .k) (plate .mask) (plate .rows) profile) samples metrics decisions metrics′ decisions′ r
+    → Decodes plate samples metrics decisions metrics′ decisions′ r
+by-parts plate samples metrics decisions metrics′ decisions′ r same d =
+    subst (λ (p : List ℕ). Decodes (ofParts (plate .n) (plate .k) (plate .mask) (plate .rows) p) samples metrics decisions metrics′ decisions′ r) same d
 
 module _ (plate : Plate) (samples metrics : List ℤ) (decisions : List ℕ) where
   abbrev conditions : List (Refusal → Type 0)

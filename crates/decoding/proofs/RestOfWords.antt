@@ -65,6 +65,14 @@ pub off-below : (n : ℕ) (rows : List ℕ) (w : ℕ) → ((j : ℕ) → j < len
 off-below n rows w below h =
     below-bits n (takenOff rows w) (λ i k. off-keeps rows w i (λ j l. bits-below n (getD rows j 0) (below j l) i k) ∙ bits-below n w h i k)
 
+-- nothing is taken off no ones
+pub off-zero : (rows : List ℕ) → takenOff rows 0 ≡ 0
+off-zero [] = refl
+off-zero (row ∷ rows) = ap (takenOff rows) none ∙ off-zero rows
+  where
+    none : lessRow row 0 ≡ 0
+    none = ap (λ (d : ℕ). bitXor (taken d row) 0) (bit-zero (first row))
+
 -- ---- determined
 
 pub rest-determined : (rows : List ℕ) (word r s : ℕ) → r ≡ takenOff rows word → s ≡ takenOff rows word → r ≡ s

@@ -5,9 +5,9 @@ use crate::rooms::clear_metrics;
 use crate::rooms::sizes_of;
 use crate::samples::first_over;
 use crate::search::search_metric;
-use plates::Plate;
 use plates::Refusal;
 ghost use Rattle.decoding.specs.Apart.{Chooses, Measures};
+ghost use Rattle.plates.specs.Prepare.{ofParts};
 
 // The best metric, and what the steps counted.
 pub struct Measure {
@@ -34,13 +34,20 @@ pub enum Chosen {
 }
 
 // The greatest correlation that any word of a prepared plate has with the samples; no decision is kept.
-pub fn best_metric(plate: Plate, samples: &[i16], metrics: &mut [i32]) -> Measured
-    ensures { λ r. ⌜ Measures plate (now (samples .entry)) (now (metrics .entry)) (now (metrics .exit)) r ⌝ }
+pub fn best_metric_parts<'a>(
+    n: usize,
+    k: usize,
+    mask: u64,
+    rows: &'a [u64],
+    profile: &'a [u64],
+    samples: &[i16],
+    metrics: &mut [i32],
+) -> Measured
+    ensures { λ r. ⌜ Measures (ofParts n k mask (now (rows .entry)) (now (profile .entry))) (now (samples .entry)) (now (metrics .entry)) (now (metrics .exit)) r ⌝ }
 {
-    if !plates::is_prepared(plate) {
+    if !plates::parts_prepared(n, k, mask, rows, profile) {
         return Measured::Refused(Refusal::NotPrepared);
     }
-    let n = plate.n;
     if samples.len() != n {
         return Measured::Refused(Refusal::SampleCount);
     }
@@ -48,26 +55,30 @@ pub fn best_metric(plate: Plate, samples: &[i16], metrics: &mut [i32]) -> Measur
     if over < n {
         return Measured::Refused(Refusal::SampleRange(over));
     }
-    let sizes = sizes_of(n, plate.k, plate.mask, &plate.rows, &plate.profile);
+    let sizes = sizes_of(n, k, mask, rows, profile);
     let metric_need = sizes.half + sizes.half;
     if metrics.len() < metric_need {
         return Measured::Refused(Refusal::MetricRoom);
     }
-    let measure = search_metric(&plate.rows, sizes, samples, &mut *metrics);
+    let measure = search_metric(rows, sizes, samples, &mut *metrics);
     clear_metrics(&mut *metrics, metric_need);
     Measured::Found(measure)
 }
 
 // The word that decoding finds, without its metric.
-pub fn best_word(
-    plate: Plate,
+pub fn best_word_parts<'a>(
+    n: usize,
+    k: usize,
+    mask: u64,
+    rows: &'a [u64],
+    profile: &'a [u64],
     samples: &[i16],
     metrics: &mut [i32],
     decisions: &mut [u64],
 ) -> Chosen
-    ensures { λ r. ⌜ Chooses plate (now (samples .entry)) (now (metrics .entry)) (now (decisions .entry)) (now (metrics .exit)) (now (decisions .exit)) r ⌝ }
+    ensures { λ r. ⌜ Chooses (ofParts n k mask (now (rows .entry)) (now (profile .entry))) (now (samples .entry)) (now (metrics .entry)) (now (decisions .entry)) (now (metrics .exit)) (now (decisions .exit)) r ⌝ }
 {
-    match crate::decode(plate, samples, metrics, decisions) {
+    match crate::decode_parts(n, k, mask, rows, profile, samples, metrics, decisions) {
         Decoded::Found(answer) => {
             let counts = answer.counts;
             Chosen::Found(Selection {

@@ -9,14 +9,14 @@ use crate::sweep::Forced;
 use crate::sweep::Sizes;
 use crate::sweep::gain;
 use crate::sweep::sweep;
-use plates::Plate;
 use plates::Refusal;
-ghost use lib.ListN.{take};
+ghost use lib.ListN.{length, take};
 ghost use Prim.Native.Nat.{_<_, _≤_};
 ghost use Rattle.decoding.specs.Firmness.{Judges};
 ghost use Rattle.decoding.specs.Forcing.{BestForced, FirstWith, ReadAt};
 ghost use Rattle.decoding.specs.LiveRows.{EndsAre};
 ghost use Rattle.decoding.specs.Sweeping.{RoomsFit, SizesFit};
+ghost use Rattle.plates.specs.Prepare.{ofParts};
 
 // What forces a position: more than all other positions together can add or take.
 const FORCING: i32 = 262144;
@@ -40,8 +40,8 @@ pub enum Judged {
 }
 
 // The first row with a one at a position; k where there is none.
-fn first_with(rows: &[u64; 64], k: usize, position: usize) -> usize
-    requires { ⌜ k ≤ 64 ⌝ }
+fn first_with(rows: &[u64], k: usize, position: usize) -> usize
+    requires { ⌜ k ≤ length (now rows) ⌝ }
     ensures { λ r. ⌜ FirstWith (now (rows .entry)) k position r ⌝ }
 {
     let mut j = 0;
@@ -56,7 +56,7 @@ fn first_with(rows: &[u64; 64], k: usize, position: usize) -> usize
 
 // The best metric among the words that have a bit at a position: the position is forced to the bit, and its own sample added.
 fn best_with(
-    rows: &[u64; 64],
+    rows: &[u64],
     sizes: Sizes,
     ends: &[u8; 64],
     samples: &[i16],
@@ -92,7 +92,7 @@ fn best_with(
 
 // The reading of a position, before the rooms are put to zero.
 fn reading_at(
-    rows: &[u64; 64],
+    rows: &[u64],
     sizes: Sizes,
     samples: &[i16],
     position: usize,
@@ -135,19 +135,22 @@ fn reading_at(
 
 // How firmly a position was received: its bit where every word has the same there, else the best metric among the words with 0 there minus
 // the best among those with 1.
-pub fn firmness(
-    plate: Plate,
+pub fn firmness_parts<'a>(
+    n: usize,
+    k: usize,
+    mask: u64,
+    rows: &'a [u64],
+    profile: &'a [u64],
     samples: &[i16],
     position: usize,
     metrics: &mut [i32],
     decisions: &mut [u64],
 ) -> Judged
-    ensures { λ r. ⌜ Judges plate (now (samples .entry)) position (now (metrics .entry)) (now (decisions .entry)) (now (metrics .exit)) (now (decisions .exit)) r ⌝ }
+    ensures { λ r. ⌜ Judges (ofParts n k mask (now (rows .entry)) (now (profile .entry))) (now (samples .entry)) position (now (metrics .entry)) (now (decisions .entry)) (now (metrics .exit)) (now (decisions .exit)) r ⌝ }
 {
-    if !plates::is_prepared(plate) {
+    if !plates::parts_prepared(n, k, mask, rows, profile) {
         return Judged::Refused(Refusal::NotPrepared);
     }
-    let n = plate.n;
     if samples.len() != n {
         return Judged::Refused(Refusal::SampleCount);
     }
@@ -155,7 +158,7 @@ pub fn firmness(
     if over < n {
         return Judged::Refused(Refusal::SampleRange(over));
     }
-    let sizes = sizes_of(n, plate.k, plate.mask, &plate.rows, &plate.profile);
+    let sizes = sizes_of(n, k, mask, rows, profile);
     let metric_need = sizes.half + sizes.half;
     let decision_need = n * sizes.words;
     if n <= position {
@@ -168,7 +171,7 @@ pub fn firmness(
         return Judged::Refused(Refusal::DecisionRoom);
     }
     let reading = reading_at(
-        &plate.rows,
+        rows,
         sizes,
         samples,
         position,

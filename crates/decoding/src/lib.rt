@@ -1,12 +1,9 @@
 // Decoding: the word of a plate that has the greatest correlation with soft samples.
-use crate::rooms::clear_decisions;
-use crate::rooms::clear_metrics;
-use crate::rooms::sizes_of;
-use crate::samples::first_over;
-use crate::search::search;
+use crate::prepared::decode_prepared;
 use plates::Plate;
 use plates::Refusal;
 ghost use Rattle.decoding.specs.Decode.{Decodes};
+ghost use Rattle.plates.specs.Prepare.{ofParts};
 
 pub mod apart;
 mod blocks;
@@ -15,6 +12,7 @@ pub mod cosets;
 pub mod firmness;
 mod live;
 mod patterns;
+pub mod prepared;
 mod rooms;
 mod samples;
 mod search;
@@ -44,32 +42,39 @@ pub enum Decoded {
     Refused(Refusal),
 }
 
-// The word of a prepared plate that has the greatest correlation with the samples, of equals the one with 0 at the first difference.
+// The word of a prepared plate that has the greatest correlation with the samples, of equals the one with 0 at the first difference. The
+// plate is lent in parts: rows and profile are 64 and 65 words.
+pub fn decode_parts<'a>(
+    n: usize,
+    k: usize,
+    mask: u64,
+    rows: &'a [u64],
+    profile: &'a [u64],
+    samples: &[i16],
+    metrics: &mut [i32],
+    decisions: &mut [u64],
+) -> Decoded
+    ensures { λ r. ⌜ Decodes (ofParts n k mask (now (rows .entry)) (now (profile .entry))) (now (samples .entry)) (now (metrics .entry)) (now (decisions .entry)) (now (metrics .exit)) (now (decisions .exit)) r ⌝ }
+{
+    if plates::parts_prepared(n, k, mask, rows, profile) {
+        return decode_prepared(n, k, mask, rows, profile, samples, metrics, decisions);
+    }
+    Decoded::Refused(Refusal::NotPrepared)
+}
+
+// The same of a plate by value.
 pub fn decode(plate: Plate, samples: &[i16], metrics: &mut [i32], decisions: &mut [u64]) -> Decoded
     ensures { λ r. ⌜ Decodes plate (now (samples .entry)) (now (metrics .entry)) (now (decisions .entry)) (now (metrics .exit)) (now (decisions .exit)) r ⌝ }
 {
-    if !plates::is_prepared(plate) {
-        return Decoded::Refused(Refusal::NotPrepared);
-    }
-    let n = plate.n;
-    if samples.len() != n {
-        return Decoded::Refused(Refusal::SampleCount);
-    }
-    let over = first_over(samples);
-    if over < n {
-        return Decoded::Refused(Refusal::SampleRange(over));
-    }
-    let sizes = sizes_of(n, plate.k, plate.mask, &plate.rows, &plate.profile);
-    let metric_need = sizes.half + sizes.half;
-    let decision_need = n * sizes.words;
-    if metrics.len() < metric_need {
-        return Decoded::Refused(Refusal::MetricRoom);
-    }
-    if decisions.len() < decision_need {
-        return Decoded::Refused(Refusal::DecisionRoom);
-    }
-    let answer = search(&plate.rows, sizes, samples, &mut *metrics, &mut *decisions);
-    clear_metrics(&mut *metrics, metric_need);
-    clear_decisions(&mut *decisions, decision_need);
-    Decoded::Found(answer)
+    let profile = plates::widened(plate.profile);
+    decode_parts(
+        plate.n,
+        plate.k,
+        plate.mask,
+        &plate.rows,
+        &profile,
+        samples,
+        metrics,
+        decisions,
+    )
 }

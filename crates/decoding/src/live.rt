@@ -27,7 +27,7 @@ pub struct Beginning {
 }
 
 // For each position, one more than the row that ends there, and 0 where none does.
-pub fn ending_rows(rows: &[u64; 64], k: usize) -> [u8; 64]
+pub fn ending_rows(rows: &[u64], k: usize) -> [u8; 64]
     requires { ⌜ PlateRows (now rows) k ⌝ }
     ensures { λ r. ⌜ EndsAre (take k (now (rows .entry))) r ⌝ }
 {
@@ -53,7 +53,7 @@ pub fn mark_of(following: u8) -> u64
 }
 
 // Row `next` and its bit, where that row begins at t; 0 and 0 where it does not, and where there is no such row.
-pub fn row_beginning(rows: &[u64; 64], k: usize, next: usize, t: usize) -> Beginning
+pub fn row_beginning(rows: &[u64], k: usize, next: usize, t: usize) -> Beginning
     requires { ⌜ PlateRows (now rows) k ⌝ }
     requires { ⌜ next ≡ begunBefore (take k (now rows)) t ⌝ }
     ensures { λ r. ⌜ BeginsHere (take k (now (rows .entry))) t r ⌝ }
@@ -95,7 +95,7 @@ pub fn leads(active: u64, following: u8, branch: usize) -> usize
 }
 
 // The active rows but for the one that begins at t: of the rows begun by the section's far side it is the last.
-fn rows_before(rows: &[u64; 64], active: u64, next: usize, t: usize) -> Live
+fn rows_before(rows: &[u64], active: u64, next: usize, t: usize) -> Live
     requires { ⌜ (length (now rows) ≡ 64) × (next ≤ 64) × LastActive (now rows) active next t ⌝ }
     ensures { λ r. ⌜ LiveBefore (now (rows .entry)) active next t r ⌝ }
 {
@@ -119,7 +119,7 @@ fn rows_before(rows: &[u64; 64], active: u64, next: usize, t: usize) -> Live
 }
 
 // Position t of the active rows: the first of them has weight 1, the next 2, and so on.
-fn column_of(rows: &[u64; 64], active: u64, t: usize) -> u64
+fn column_of(rows: &[u64], active: u64, t: usize) -> u64
     requires { ⌜ (length (now rows) ≡ 64) × (t < 64) × AllActive (now rows) active t ⌝ }
     ensures { λ r. ⌜ r ≡ held (sectionOf (rowsAmong (now (rows .entry)) active) t) .column ⌝ }
 {
@@ -135,7 +135,7 @@ fn column_of(rows: &[u64; 64], active: u64, t: usize) -> u64
 }
 
 // Section t passed from its far side: the row that ends there joins the live rows, and the row that begins there leaves them.
-pub fn pass_back(rows: &[u64; 64], k: usize, ends: &[u8; 64], live: Live, t: usize) -> Passed
+pub fn pass_back(rows: &[u64], k: usize, ends: &[u8; 64], live: Live, t: usize) -> Passed
     requires { ⌜ PlateRows (now rows) k ⌝ }
     requires { ⌜ EndsAre (take k (now rows)) (now ends) ⌝ }
     requires { ⌜ (t < 64) × LiveAt (take k (now rows)) (suc t) live ⌝ }

@@ -2,11 +2,13 @@
 use crate::cosets::rest_of;
 use crate::sweep::Sizes;
 ghost use lib.IntN.{pos};
-ghost use lib.ListN.{drop, getD, length, replicate};
+ghost use lib.ListN.{drop, getD, length, replicate, take};
 ghost use mathlib.Core.List.{_++_};
 ghost use mathlib.Core.Path.{_≡_};
 ghost use Prim.Native.Nat.{suc, max, _/_, _^_, _≤_, _<_};
-ghost use Rattle.decoding.specs.Needs.{ProfileFits, SizesOf, widestEntry};
+ghost use Rattle.decoding.specs.Cosets.{takenOff};
+ghost use Rattle.decoding.specs.Needs.{SizesOf, widestEntry};
+ghost use Rattle.plates.specs.Prepare.{IsPrepared, ofParts};
 
 // The greater of two numbers.
 fn greater(a: usize, b: usize) -> usize
@@ -15,15 +17,15 @@ fn greater(a: usize, b: usize) -> usize
     if a < b { b } else { a }
 }
 
-fn wide(entry: u8) -> usize
+fn wide(entry: u64) -> usize
     ensures { λ r. ⌜ r ≡ entry ⌝ }
 {
     entry as usize
 }
 
 // The largest of the first n + 1 profile entries.
-fn widest(profile: &[u8; 65], n: usize) -> usize
-    requires { ⌜ n ≤ 64 ⌝ }
+fn widest(profile: &[u64], n: usize) -> usize
+    requires { ⌜ n < length (now profile) ⌝ }
     ensures { λ r. ⌜ r ≡ widestEntry (now (profile .entry)) n ⌝ }
 {
     let mut most = wide(profile[0]);
@@ -35,12 +37,23 @@ fn widest(profile: &[u8; 65], n: usize) -> usize
     most
 }
 
-// How large a decode of a plate is, and what is left of its mask.
-pub fn sizes_of<'a>(n: usize, k: usize, mask: u64, rows: &'a [u64], profile: &'a [u8; 65]) -> Sizes
-    requires { ⌜ (n ≤ 64) × ProfileFits (now profile) n × (k ≤ length (now rows)) ⌝ }
+// What is left of a mask once the first k rows are taken off it; of no mask nothing is.
+fn rest_of_mask(rows: &[u64], k: usize, mask: u64) -> u64
+    requires { ⌜ k ≤ length (now rows) ⌝ }
+    ensures { λ r. ⌜ r ≡ takenOff (take k (now (rows .entry))) mask ⌝ }
+{
+    if mask == 0 {
+        return 0;
+    }
+    rest_of(&rows[..k], mask)
+}
+
+// How large a decode of a prepared plate is, and what is left of its mask.
+pub fn sizes_of<'a>(n: usize, k: usize, mask: u64, rows: &'a [u64], profile: &'a [u64]) -> Sizes
+    requires { ⌜ IsPrepared (ofParts n k mask (now rows) (now profile)) ⌝ }
     ensures { λ r. ⌜ SizesOf n k mask (now (rows .entry)) (now (profile .entry)) r ⌝ }
 {
-    let rest = rest_of(&rows[..k], mask);
+    let rest = rest_of_mask(rows, k, mask);
     let half = 1 << widest(profile, n);
     Sizes {
         n,

@@ -13,7 +13,7 @@ ghost use Rattle.decoding.specs.Sweeping.{RoomsFit, SizesFit, undecided}
 
 // The best word, its metric and what was counted; decisions are wanted.
 pub fn search(
-    rows: &[u64; 64],
+    rows: &[u64],
     sizes: Sizes,
     samples: &[i16],
     metrics: &mut [i32],
@@ -50,12 +50,7 @@ pub fn search(
 }
 
 // The best metric and what was counted; decisions are not wanted, and none are kept.
-pub fn search_metric(
-    rows: &[u64; 64],
-    sizes: Sizes,
-    samples: &[i16],
-    metrics: &mut [i32],
-) -> Measure
+pub fn search_metric(rows: &[u64], sizes: Sizes, samples: &[i16], metrics: &mut [i32]) -> Measure
     requires { ⌜ SizesFit (now rows) sizes ⌝ }
     requires { ⌜ RoomsFit (undecided sizes) (now samples) (now metrics) [] ⌝ }
     ensures { λ r. ⌜ MetricSearched (now (rows .entry)) sizes (now (samples .entry)) (now (metrics .entry)) (now (metrics .exit)) r ⌝ }

@@ -66,7 +66,7 @@ fn gain_at(samples: &[i16], sizes: Sizes, forced: Forced, t: usize) -> i32
 
 // Section t: its step, from one half of the metric room to the other, with its own part of the decision words.
 fn sweep_section(
-    rows: &[u64; 64],
+    rows: &[u64],
     sizes: Sizes,
     ends: &[u8; 64],
     samples: &[i16],
@@ -102,7 +102,7 @@ fn sweep_section(
 
 // All sections, the forced one with its own gain.
 pub fn sweep(
-    rows: &[u64; 64],
+    rows: &[u64],
     sizes: Sizes,
     ends: &[u8; 64],
     samples: &[i16],

@@ -75,7 +75,7 @@ fn but_ending(rows: usize, following: u8) -> usize
 
 // Section t: its decided bit, and where the branch with that bit leads.
 fn walk_section(
-    rows: &[u64; 64],
+    rows: &[u64],
     sizes: Sizes,
     ends: &[u8; 64],
     samples: &[i16],
@@ -105,7 +105,7 @@ fn walk_section(
 
 // All sections: the word decided, which is the codeword plus rest.
 pub fn read_off(
-    rows: &[u64; 64],
+    rows: &[u64],
     sizes: Sizes,
     ends: &[u8; 64],
     samples: &[i16],

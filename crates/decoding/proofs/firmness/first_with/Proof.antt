@@ -21,8 +21,8 @@ loop-holds c = (omega arith, λ i h. absurd (omega arith))
 mul-bit-at : tie.Need-mul-bit-at Inv-loop μ-loop
 mul-bit-at c = search needs
 
-element-copy-out-bit-at : tie.Need-element-copy-out-bit-at Inv-loop μ-loop
-element-copy-out-bit-at c = search needs
+shared-slice-read-bit-at : tie.Need-shared-slice-read-bit-at Inv-loop μ-loop
+shared-slice-read-bit-at c = search needs
 
 bit-at-requires : tie.Need-bit-at-requires Inv-loop μ-loop
 bit-at-requires c κs = search needs
@@ -41,7 +41,7 @@ loop-less c = search needs
 loop-again : tie.Need-loop-again Inv-loop μ-loop
 loop-again c =
     let l = c .before .before .before .before .loop in
-    let s = c .before .before .before .before .before in (
+    let s = c .before .before .before .before .before .before in (
       omega (arith, c .before .before .before .loop-test .taken),
       passed-row (s .args .rows .now) (s .args .position) (l .j) (l .inv .1) (λ e. c .if1 .left (c .before .bit-at .ensures ∙ e)),
     )
@@ -58,7 +58,7 @@ first-with-spec =
     μ-loop
     loop-holds
     mul-bit-at
-    element-copy-out-bit-at
+    shared-slice-read-bit-at
     bit-at-requires
     returns
     add-j

@@ -14,7 +14,7 @@ bit-at-requires c κs = search needs
 
 returns : tie.Need-returns
 returns c =
-    let s = c .before .before .before .before .before in
+    let s = c .before .before .before .before .before .before in
     fixed-read (s .args .rows .now) (s .args .sizes) (s .args .samples .now) (s .args .metrics .now) (s .args .decisions .now) (s .args .position)
     (c .before .before .before .first-with .result) (c .before .before .before .first-with .ensures) (c .before .if1 .taken) (c .bit-at .result) (c .bit-at .ensures)
 
@@ -26,7 +26,7 @@ best-with-requires c κs = search needs
 
 best-with-requires-2 : tie.Need-best-with-requires-2
 best-with-requires-2 c κs =
-    let s = c .before .before .before .before .before .before .before .before .before .before .before .before .before .before .before in
+    let s = c .before .before .before .before .before .before .before .before .before .before .before .before .before .before .before .before in
     (s .pre .0, (c .before .before .before .before .before .before .before .before .before .before .ending-rows .ensures, (rooms-kept (c .before .before .before .before .before .before .best-with .ensures .kept) (s .pre .1 .0), s .pre .1 .1)))
 
 sub-margin : tie.Need-sub-margin
@@ -39,7 +39,7 @@ same-length-2 : tie.Need-same-length-2
 same-length-2 c = c .before .before .before .best-with2 .ensures .kept .decisions-size ∙ c .before .before .before .before .before .before .before .before .before .before .best-with .ensures .kept .decisions-size
 
 returns-2 : tie.Need-returns-2
-returns-2 c = let s = c .before .before .before .before .before .before .before .before .before .before .before .before .before .before .before .before .before .before .before in open-read (s .args .rows .now) (s .args .sizes) (s .args .samples .now) (s .args .metrics .now) (s .args .decisions .now) (s .args .position) (c .before .before .before .before .before .before .before .before .before .before .before .before .before .before .before .before .before .first-with .result) (c .before .before .before .before .before .before .before .before .before .before .before .before .before .before .before .before .before .first-with .ensures) (c .before .before .before .before .before .before .before .before .before .before .before .before .before .before .before .if1 .left) _ _ _ _ _ _ (c .before .before .before .before .before .before .before .before .before .before .best-with .ensures) (c .before .before .before .best-with2 .ensures)
+returns-2 c = let s = c .before .before .before .before .before .before .before .before .before .before .before .before .before .before .before .before .before .before .before .before in open-read (s .args .rows .now) (s .args .sizes) (s .args .samples .now) (s .args .metrics .now) (s .args .decisions .now) (s .args .position) (c .before .before .before .before .before .before .before .before .before .before .before .before .before .before .before .before .before .first-with .result) (c .before .before .before .before .before .before .before .before .before .before .before .before .before .before .before .before .before .first-with .ensures) (c .before .before .before .before .before .before .before .before .before .before .before .before .before .before .before .if1 .left) _ _ _ _ _ _ (c .before .before .before .before .before .before .before .before .before .before .best-with .ensures) (c .before .before .before .best-with2 .ensures)
 
 pub reading-at-spec : {M : Type 1} → statement M
 reading-at-spec =

@@ -17,13 +17,13 @@ abbrev μ-loop : tie.MeasureT-loop
 μ-loop rows k ends₀ j₀ ends j = k - j
 
 loop-holds : tie.Need-loop-holds Inv-loop μ-loop
-loop-holds c = (zero-le, none-noted (take (c .args .k) (c .args .rows .now)))
+loop-holds c = (zero-le, none-noted (take (c .before .args .k) (c .before .args .rows .now)))
 
 mul-last-one : tie.Need-mul-last-one Inv-loop μ-loop
 mul-last-one c = search needs
 
-element-copy-out-last-one : tie.Need-element-copy-out-last-one Inv-loop μ-loop
-element-copy-out-last-one c = search needs
+shared-slice-read-last-one : tie.Need-shared-slice-read-last-one Inv-loop μ-loop
+shared-slice-read-last-one c = search needs
 
 last-one-requires : tie.Need-last-one-requires Inv-loop μ-loop
 last-one-requires c κs = search needs
@@ -32,11 +32,11 @@ add-ends : tie.Need-add-ends Inv-loop μ-loop
 add-ends c = search needs
 
 cast-ends : tie.Need-cast-ends Inv-loop μ-loop
-cast-ends c = record { fits = omega (arith, c .before .before .loop-test .taken, c .before .before .before .before .pre .few) }
+cast-ends c = record { fits = omega (arith, c .before .before .loop-test .taken, c .before .before .before .before .before .pre .few) }
 
 array-write-ends : tie.Need-array-write-ends Inv-loop μ-loop
 array-write-ends c =
-    row-ends (c .before .before .before .before .pre) (c .before .before .before .loop .j) (c .before .before .loop-test .taken) (c .last-one .ensures)
+    row-ends (c .before .before .before .before .before .pre) (c .before .before .before .loop .j) (c .before .before .loop-test .taken) (c .last-one .ensures)
 
 add-j : tie.Need-add-j Inv-loop μ-loop
 add-j c = search needs
@@ -46,7 +46,7 @@ loop-less c = omega (arith, c .before .before .loop-test .taken)
 
 loop-again : tie.Need-loop-again Inv-loop μ-loop
 loop-again c =
-    let s = c .before .before .before .before in
+    let s = c .before .before .before .before .before in
     let j = c .before .before .before .loop .j in
     let h = c .before .before .loop-test .taken in (
       omega arith,
@@ -57,7 +57,7 @@ loop-again c =
 
 returns : tie.Need-returns Inv-loop μ-loop
 returns c =
-    let s = c .before .before in
+    let s = c .before .before .before in
     let plate = take (s .args .k) (s .args .rows .now) in
     let e : c .before .loop .j ≡ length plate = omega (arith, counted (s .pre), c .loop-test .left) in
     all-noted plate (subst (λ (n : ℕ). Noted plate n (c .before .loop .ends)) e (c .before .loop .inv .1))
@@ -70,7 +70,7 @@ ending-rows-spec =
     μ-loop
     loop-holds
     mul-last-one
-    element-copy-out-last-one
+    shared-slice-read-last-one
     last-one-requires
     add-ends
     cast-ends

@@ -15,21 +15,21 @@ element-copy-out-following : tie.Need-element-copy-out-following
 element-copy-out-following c = search needs
 
 mark-of-requires : tie.Need-mark-of-requires
-mark-of-requires c κs = let s = c .before in ending-few (s .pre .0) (s .args .t) (s .pre .1 .0) (s .pre .1 .1 .0)
+mark-of-requires c κs = let s = c .before .before in ending-few (s .pre .0) (s .args .t) (s .pre .1 .0) (s .pre .1 .1 .0)
 
 -- the rows that are active in section t
 joined : (c : tie.After-mark-of)
-    → c .before .before .args .live .marks + c .mark-of .result ≡ activeMarks (take (c .before .before .args .k) (c .before .before .args .rows .now)) (c .before .before .args .t)
+    → c .before .before .before .args .live .marks + c .mark-of .result ≡ activeMarks (take (c .before .before .before .args .k) (c .before .before .before .args .rows .now)) (c .before .before .before .args .t)
 joined c =
-    let s = c .before .before in
+    let s = c .before .before .before in
     ending-joins (s .pre .0) (s .args .t) (s .pre .1 .0) (s .pre .1 .1 .0) (s .pre .1 .1 .1 .marks-are) (c .mark-of .ensures)
 
 add-active : tie.Need-add-active
-add-active c = let s = c .before .before .before in record { fits = active-fits (s .pre .0) (s .args .t) (joined (c .before)) }
+add-active c = let s = c .before .before .before .before in record { fits = active-fits (s .pre .0) (s .args .t) (joined (c .before)) }
 
 rows-before-requires : tie.Need-rows-before-requires
 rows-before-requires c κs =
-    let s = c .before .before .before in
+    let s = c .before .before .before .before in
     let p = s .pre .0 in
     let b = s .pre .1 .1 .1 .next-is in
     let e = joined (c .before) in (
@@ -41,30 +41,30 @@ rows-before-requires c κs =
 
 -- those of them that are live before it
 before : (c : tie.After-rows-before)
-    → LiveAt (take (c .before .before .before .before .args .k) (c .before .before .before .before .args .rows .now)) (c .before .before .before .before .args .t) (c .rows-before .result)
+    → LiveAt (take (c .before .before .before .before .before .args .k) (c .before .before .before .before .before .args .rows .now)) (c .before .before .before .before .before .args .t) (c .rows-before .result)
 before c =
-    let s = c .before .before .before .before in
+    let s = c .before .before .before .before .before in
     c .rows-before .ensures .live (s .args .k) (s .pre .0) (joined (c .before .before)) (s .pre .1 .1 .1 .next-is)
 
 column-of-requires : tie.Need-column-of-requires
 column-of-requires c κs =
-    let s = c .before .before .before .before in
+    let s = c .before .before .before .before .before in
     (s .pre .0 .table, s .pre .1 .1 .0, all-active (s .pre .0) (s .args .t) (joined (c .before .before)))
 
 cast-t16 : tie.Need-cast-t16
 cast-t16 c =
     let b = c .before in
-    let s = b .before .before .before .before in
+    let s = b .before .before .before .before .before in
     record { fits = omega (arith, before-few (s .pre .0) (s .args .t) (joined (b .before .before)) (s .pre .1 .0) (s .pre .1 .1 .0) (before b)) }
 
 rows-below-requires : tie.Need-rows-below-requires
 rows-below-requires c κs =
-    let s = c .before .before .before .before .before in ending-few (s .pre .0) (s .args .t) (s .pre .1 .0) (s .pre .1 .1 .0)
+    let s = c .before .before .before .before .before .before in ending-few (s .pre .0) (s .args .t) (s .pre .1 .0) (s .pre .1 .1 .0)
 
 returns : tie.Need-returns
 returns c =
     let b = c .before .before in
-    let s = b .before .before .before .before in
+    let s = b .before .before .before .before .before in
     passed-back (s .pre .0) (s .args .t) (joined (b .before .before)) (s .pre .1 .0) (s .pre .1 .1 .0) (before b) (c .rows-below .ensures) (c .before .column-of .ensures)
 
 pub pass-back-spec : {M : Type 1} → statement M

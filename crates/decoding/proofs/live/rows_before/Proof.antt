@@ -12,7 +12,7 @@ use Rattle.decoding.proofs.live.rows_before.Statement.{statement}
 use Rattle.decoding.proofs.live.rows_before.Tie as tie
 
 returns : tie.Need-returns
-returns c = record { live = λ k p e b. before-all p (c .before .args .t) e b (λ j q f. omega (arith, c .if1 .taken, q)) }
+returns c = record { live = λ k p e b. before-all p (c .before .before .args .t) e b (λ j q f. omega (arith, c .if1 .taken, q)) }
 
 sub-last : tie.Need-sub-last
 sub-last c = search needs
@@ -20,33 +20,33 @@ sub-last c = search needs
 mul-first-one : tie.Need-mul-first-one
 mul-first-one c = search needs
 
-element-copy-out-first-one : tie.Need-element-copy-out-first-one
-element-copy-out-first-one c = search needs
+shared-slice-read-first-one : tie.Need-shared-slice-read-first-one
+shared-slice-read-first-one c = search needs
 
 first-one-requires : tie.Need-first-one-requires
 first-one-requires c κs = search needs
 
 -- the rows begun are one more than those before the last of them
-one-more : (c : tie.After-first-one) → c .before .before .before .args .next ≡ suc (c .before .before .before .args .next - 1)
+one-more : (c : tie.After-first-one) → c .before .before .before .before .args .next ≡ suc (c .before .before .before .before .args .next - 1)
 one-more c = omega (arith, c .before .before .if1 .left)
 
-shl-t13 : tie.Need-shl-t13
-shl-t13 c = let s = c .before .before .before .before in omega (arith, one-more (c .before), s .pre .1)
+shl-t12 : tie.Need-shl-t12
+shl-t12 c = let s = c .before .before .before .before .before in omega (arith, one-more (c .before), s .pre .1)
 
-sub-t14 : tie.Need-sub-t14
-sub-t14 c =
-    let s = c .before .before .before .before in
+sub-t13 : tie.Need-sub-t13
+sub-t13 c =
+    let s = c .before .before .before .before .before in
     omega (arith, s .pre .2 (s .args .next - 1) _ (one-more (c .before)) (c .before .first-one .ensures) (c .if2 .taken), shifted-one (s .args .next - 1) (omega (arith, one-more (c .before), s .pre .1)))
 
 returns-2 : tie.Need-returns-2
 returns-2 c =
-    let s = c .before .before .before .before in
+    let s = c .before .before .before .before .before in
     let q = one-more (c .before) in
     record { live = λ k p e b. before-last p (s .args .t) e b q (sym (row-first p (s .args .next - 1) (last-there p (s .args .t) e b q) (c .before .first-one .ensures)) ∙ c .if2 .taken) }
 
 returns-3 : tie.Need-returns-3
 returns-3 c =
-    let s = c .before .before .before .before in
+    let s = c .before .before .before .before .before in
     let q = one-more (c .before) in
     record {
       live = λ k p e b. before-all p (s .args .t) e b (λ j r f.
@@ -61,9 +61,9 @@ rows-before-spec =
     returns
     sub-last
     mul-first-one
-    element-copy-out-first-one
+    shared-slice-read-first-one
     first-one-requires
-    shl-t13
-    sub-t14
+    shl-t12
+    sub-t13
     returns-2
     returns-3)

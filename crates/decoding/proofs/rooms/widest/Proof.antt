@@ -15,8 +15,8 @@ Inv-loop profile n most₀ t₀ most t = (t ≤ n) × (most ≡ widestEntry prof
 abbrev μ-loop : tie.MeasureT-loop
 μ-loop profile n most₀ t₀ most t = n - t
 
-element-copy-out-wide : tie.Need-element-copy-out-wide Inv-loop μ-loop
-element-copy-out-wide c = search needs
+shared-slice-read-wide : tie.Need-shared-slice-read-wide Inv-loop μ-loop
+shared-slice-read-wide c = search needs
 
 wide-requires : tie.Need-wide-requires Inv-loop μ-loop
 wide-requires c κs = search needs
@@ -27,8 +27,11 @@ loop-holds c = (omega arith, c .wide .ensures)
 add-t : tie.Need-add-t Inv-loop μ-loop
 add-t c = search needs
 
-element-copy-out-wide-2 : tie.Need-element-copy-out-wide-2 Inv-loop μ-loop
-element-copy-out-wide-2 c = search needs
+mul-wide : tie.Need-mul-wide Inv-loop μ-loop
+mul-wide c = search needs
+
+shared-slice-read-wide-2 : tie.Need-shared-slice-read-wide-2 Inv-loop μ-loop
+shared-slice-read-wide-2 c = search needs
 
 wide-requires-2 : tie.Need-wide-requires-2 Inv-loop μ-loop
 wide-requires-2 c κs = search needs
@@ -44,13 +47,13 @@ loop-again c =
     let l = c .before .before .before .before .loop in (
       omega (arith, c .before .before .before .loop-test .taken),
       c .greater .ensures ∙ ap₂ max (c .before .wide2 .ensures) (l .inv .1)
-          ∙ ap (λ (x : ℕ). max (getD (c .before .before .before .before .before .before .before .args .profile .now) x 0) (widestEntry (c .before .before .before .before .before .before .before .args .profile .now) (l .t))) (add-one (l .t))
-          ∙ ap (widestEntry (c .before .before .before .before .before .before .before .args .profile .now)) (sym (add-one (l .t))),
+          ∙ ap (λ (x : ℕ). max (getD (c .before .before .before .before .before .before .before .before .args .profile .now) x 0) (widestEntry (c .before .before .before .before .before .before .before .before .args .profile .now) (l .t))) (add-one (l .t))
+          ∙ ap (widestEntry (c .before .before .before .before .before .before .before .before .args .profile .now)) (sym (add-one (l .t))),
     )
 
 returns : tie.Need-returns Inv-loop μ-loop
 returns c =
-    let e : c .before .loop .t ≡ c .before .before .before .before .args .n = omega (arith, c .loop-test .left, c .before .loop .inv .0) in
+    let e : c .before .loop .t ≡ c .before .before .before .before .before .args .n = omega (arith, c .loop-test .left, c .before .loop .inv .0) in
     rw e at (c .before .loop .inv .1)
 
 pub widest-spec : {M : Type 1} → statement M
@@ -59,11 +62,12 @@ widest-spec =
     (tie.spec
     Inv-loop
     μ-loop
-    element-copy-out-wide
+    shared-slice-read-wide
     wide-requires
     loop-holds
     add-t
-    element-copy-out-wide-2
+    mul-wide
+    shared-slice-read-wide-2
     wide-requires-2
     greater-requires
     loop-less

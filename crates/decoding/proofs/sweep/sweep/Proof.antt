@@ -17,11 +17,11 @@ abbrev μ-loop : tie.MeasureT-loop
 μ-loop rows sizes ends samples forced metrics₀ decisions₀ at₀ t₀ metrics decisions at t = t
 
 slice-set-of-metrics : tie.Need-slice-set-of-metrics Inv-loop μ-loop
-slice-set-of-metrics c = let s = c .before in room-start (s .args .rows .now) (s .args .sizes) (gainsOf (s .args .sizes) (s .args .samples .now) (s .args .forced)) (s .args .metrics .now) (s .args .decisions .now) (s .pre .0) (s .pre .1 .1)
+slice-set-of-metrics c = let s = c .before .before in room-start (s .args .rows .now) (s .args .sizes) (gainsOf (s .args .sizes) (s .args .samples .now) (s .args .forced)) (s .args .metrics .now) (s .args .decisions .now) (s .pre .0) (s .pre .1 .1)
 
 loop-holds : tie.Need-loop-holds Inv-loop μ-loop
 loop-holds c =
-    let s = c .before in
+    let s = c .before .before in
     (le-refl _, record { swept = (sweep-start (s .args .rows .now) (s .args .sizes) (gainsOf (s .args .sizes) (s .args .samples .now) (s .args .forced)) (s .args .metrics .now) (s .args .decisions .now) (s .pre .0) (s .pre .1 .1)) .swept; kept = kept-refl _ _ _ })
 
 sub-t : tie.Need-sub-t Inv-loop μ-loop
@@ -29,7 +29,7 @@ sub-t c = search needs
 
 sweep-section-requires : tie.Need-sweep-section-requires Inv-loop μ-loop
 sweep-section-requires c κs =
-    let s = c .before .before .before .before .before in
+    let s = c .before .before .before .before .before .before in
     let l = c .before .before .before .loop in
     before-section (s .args .rows .now) (s .args .sizes) (gainsOf (s .args .sizes) (s .args .samples .now) (s .args .forced)) _ _ (s .pre .0)
     (rooms-kept ((sweep-start (s .args .rows .now) (s .args .sizes) (gainsOf (s .args .sizes) (s .args .samples .now) (s .args .forced)) (s .args .metrics .now) (s .args .decisions .now) (s .pre .0) (s .pre .1 .1)) .kept) (s .pre .1 .1)) (s .args .ends .now) (s .pre .1 .0) (l .t) (c .before .before .loop-test .taken) (l .inv .0) _ _ _ (l .inv .1)
@@ -45,7 +45,7 @@ loop-again c =
 
 same-length : tie.Need-same-length Inv-loop μ-loop
 same-length c =
-    let s = c .before .before .before in
+    let s = c .before .before .before .before in
     c .before .loop .inv .1 .kept .metrics-size ∙ (sweep-start (s .args .rows .now) (s .args .sizes) (gainsOf (s .args .sizes) (s .args .samples .now) (s .args .forced)) (s .args .metrics .now) (s .args .decisions .now) (s .pre .0) (s .pre .1 .1)) .kept .metrics-size
 
 same-length-2 : tie.Need-same-length-2 Inv-loop μ-loop
@@ -53,7 +53,7 @@ same-length-2 c = c .before .loop .inv .1 .kept .decisions-size
 
 returns : tie.Need-returns Inv-loop μ-loop
 returns c =
-    let s = c .before .before .before in
+    let s = c .before .before .before .before in
     let l = c .before .loop in
     let z : l .t ≡ 0 = omega (arith, c .loop-test .left) in
     record {

@@ -19,20 +19,20 @@ use Rattle.decoding.proofs.sweep.sweep_section.Tie as tie
 
 pass-back-requires : tie.Need-pass-back-requires
 pass-back-requires c κs =
-    let s = c .before in
+    let s = c .before .before in
     (s .pre .fit .plate, (s .pre .ends-are, (omega (arith, s .pre .depth, s .pre .fit .short), s .pre .swept .live)))
 
 sub-to : tie.Need-sub-to
-sub-to c = let s = c .before .before .before .before in from-low (s .args .rows .now) (s .args .sizes) (gainsOf (s .args .sizes) (s .args .samples .now) (s .args .forced)) (s .args .metrics .now) (s .args .decisions .now) (s .args .t) (s .pre .fit) (s .pre .rooms) (s .pre .depth) (s .args .at) (s .pre .swept)
+sub-to c = let s = c .before .before .before .before .before in from-low (s .args .rows .now) (s .args .sizes) (gainsOf (s .args .sizes) (s .args .samples .now) (s .args .forced)) (s .args .metrics .now) (s .args .decisions .now) (s .args .t) (s .pre .fit) (s .pre .rooms) (s .pre .depth) (s .args .at) (s .pre .swept)
 
 mul-begin : tie.Need-mul-begin
-mul-begin c = let s = c .before .before .before .before .before in record { fits = omega (arith, begin-small (s .args .rows .now) (s .args .sizes) (gainsOf (s .args .sizes) (s .args .samples .now) (s .args .forced)) (s .args .metrics .now) (s .args .decisions .now) (s .args .t) (s .pre .fit) (s .pre .rooms) (s .pre .depth) (s .args .at) (s .pre .swept)) }
+mul-begin c = let s = c .before .before .before .before .before .before in record { fits = omega (arith, begin-small (s .args .rows .now) (s .args .sizes) (gainsOf (s .args .sizes) (s .args .samples .now) (s .args .forced)) (s .args .metrics .now) (s .args .decisions .now) (s .args .t) (s .pre .fit) (s .pre .rooms) (s .pre .depth) (s .args .at) (s .pre .swept)) }
 
 add-end : tie.Need-add-end
-add-end c = let s = c .before .before .before .before .before .before in record { fits = omega (arith, begin-small (s .args .rows .now) (s .args .sizes) (gainsOf (s .args .sizes) (s .args .samples .now) (s .args .forced)) (s .args .metrics .now) (s .args .decisions .now) (s .args .t) (s .pre .fit) (s .pre .rooms) (s .pre .depth) (s .args .at) (s .pre .swept), s .pre .fit .words-small) }
+add-end c = let s = c .before .before .before .before .before .before .before in record { fits = omega (arith, begin-small (s .args .rows .now) (s .args .sizes) (gainsOf (s .args .sizes) (s .args .samples .now) (s .args .forced)) (s .args .metrics .now) (s .args .decisions .now) (s .args .t) (s .pre .fit) (s .pre .rooms) (s .pre .depth) (s .args .at) (s .pre .swept), s .pre .fit .words-small) }
 
 mul-step : tie.Need-mul-step
-mul-step c = let s = c .before .before .before .before .before .before .before in record { fits = omega (arith, begin-small (s .args .rows .now) (s .args .sizes) (gainsOf (s .args .sizes) (s .args .samples .now) (s .args .forced)) (s .args .metrics .now) (s .args .decisions .now) (s .args .t) (s .pre .fit) (s .pre .rooms) (s .pre .depth) (s .args .at) (s .pre .swept)) }
+mul-step c = let s = c .before .before .before .before .before .before .before .before in record { fits = omega (arith, begin-small (s .args .rows .now) (s .args .sizes) (gainsOf (s .args .sizes) (s .args .samples .now) (s .args .forced)) (s .args .metrics .now) (s .args .decisions .now) (s .args .t) (s .pre .fit) (s .pre .rooms) (s .pre .depth) (s .args .at) (s .pre .swept)) }
 
 sub-step : tie.Need-sub-step
 sub-step c = search needs
@@ -41,11 +41,11 @@ part-step-start : tie.Need-part-step-start
 part-step-start c = search needs
 
 part-step-end : tie.Need-part-step-end
-part-step-end c = let s = c .before .before .before .before .before .before .before in part-room (s .args .rows .now) (s .args .sizes) (gainsOf (s .args .sizes) (s .args .samples .now) (s .args .forced)) (s .args .metrics .now) (s .args .decisions .now) (s .args .t) (s .pre .fit) (s .pre .rooms) (s .pre .depth) (s .args .at) (s .pre .swept)
+part-step-end c = let s = c .before .before .before .before .before .before .before .before in part-room (s .args .rows .now) (s .args .sizes) (gainsOf (s .args .sizes) (s .args .samples .now) (s .args .forced)) (s .args .metrics .now) (s .args .decisions .now) (s .args .t) (s .pre .fit) (s .pre .rooms) (s .pre .depth) (s .args .at) (s .pre .swept)
 
 gain-at-requires : tie.Need-gain-at-requires
 gain-at-requires c κs =
-    let s = c .before .before .before .before .before .before .before .before in
+    let s = c .before .before .before .before .before .before .before .before .before in
     let ys : List ℤ = forcedTo (s .args .samples .now) (s .args .forced) in (
       omega (arith, s .pre .depth, s .pre .rooms .size, turned-length (s .args .sizes .rest) ys, length-set (s .args .samples .now) (s .args .forced .position) (s .args .forced .gain)),
       omega (arith, s .pre .rooms .within (s .args .t) (omega (arith, s .pre .depth, s .pre .rooms .size)), turned-size (s .args .sizes .rest) ys (s .args .t)),
@@ -53,7 +53,7 @@ gain-at-requires c κs =
 
 step-requires : tie.Need-step-requires
 step-requires c κs =
-    let s = c .before .before .before .before .before .before .before .before .before in
+    let s = c .before .before .before .before .before .before .before .before .before .before in
     let y : ℤ = getD (gainsOf (s .args .sizes) (s .args .samples .now) (s .args .forced)) (s .args .t) (pos 0) in
     let h : natAbs y ≤ gainLimit = s .pre .rooms .within (s .args .t) (omega (arith, s .pre .depth, s .pre .rooms .size)) in
     let e : c .gain-at .result ≡ y = c .gain-at .ensures in
@@ -65,7 +65,7 @@ same-length c = c .before .before .before .before .step .ensures .size
 
 same-length-2 : tie.Need-same-length-2
 same-length-2 c =
-    let s = c .before .before .before .before .before .before .before .before .before .before .before .before .before .before in
+    let s = c .before .before .before .before .before .before .before .before .before .before .before .before .before .before .before in
     let y : ℤ = getD (gainsOf (s .args .sizes) (s .args .samples .now) (s .args .forced)) (s .args .t) (pos 0) in
     let h : natAbs y ≤ gainLimit = s .pre .rooms .within (s .args .t) (omega (arith, s .pre .depth, s .pre .rooms .size)) in
     let g = c .before .before .before .before .before .gain-at in
@@ -77,7 +77,7 @@ same-length-2 c =
 
 returns : tie.Need-returns
 returns c =
-    let s = c .before .before .before .before .before .before .before .before .before .before .before .before .before .before in
+    let s = c .before .before .before .before .before .before .before .before .before .before .before .before .before .before .before in
     let y : ℤ = getD (gainsOf (s .args .sizes) (s .args .samples .now) (s .args .forced)) (s .args .t) (pos 0) in
     let h : natAbs y ≤ gainLimit = s .pre .rooms .within (s .args .t) (omega (arith, s .pre .depth, s .pre .rooms .size)) in
     let g = c .before .before .before .before .before .gain-at in

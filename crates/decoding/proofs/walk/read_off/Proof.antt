@@ -19,11 +19,11 @@ abbrev μ-loop : tie.MeasureT-loop
 μ-loop rows sizes ends samples decisions at₀ t₀ at t = sizes .n - t
 
 loop-holds : tie.Need-loop-holds Inv-loop μ-loop
-loop-holds c = let s = c .before in (omega arith, walk-start (s .args .rows .now) (s .args .sizes) (s .args .ends .now) (turnedBy (s .args .sizes .rest) (s .args .samples .now)) (s .args .decisions .now) (s .pre))
+loop-holds c = let s = c .before .before in (omega arith, walk-start (s .args .rows .now) (s .args .sizes) (s .args .ends .now) (turnedBy (s .args .sizes .rest) (s .args .samples .now)) (s .args .decisions .now) (s .pre))
 
 walk-section-requires : tie.Need-walk-section-requires Inv-loop μ-loop
 walk-section-requires c κs =
-    let s = c .before .before .before .before in
+    let s = c .before .before .before .before .before in
     let l = c .before .before .loop in
     before-walk (s .args .rows .now) (s .args .sizes) (s .args .ends .now) (turnedBy (s .args .sizes .rest) (s .args .samples .now)) (s .args .decisions .now) (s .pre) (l .t) (c .if1 .taken) (l .at) (l .inv .1)
 
@@ -35,13 +35,13 @@ loop-less c = search needs
 
 loop-again : tie.Need-loop-again Inv-loop μ-loop
 loop-again c =
-    let s = c .before .before .before .before .before in
+    let s = c .before .before .before .before .before .before in
     let l = c .before .before .before .loop in
     (omega (arith, c .before .if1 .taken), subst (λ (x : ℕ). Walked (take (s .args .sizes .k) (s .args .rows .now)) (turnedBy (s .args .sizes .rest) (s .args .samples .now)) x (c .walk-section .result)) (sym (add-one (l .t))) (c .walk-section .ensures))
 
 returns : tie.Need-returns Inv-loop μ-loop
 returns c =
-    let s = c .before .before .before .before .before .before in
+    let s = c .before .before .before .before .before .before .before in
     let l = c .before .before .before .before .loop in
     let e : l .t ≡ s .args .sizes .n = omega (arith, c .before .before .if1 .left, l .inv .0) in
     ap (λ (x : ℕ). bitXor x (s .args .sizes .rest)) (walk-end (s .args .rows .now) (s .args .sizes) (s .args .ends .now) (turnedBy (s .args .sizes .rest) (s .args .samples .now)) (s .args .decisions .now) (s .pre) (l .at) (subst (λ (x : ℕ). Walked (take (s .args .sizes .k) (s .args .rows .now)) (turnedBy (s .args .sizes .rest) (s .args .samples .now)) x (l .at)) e (l .inv .1)))
