@@ -1,9 +1,8 @@
 -- Cells copied one by one: a table into a part of a run.
-use lib.ListN.{drop, getD, length, length-drop, set, take}
-use lib.Seq.{drop-length, getD-drop, getD-take, length-take-le, paste, paste-suc, take-all}
-use mathlib.Core.List.{_++_, List, append-nil}
-use mathlib.Core.Path.{ap, subst, sym, _∙_, _≡_}
-use native.Mathlib.Nat.{zero-add}
+use lib.ListN.{getD, length, set}
+use lib.Seq.{paste, paste-suc}
+use mathlib.Core.List.{List}
+use mathlib.Core.Path.{subst, _≡_}
 use native.Mathlib.Numerals.{add-one}
 use native.Mathlib.Omega.{arith}
 use Prim.Native.Nat.{_+_, _<_, ℕ, _≤_}

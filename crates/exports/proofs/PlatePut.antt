@@ -4,12 +4,12 @@ use lib.Seq.{drop-at, drop-cons, drop-drop, drop-set-lt, getD-at, getD-set-same,
 use mathlib.Core.List.{_++_, List, [], append-assoc, _∷_}
 use mathlib.Core.Path.{ap, ap₂, refl, sym, _∙_, _≡_}
 use native.Mathlib.Omega.{arith}
-use Prim.Native.Nat.{_+_, _<_, ℕ, _≤_}
+use Prim.Native.Nat.{_+_, ℕ, _≤_}
 use Rattle.exports.specs.Flat.{flat, plateOf}
 use Rattle.plates.specs.declared.Plate.{Plate}
 
 -- what begins with a is continued by b
-pub continued : (run run′ a b : List ℕ) (i k : ℕ) → length a ≡ i → length b ≡ k → run′ ≡ paste (a ++ drop i run) i b k → run′ ≡ (a ++ b) ++ drop (i + k) run
+continued : (run run′ a b : List ℕ) (i k : ℕ) → length a ≡ i → length b ≡ k → run′ ≡ paste (a ++ drop i run) i b k → run′ ≡ (a ++ b) ++ drop (i + k) run
 continued run run′ a b i k size-a size-b e =
     e
     ∙ ap (λ (x : List ℕ). x ++ take k b ++ drop (i + k) (a ++ drop i run)) (take-at a (drop i run) i size-a)

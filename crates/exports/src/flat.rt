@@ -1,10 +1,10 @@
 // A plate put into its run of 132 words: n, k, 64 rows, 65 profile entries and the mask.
-use plates::Plate;
 ghost use mathlib.Core.Path.{_≡_};
 ghost use mathlib.Core.List.{_++_, _∷_};
 ghost use Prim.Native.Nat.{_≤_};
 ghost use lib.ListN.{drop, length, set};
 ghost use lib.Seq.{paste};
+ghost use Rattle.plates.specs.Prepare.{ofParts};
 ghost use Rattle.exports.specs.Flat.{flat};
 
 // The rows into the run.
@@ -48,12 +48,19 @@ fn put_numbers(words: &mut [u64], n: usize, k: usize, mask: u64)
     words[1] = k as u64;
 }
 
-// The plate to the start of the run.
-pub fn put_plate(words: &mut [u64], plate: Plate)
-    requires { ⌜ (length (plate .rows) ≡ 64) × (length (plate .profile) ≡ 65) × (132 ≤ length (now words)) ⌝ }
-    ensures { λ _. ⌜ now (words .exit) ≡ flat plate ++ drop 132 (now (words .entry)) ⌝ }
+// The plate of some parts to the start of the run.
+pub fn put_plate<'a>(
+    words: &mut [u64],
+    n: usize,
+    k: usize,
+    mask: u64,
+    rows: &'a [u64; 64],
+    profile: &'a [u8; 65],
+)
+    requires { ⌜ (length (now rows) ≡ 64) × (length (now profile) ≡ 65) × (132 ≤ length (now words)) ⌝ }
+    ensures { λ _. ⌜ now (words .exit) ≡ flat (ofParts n k mask (now (rows .entry)) (now (profile .entry))) ++ drop 132 (now (words .entry)) ⌝ }
 {
-    put_numbers(words, plate.n, plate.k, plate.mask);
-    put_rows(words, &plate.rows);
-    put_profile(words, &plate.profile);
+    put_numbers(words, n, k, mask);
+    put_rows(words, rows);
+    put_profile(words, profile);
 }

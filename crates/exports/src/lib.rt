@@ -15,6 +15,9 @@ mod receiving;
 // The reply where a run is too short for its fixed use, or the kind is neither G nor H.
 const MISSHAPEN: u64 = 101;
 
+// The place of the mask in the run of a plate: n, k, 64 rows and 65 profile entries stand before it.
+const MASK: usize = 131;
+
 // The reply where a state has no branch with the bit that was asked for.
 const NO_BRANCH: u64 = 100;
 
@@ -43,7 +46,14 @@ pub extern "C" fn yendrufal_prepare(
     let verdict = made.verdict;
     match verdict {
         Verdict::Accepted => {
-            flat::put_plate(plate, made.plate);
+            flat::put_plate(
+                plate,
+                made.plate.n,
+                made.plate.k,
+                made.plate.mask,
+                &made.plate.rows,
+                &made.plate.profile,
+            );
             at[0] = 0;
             0
         }
@@ -71,7 +81,7 @@ pub extern "C" fn yendrufal_branch(
     match trellises::branch_parts(
         plate[0] as usize,
         plate[1] as usize,
-        plate[131],
+        plate[MASK],
         &plate[2..66],
         &plate[66..131],
         depth as usize,
@@ -101,7 +111,7 @@ pub extern "C" fn yendrufal_encode(plate: &[u64], information: u64, word: &mut [
     match coding::encode_parts(
         plate[0] as usize,
         plate[1] as usize,
-        plate[131],
+        plate[MASK],
         &plate[2..66],
         &plate[66..131],
         information,
@@ -128,7 +138,7 @@ pub extern "C" fn yendrufal_read_back(plate: &[u64], word: u64, information: &mu
     match coding::read_back_parts(
         plate[0] as usize,
         plate[1] as usize,
-        plate[131],
+        plate[MASK],
         &plate[2..66],
         &plate[66..131],
         word,
@@ -156,7 +166,7 @@ pub extern "C" fn yendrufal_write_plate(plate: &[u64], line: &mut [u8], written:
         listings::write_plate_parts(
             plate[0] as usize,
             plate[1] as usize,
-            plate[131],
+            plate[MASK],
             &plate[2..66],
             &plate[66..131],
             line,
@@ -184,7 +194,7 @@ pub extern "C" fn yendrufal_write_profile(
         listings::write_profile_parts(
             plate[0] as usize,
             plate[1] as usize,
-            plate[131],
+            plate[MASK],
             &plate[2..66],
             &plate[66..131],
             line,
@@ -216,7 +226,7 @@ pub extern "C" fn yendrufal_write_word(
         listings::write_word_parts(
             plate[0] as usize,
             plate[1] as usize,
-            plate[131],
+            plate[MASK],
             &plate[2..66],
             &plate[66..131],
             word,

@@ -4,6 +4,7 @@ ghost use Rattle.exports.specs.Explaining.{CallsWhyNot, reasonCells};
 ghost use Rattle.exports.specs.Judging.{CallsFirmness, firmnessCells};
 ghost use Rattle.exports.specs.Parting.{CallsMetric, CallsWord, metricCells, wordCells};
 ghost use Rattle.exports.specs.Promises.{CallsDecode, decodeCells};
+use crate::MASK;
 use crate::MISSHAPEN;
 use crate::cells;
 use crate::reasons;
@@ -39,7 +40,7 @@ pub extern "C" fn yendrufal_decode(
     match decoding::decode_parts(
         plate[0] as usize,
         plate[1] as usize,
-        plate[131],
+        plate[MASK],
         &plate[2..66],
         &plate[66..131],
         samples,
@@ -73,7 +74,7 @@ pub extern "C" fn yendrufal_metric(
     match decoding::apart::best_metric_parts(
         plate[0] as usize,
         plate[1] as usize,
-        plate[131],
+        plate[MASK],
         &plate[2..66],
         &plate[66..131],
         samples,
@@ -107,7 +108,7 @@ pub extern "C" fn yendrufal_word(
     match decoding::apart::best_word_parts(
         plate[0] as usize,
         plate[1] as usize,
-        plate[131],
+        plate[MASK],
         &plate[2..66],
         &plate[66..131],
         samples,
@@ -143,7 +144,7 @@ pub extern "C" fn yendrufal_firmness(
     match decoding::firmness::firmness_parts(
         plate[0] as usize,
         plate[1] as usize,
-        plate[131],
+        plate[MASK],
         &plate[2..66],
         &plate[66..131],
         samples,
@@ -180,7 +181,7 @@ pub extern "C" fn yendrufal_why_not(
     match asking::why_not_parts(
         plate[0] as usize,
         plate[1] as usize,
-        plate[131],
+        plate[MASK],
         &plate[2..66],
         &plate[66..131],
         samples,
