@@ -1,21 +1,22 @@
 -- The replies of `encode` and `read_back`, case by case.
+use borrow.Author.Tests.{not-false, not-true}
 use lib.Bits.{bitXor, xor-zero-r}
 use lib.ListN.{length}
-use mathlib.Core.Bool.{Bool, false}
+use mathlib.Core.Bool.{Bool, false, not, true}
 use mathlib.Core.Logic.{inl, inr, _⊎_}
 use mathlib.Core.Path.{ap, refl, subst, sym, _∙_, _≡_}
 use native.Mathlib.Omega.{arith}
-use Prim.Native.Nat.{_<_, _^_, ℕ}
+use Prim.Native.Nat.{_<_, _^_, ℕ, _≤_}
 use Rattle.coding.proofs.PlateWords.{makes-word}
 use Rattle.coding.specs.declared.Encoded.the-variants as E
 use Rattle.coding.specs.declared.ReadBack.the-variants as R
 use Rattle.coding.specs.Coding.{Encodes, ReadsBack}
 use Rattle.coding.specs.declared.Reading.{Reading}
-use Rattle.coding.specs.TakingOff.{Headed, Read}
+use Rattle.coding.specs.TakingOff.{Headed, Reaches, Read}
 use Rattle.plates.proofs.SoundIsPrepared.{sound, used-row, used-rows}
 use Rattle.plates.specs.declared.Plate.{Plate}
-use Rattle.plates.specs.declared.Refusal.the-variants.{NoCodeword, NotPrepared}
-use Rattle.plates.specs.Prepare.{IsPrepared, Tests, notPrepared, rowsOf}
+use Rattle.plates.specs.declared.Refusal.the-variants.{Information, NoCodeword, NotPrepared}
+use Rattle.plates.specs.Prepare.{IsPrepared, Tests, rowsOf}
 use Rattle.plates.specs.Sound.{Sound}
 use Rattle.words.proofs.Span.{Nothing, Top, least, rising-apart, zero-one}
 use Rattle.words.proofs.Sums.{in-xor}
@@ -26,7 +27,7 @@ use Rattle.words.specs.Sum.{IsSum, sumOf}
 use Rattle.words.specs.Word.{bit}
 
 -- the rows of a sound plate, as taking them off asks
-pub plate-headed : {plate : Plate} → Sound plate → Headed (plate .rows) (plate .k)
+plate-headed : {plate : Plate} → Sound plate → Headed (plate .rows) (plate .k)
 plate-headed {plate} s = record {
   table = s .table;
   few = s .few;
@@ -66,7 +67,7 @@ module _ {plate : Plate} (given : IsPrepared plate) (word : ℕ) (r : Reading) (
 -- the rows are taken off the word plus mask
 module _ {plate : Plate} (given : IsPrepared plate) (word : ℕ) (r : Reading)
     (read : Read (plate .rows) (plate .k) (bitXor word (plate .mask)) (plate .k) r) where
-  pub read-information : r .rest ≡ 0 → ReadsBack plate word (R.Information (r .information))
+  read-information : r .rest ≡ 0 → ReadsBack plate word (R.Information (r .information))
   read-information e =
       let codeword = read-codeword given (bitXor word (plate .mask)) r read e in (
         ((λ q b. b .0 given), ((λ q b. b .0 (record { by = r .information; sum = codeword })), tt)),
@@ -74,15 +75,46 @@ module _ {plate : Plate} (given : IsPrepared plate) (word : ℕ) (r : Reading)
         makes-word plate (r .information) word codeword,
       )
 
-  pub read-refused : (r .rest ≡ 0 → ⊥) → ReadsBack plate word (R.Refused NoCodeword)
+  read-refused : (r .rest ≡ 0 → ⊥) → ReadsBack plate word (R.Refused NoCodeword)
   read-refused n = inr ((λ q b. b .0 given), inl (read-no-codeword given (bitXor word (plate .mask)) r read n, refl))
 
 -- the mask is added to the sum of the rows
-pub encoded-word : {plate : Plate} {information sum : ℕ} → IsPrepared plate → information < 2 ^ plate .k → sum ≡ sumOf (rowsOf plate) information
+encoded-word : {plate : Plate} {information sum : ℕ} → IsPrepared plate → information < 2 ^ plate .k → sum ≡ sumOf (rowsOf plate) information
     → Encodes plate information (E.Word (bitXor sum (plate .mask)))
 encoded-word {plate} given short e =
     (((λ q b. b .0 given), ((λ q b. omega (arith, b .0, short)), tt)), ap (λ (x : ℕ). bitXor x (plate .mask)) e)
 
--- the plate is refused where its test says no
-pub test-refuses : {plate : Plate} {p : Bool} → Tests plate p → p ≡ false → notPrepared plate NotPrepared
-test-refuses t e = (t .no-is e, refl)
+-- by the test of the plate: it is refused where that says no
+module _ {plate : Plate} {p : Bool} (t : Tests plate p) where
+  pub encode-refused : {information : ℕ} → not p ≡ true → Encodes plate information (E.Refused NotPrepared)
+  encode-refused e = inl (t .no-is (not-true _ e), refl)
+
+  pub read-back-refused : (word : ℕ) → not p ≡ true → ReadsBack plate word (R.Refused NotPrepared)
+  read-back-refused word e = inl (t .no-is (not-true _ e), refl)
+
+  module _ (e : not p ≡ false) where
+    given : IsPrepared plate
+    given = t .yes-is (not-false _ e)
+
+    pub rows-long : length (plate .rows) ≡ 64
+    rows-long = sound given .table
+
+    pub rows-few : plate .k ≤ 64
+    rows-few = sound given .few
+
+    pub rows-headed : Headed (plate .rows) (plate .k)
+    rows-headed = plate-headed (sound given)
+
+    module _ {information : ℕ} {r : Bool} (o : Reaches information (plate .k) r) where
+      pub over-refused : r ≡ true → Encodes plate information (E.Refused Information)
+      over-refused e = inr ((λ q b. b .0 given), inl (o .yes-is e, refl))
+
+      pub encoded : {sum : ℕ} → r ≡ false → sum ≡ sumOf (rowsOf plate) information → Encodes plate information (E.Word (bitXor sum (plate .mask)))
+      encoded e s = encoded-word given (o .no-is e) s
+
+    module _ (word : ℕ) {r : Reading} (read : Read (plate .rows) (plate .k) (bitXor word (plate .mask)) (plate .k) r) where
+      pub no-word : (r .rest ≡ 0 → ⊥) → ReadsBack plate word (R.Refused NoCodeword)
+      no-word = read-refused given word r read
+
+      pub informed : r .rest ≡ 0 → ReadsBack plate word (R.Information (r .information))
+      informed = read-information given word r read

@@ -1,5 +1,4 @@
 // Encoding information to a word of a plate, and reading a word of a plate back.
-use plates::Plate;
 use plates::Refusal;
 ghost use lib.Bits.{bitXor};
 ghost use lib.ListN.{length, take};
@@ -7,6 +6,7 @@ ghost use mathlib.Core.Path.{_≡_};
 ghost use Prim.Native.Nat.{_^_, _≤_, _<_};
 ghost use Rattle.coding.specs.Coding.{Encodes, ReadsBack};
 ghost use Rattle.coding.specs.TakingOff.{Headed, Read, ReadOn, Reaches};
+ghost use Rattle.plates.specs.Prepare.{ofParts};
 ghost use Rattle.words.specs.Sum.{sumOf, taken};
 
 // The word of the plate that information makes, or why there is none.
@@ -39,7 +39,7 @@ fn with_row(sum: u64, row: u64, digit: u64) -> u64
 }
 
 // The sum of the first k rows that the information takes, from the last row to the first.
-fn sum_rows(rows: &[u64; 64], k: usize, information: u64) -> u64
+fn sum_rows(rows: &[u64], k: usize, information: u64) -> u64
     requires { ⌜ (length (now rows) ≡ 64) × (k ≤ 64) ⌝ }
     ensures { λ r. ⌜ r ≡ sumOf (take k (now (rows .entry))) information ⌝ }
 {
@@ -67,7 +67,7 @@ fn take_off(before: Reading, row: u64, j: usize) -> Reading
 }
 
 // The first k rows taken off a word by their heads, from the first row to the last.
-fn take_rows(rows: &[u64; 64], k: usize, word: u64) -> Reading
+fn take_rows(rows: &[u64], k: usize, word: u64) -> Reading
     requires { ⌜ Headed (now rows) k ⌝ }
     ensures { λ r. ⌜ Read (now (rows .entry)) k word k r ⌝ }
 {
@@ -94,27 +94,40 @@ fn reaches(word: u64, k: usize) -> bool
 }
 
 // Encodes information: bit j takes row j, and the mask is added.
-pub fn encode(plate: Plate, information: u64) -> Encoded
-    ensures { λ r. ⌜ Encodes plate information r ⌝ }
+pub fn encode_parts<'a>(
+    n: usize,
+    k: usize,
+    mask: u64,
+    rows: &'a [u64],
+    profile: &'a [u64],
+    information: u64,
+) -> Encoded
+    ensures { λ r. ⌜ Encodes (ofParts n k mask (now (rows .entry)) (now (profile .entry))) information r ⌝ }
 {
-    if !plates::is_prepared(plate) {
+    if !plates::parts_prepared(n, k, mask, rows, profile) {
         return Encoded::Refused(Refusal::NotPrepared);
     }
-    let k = plate.k;
     if reaches(information, k) {
         return Encoded::Refused(Refusal::Information);
     }
-    Encoded::Word(sum_rows(&plate.rows, k, information) ^ plate.mask)
+    Encoded::Word(sum_rows(rows, k, information) ^ mask)
 }
 
 // Reads a word of the plate back: the information that encodes to it.
-pub fn read_back(plate: Plate, word: u64) -> ReadBack
-    ensures { λ r. ⌜ ReadsBack plate word r ⌝ }
+pub fn read_back_parts<'a>(
+    n: usize,
+    k: usize,
+    mask: u64,
+    rows: &'a [u64],
+    profile: &'a [u64],
+    word: u64,
+) -> ReadBack
+    ensures { λ r. ⌜ ReadsBack (ofParts n k mask (now (rows .entry)) (now (profile .entry))) word r ⌝ }
 {
-    if !plates::is_prepared(plate) {
+    if !plates::parts_prepared(n, k, mask, rows, profile) {
         return ReadBack::Refused(Refusal::NotPrepared);
     }
-    let reading = take_rows(&plate.rows, plate.k, word ^ plate.mask);
+    let reading = take_rows(rows, k, word ^ mask);
     if reading.rest != 0 {
         return ReadBack::Refused(Refusal::NoCodeword);
     }

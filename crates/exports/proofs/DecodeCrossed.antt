@@ -6,30 +6,19 @@ use mathlib.Core.Logic.{inr}
 use mathlib.Core.Path.{ap, ap₂, sym, _∙_, _≡_}
 use Prim.Native.Nat.{ℕ}
 use Rattle.decoding.specs.declared.Answer.{Answer}
-use Rattle.exports.proofs.PromisesCarried.{decode-carried}
 use Rattle.exports.specs.Calls.{Crossing, RefusedAt, done}
 use Rattle.exports.specs.Crossing.{AnswerPut, DecodeCells, Decoding, decoded, decodedAs}
-use Rattle.exports.specs.Flat.{StandsFor}
+use Rattle.exports.specs.Flat.{plateOf}
 use Rattle.exports.specs.Promises.{CallsDecode, DecodeShape, DecodesTo, decodeCells}
-use Rattle.plates.specs.declared.Plate.{Plate}
 use Rattle.plates.specs.declared.Refusal.{Refusal}
 use Rattle.decoding.specs.declared.Decoded.the-variants as D
 
-module _ (samples : List ℤ) (lent : DecodeCells) (d : Decoding) {words : List ℕ} {plate : Plate} (stands : StandsFor words plate)
+module _ (samples : List ℤ) (lent : DecodeCells) (d : Decoding) (words : List ℕ)
     (shape : DecodeShape (length words) (length (lent .word)) (length (lent .metric)) (length (lent .counts)) (length (lent .at)))
-    (decodes : DecodesTo plate samples lent d) where
+    (decodes : DecodesTo (plateOf words) samples lent d) where
   -- a code and cells that the reply crosses as
   crossed : {out : Crossing DecodeCells} → out ≡ decoded lent d → CallsDecode words samples lent (out .code) (out .cells)
-  crossed e = record {
-    by-shape = inr (
-      shape,
-      record {
-        reply = d;
-        promised = decode-carried stands samples (lent .metrics) (d .metrics) (lent .decisions) (d .decisions) (d .reply) decodes;
-        crosses = e;
-      },
-    );
-  }
+  crossed e = record { by-shape = inr (shape, record { reply = d; promised = decodes; crosses = e }) }
 
   -- the answer is in its cells
   pub decode-found : {a : Answer} {word′ counts′ : List ℕ} {metric′ : List ℤ} → d .reply ≡ D.Found a

@@ -11,9 +11,8 @@ use Rattle.decoding.specs.declared.firmness.Judged.the-variants.{Found, Refused
 use Rattle.decoding.specs.declared.firmness.Reading.{Reading}
 use Rattle.decoding.specs.declared.firmness.Reading.the-variants.{Fixed, Open}
 use Rattle.decoding.specs.Firmness.{Judges, Means, isFixed, value}
-use Rattle.exports.proofs.PromisesCarried.{firmness-carried}
 use Rattle.exports.specs.Calls.{Crossing, RefusedAt, done}
-use Rattle.exports.specs.Flat.{StandsFor}
+use Rattle.exports.specs.Flat.{plateOf}
 use Rattle.exports.specs.Judging.{CallsFirmness, FirmnessCells, FirmnessShape, FixedFits, Judging, JudgesTo, ReadingPut, firmnessCells, judged, judgedAs}
 use Rattle.plates.specs.declared.Plate.{Plate}
 use Rattle.plates.specs.declared.Refusal.{Refusal}
@@ -39,21 +38,12 @@ pub reading-fits : (plate : Plate) (samples : List ℤ) (position : ℕ) (lent :
 reading-fits plate samples position lent j p flag e =
     fixed-fits plate samples position (flag .reading) (subst (Judges plate samples position (lent .metrics) (lent .decisions) (j .metrics) (j .decisions)) e p .1 .reading)
 
-module _ (samples : List ℤ) (position : ℕ) (lent : FirmnessCells) (j : Judging) {words : List ℕ} {plate : Plate} (stands : StandsFor words plate)
+module _ (samples : List ℤ) (position : ℕ) (lent : FirmnessCells) (j : Judging) (words : List ℕ)
     (shape : FirmnessShape (length words) (length (lent .fixed)) (length (lent .value)) (length (lent .at)))
-    (judges : JudgesTo plate samples position lent j) where
+    (judges : JudgesTo (plateOf words) samples position lent j) where
   -- a code and cells that the reply crosses as
   crossed : {out : Crossing FirmnessCells} → out ≡ judged lent j → CallsFirmness words samples position lent (out .code) (out .cells)
-  crossed e = record {
-    by-shape = inr (
-      shape,
-      record {
-        reply = j;
-        promised = firmness-carried stands samples position (lent .metrics) (j .metrics) (lent .decisions) (j .decisions) (j .reply) judges;
-        crosses = e;
-      },
-    );
-  }
+  crossed e = record { by-shape = inr (shape, record { reply = j; promised = judges; crosses = e }) }
 
   -- the reading is in its cells
   pub firmness-found : {flag : Flag} {fixed′ : List ℕ} {values′ : List ℤ} → j .reply ≡ Found flag

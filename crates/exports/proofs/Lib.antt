@@ -1,6 +1,5 @@
 pub mod CellsCopied
-pub mod PlateStands
-pub mod PromisesCarried
+pub mod PlatePut
 pub mod CallsMade
 pub mod DecodeCrossed
 pub mod FirmnessCrossed

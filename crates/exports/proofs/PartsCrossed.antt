@@ -7,23 +7,19 @@ use mathlib.Core.Path.{ap, ap₂, sym, _∙_, _≡_}
 use Prim.Native.Nat.{ℕ}
 use Rattle.decoding.specs.declared.apart.Measure.{Measure}
 use Rattle.decoding.specs.declared.apart.Selection.{Selection}
-use Rattle.exports.proofs.PromisesCarried.{metric-carried, word-carried}
 use Rattle.exports.specs.Calls.{Crossing, RefusedAt, done}
-use Rattle.exports.specs.Flat.{StandsFor}
+use Rattle.exports.specs.Flat.{plateOf}
 use Rattle.exports.specs.Parting.{CallsMetric, CallsWord, Choosing, ChoosesTo, MeasurePut, Measuring, MeasuresTo, MetricCells, PartShape, SelectionPut, WordCells, chosen, chosenAs, measured, measuredAs, metricCells, wordCells}
-use Rattle.plates.specs.declared.Plate.{Plate}
 use Rattle.plates.specs.declared.Refusal.{Refusal}
 use Rattle.decoding.specs.declared.apart.Chosen.the-variants as C
 use Rattle.decoding.specs.declared.apart.Measured.the-variants as M
 
-module _ (samples : List ℤ) (lent : MetricCells) (m : Measuring) {words : List ℕ} {plate : Plate} (stands : StandsFor words plate)
+module _ (samples : List ℤ) (lent : MetricCells) (m : Measuring) (words : List ℕ)
     (shape : PartShape (length words) (length (lent .metric)) (length (lent .counts)) (length (lent .at)))
-    (measures : MeasuresTo plate samples lent m) where
+    (measures : MeasuresTo (plateOf words) samples lent m) where
   -- a code and cells that the reply crosses as
   metric-crossed : {out : Crossing MetricCells} → out ≡ measured lent m → CallsMetric words samples lent (out .code) (out .cells)
-  metric-crossed e = record {
-    by-shape = inr (shape, record { reply = m; promised = metric-carried stands samples (lent .metrics) (m .metrics) (m .reply) measures; crosses = e });
-  }
+  metric-crossed e = record { by-shape = inr (shape, record { reply = m; promised = measures; crosses = e }) }
 
   -- the measure is in its cells
   pub metric-found : {a : Measure} {metric′ : List ℤ} {counts′ : List ℕ} → m .reply ≡ M.Found a → MeasurePut a (lent .metric) (lent .counts) metric′ counts′
@@ -41,17 +37,12 @@ module _ (samples : List ℤ) (lent : MetricCells) (m : Measuring) {words : List
       (ap₂ (λ (x : ℕ) (p : List ℕ). record { code = x; cells = metricCells (m .metrics) (lent .metric) (lent .counts) p }) (f .number-is) (f .place-is)
       ∙ sym (ap (measuredAs lent (m .metrics)) e))
 
-module _ (samples : List ℤ) (lent : WordCells) (c : Choosing) {words : List ℕ} {plate : Plate} (stands : StandsFor words plate)
+module _ (samples : List ℤ) (lent : WordCells) (c : Choosing) (words : List ℕ)
     (shape : PartShape (length words) (length (lent .word)) (length (lent .counts)) (length (lent .at)))
-    (chooses : ChoosesTo plate samples lent c) where
+    (chooses : ChoosesTo (plateOf words) samples lent c) where
   -- a code and cells that the reply crosses as
   word-crossed : {out : Crossing WordCells} → out ≡ chosen lent c → CallsWord words samples lent (out .code) (out .cells)
-  word-crossed e = record {
-    by-shape = inr (
-      shape,
-      record { reply = c; promised = word-carried stands samples (lent .metrics) (c .metrics) (lent .decisions) (c .decisions) (c .reply) chooses; crosses = e },
-    );
-  }
+  word-crossed e = record { by-shape = inr (shape, record { reply = c; promised = chooses; crosses = e }) }
 
   -- the selection is in its cells
   pub word-found : {a : Selection} {word′ counts′ : List ℕ} → c .reply ≡ C.Found a → SelectionPut a (lent .word) (lent .counts) word′ counts′

@@ -7,29 +7,18 @@ use mathlib.Core.Path.{ap, ap₂, sym, _∙_, _≡_}
 use Prim.Native.Nat.{ℕ}
 use Rattle.asking.specs.declared.Reason.{Reason}
 use Rattle.asking.specs.declared.Verdict.the-variants.{Explained, Refused}
-use Rattle.exports.proofs.PromisesCarried.{why-not-carried}
 use Rattle.exports.specs.Calls.{Crossing, RefusedAt, done}
 use Rattle.exports.specs.Explaining.{AsksTo, CallsWhyNot, Explaining, ReasonCells, ReasonPut, explained, explainedAs, reasonCells}
-use Rattle.exports.specs.Flat.{StandsFor}
+use Rattle.exports.specs.Flat.{plateOf}
 use Rattle.exports.specs.Parting.{PartShape}
-use Rattle.plates.specs.declared.Plate.{Plate}
 use Rattle.plates.specs.declared.Refusal.{Refusal}
 
-module _ (samples : List ℤ) (word : ℕ) (lent : ReasonCells) (x : Explaining) {words : List ℕ} {plate : Plate} (stands : StandsFor words plate)
+module _ (samples : List ℤ) (word : ℕ) (lent : ReasonCells) (x : Explaining) (words : List ℕ)
     (shape : PartShape (length words) (length (lent .difference)) (length (lent .told)) (length (lent .at)))
-    (asks : AsksTo plate samples word lent x) where
+    (asks : AsksTo (plateOf words) samples word lent x) where
   -- a code and cells that the reply crosses as
   crossed : {out : Crossing ReasonCells} → out ≡ explained lent x → CallsWhyNot words samples word lent (out .code) (out .cells)
-  crossed e = record {
-    by-shape = inr (
-      shape,
-      record {
-        reply = x;
-        promised = why-not-carried stands samples word (lent .metrics) (x .metrics) (lent .decisions) (x .decisions) (x .reply) asks;
-        crosses = e;
-      },
-    );
-  }
+  crossed e = record { by-shape = inr (shape, record { reply = x; promised = asks; crosses = e }) }
 
   -- the reason is in its cells
   pub why-not-explained : {reason : Reason} {told′ : List ℕ} {difference′ : List ℤ} → x .reply ≡ Explained reason

@@ -1,83 +1,11 @@
-// A plate as a flat run of 132 words: n, k, 64 rows, 65 profile entries and the mask.
-use plates::Plate;
+// A plate put into its run of 132 words: n, k, 64 rows, 65 profile entries and the mask.
 ghost use mathlib.Core.Path.{_≡_};
 ghost use mathlib.Core.List.{_++_, _∷_};
 ghost use Prim.Native.Nat.{_≤_};
 ghost use lib.ListN.{drop, length, set};
 ghost use lib.Seq.{paste};
-ghost use Rattle.exports.specs.Flat.{EntriesFit, FitTested, StandsFor, flat, flatProfile, flatRows, plateOf};
-
-// Whether every profile entry fits a byte: all their ones together do. The loop stops nowhere, so that it takes several entries at a time.
-fn entries_fit(words: &[u64]) -> bool
-    requires { ⌜ 132 ≤ length (now words) ⌝ }
-    ensures { λ r. ⌜ FitTested (now (words .entry)) r ⌝ }
-{
-    let mut ones: u64 = 0;
-    let mut t = 0;
-    while t < 65 {
-        ones = ones | words[66 + t];
-        t += 1;
-    }
-    ones < 256
-}
-
-// The rows out of the run.
-fn load_rows(rows: &mut [u64; 64], words: &[u64])
-    requires { ⌜ (length (now rows) ≡ 64) × (132 ≤ length (now words)) ⌝ }
-    ensures { λ _. ⌜ now (rows .exit) ≡ flatRows (now (words .entry)) ⌝ }
-{
-    let mut j = 0;
-    while j < 64 {
-        rows[j] = words[2 + j];
-        j += 1;
-    }
-}
-
-// The profile out of the run, whose entries fit bytes.
-fn load_profile(profile: &mut [u8; 65], words: &[u64])
-    requires { ⌜ (length (now profile) ≡ 65) × (132 ≤ length (now words)) × EntriesFit (now words) ⌝ }
-    ensures { λ _. ⌜ now (profile .exit) ≡ flatProfile (now (words .entry)) ⌝ }
-{
-    let mut t = 0;
-    while t < 65 {
-        profile[t] = words[66 + t] as u8;
-        t += 1;
-    }
-}
-
-// The plate of a run whose profile entries fit bytes.
-fn fitting_plate(words: &[u64]) -> Plate
-    requires { ⌜ (132 ≤ length (now words)) × EntriesFit (now words) ⌝ }
-    ensures { λ r. ⌜ r ≡ plateOf (now (words .entry)) ⌝ }
-{
-    let mut plate = Plate {
-        n: words[0] as usize,
-        k: words[1] as usize,
-        mask: words[131],
-        rows: [0; 64],
-        profile: [0; 65],
-    };
-    load_rows(&mut plate.rows, words);
-    load_profile(&mut plate.profile, words);
-    plate
-}
-
-// The plate that stands for a run: one with an entry over a byte is not prepared, and nor is the zero plate.
-pub fn plate_of(words: &[u64]) -> Plate
-    requires { ⌜ 132 ≤ length (now words) ⌝ }
-    ensures { λ r. ⌜ StandsFor (now (words .entry)) r ⌝ }
-{
-    if entries_fit(words) {
-        return fitting_plate(words);
-    }
-    Plate {
-        n: 0,
-        k: 0,
-        mask: 0,
-        rows: [0; 64],
-        profile: [0; 65],
-    }
-}
+ghost use Rattle.plates.specs.Prepare.{ofParts};
+ghost use Rattle.exports.specs.Flat.{flat};
 
 // The rows into the run.
 fn put_rows(words: &mut [u64], rows: &[u64; 64])
@@ -120,12 +48,19 @@ fn put_numbers(words: &mut [u64], n: usize, k: usize, mask: u64)
     words[1] = k as u64;
 }
 
-// The plate to the start of the run.
-pub fn put_plate(words: &mut [u64], plate: Plate)
-    requires { ⌜ (length (plate .rows) ≡ 64) × (length (plate .profile) ≡ 65) × (132 ≤ length (now words)) ⌝ }
-    ensures { λ _. ⌜ now (words .exit) ≡ flat plate ++ drop 132 (now (words .entry)) ⌝ }
+// The plate of some parts to the start of the run.
+pub fn put_plate<'a>(
+    words: &mut [u64],
+    n: usize,
+    k: usize,
+    mask: u64,
+    rows: &'a [u64; 64],
+    profile: &'a [u8; 65],
+)
+    requires { ⌜ (length (now rows) ≡ 64) × (length (now profile) ≡ 65) × (132 ≤ length (now words)) ⌝ }
+    ensures { λ _. ⌜ now (words .exit) ≡ flat (ofParts n k mask (now (rows .entry)) (now (profile .entry))) ++ drop 132 (now (words .entry)) ⌝ }
 {
-    put_numbers(words, plate.n, plate.k, plate.mask);
-    put_rows(words, &plate.rows);
-    put_profile(words, &plate.profile);
+    put_numbers(words, n, k, mask);
+    put_rows(words, rows);
+    put_profile(words, profile);
 }

@@ -15,6 +15,9 @@ mod receiving;
 // The reply where a run is too short for its fixed use, or the kind is neither G nor H.
 const MISSHAPEN: u64 = 101;
 
+// The place of the mask in the run of a plate: n, k, 64 rows and 65 profile entries stand before it.
+const MASK: usize = 131;
+
 // The reply where a state has no branch with the bit that was asked for.
 const NO_BRANCH: u64 = 100;
 
@@ -43,7 +46,14 @@ pub extern "C" fn yendrufal_prepare(
     let verdict = made.verdict;
     match verdict {
         Verdict::Accepted => {
-            flat::put_plate(plate, made.plate);
+            flat::put_plate(
+                plate,
+                made.plate.n,
+                made.plate.k,
+                made.plate.mask,
+                &made.plate.rows,
+                &made.plate.profile,
+            );
             at[0] = 0;
             0
         }
@@ -68,7 +78,16 @@ pub extern "C" fn yendrufal_branch(
     if next.len() < 1 {
         return MISSHAPEN;
     }
-    match trellises::branch(flat::plate_of(plate), depth as usize, state as usize, bit) {
+    match trellises::branch_parts(
+        plate[0] as usize,
+        plate[1] as usize,
+        plate[MASK],
+        &plate[2..66],
+        &plate[66..131],
+        depth as usize,
+        state as usize,
+        bit,
+    ) {
         Next::State(found) => {
             next[0] = found as u64;
             0
@@ -89,7 +108,14 @@ pub extern "C" fn yendrufal_encode(plate: &[u64], information: u64, word: &mut [
     if word.len() < 1 {
         return MISSHAPEN;
     }
-    match coding::encode(flat::plate_of(plate), information) {
+    match coding::encode_parts(
+        plate[0] as usize,
+        plate[1] as usize,
+        plate[MASK],
+        &plate[2..66],
+        &plate[66..131],
+        information,
+    ) {
         Encoded::Word(found) => {
             word[0] = found;
             0
@@ -109,7 +135,14 @@ pub extern "C" fn yendrufal_read_back(plate: &[u64], word: u64, information: &mu
     if information.len() < 1 {
         return MISSHAPEN;
     }
-    match coding::read_back(flat::plate_of(plate), word) {
+    match coding::read_back_parts(
+        plate[0] as usize,
+        plate[1] as usize,
+        plate[MASK],
+        &plate[2..66],
+        &plate[66..131],
+        word,
+    ) {
         ReadBack::Information(found) => {
             information[0] = found;
             0
@@ -129,7 +162,17 @@ pub extern "C" fn yendrufal_write_plate(plate: &[u64], line: &mut [u8], written:
     if written.len() < 1 {
         return MISSHAPEN;
     }
-    cells::written_length(listings::write_plate(flat::plate_of(plate), line), written)
+    cells::written_length(
+        listings::write_plate_parts(
+            plate[0] as usize,
+            plate[1] as usize,
+            plate[MASK],
+            &plate[2..66],
+            &plate[66..131],
+            line,
+        ),
+        written,
+    )
 }
 
 // The line `profile`.
@@ -148,7 +191,14 @@ pub extern "C" fn yendrufal_write_profile(
         return MISSHAPEN;
     }
     cells::written_length(
-        listings::write_profile(flat::plate_of(plate), line),
+        listings::write_profile_parts(
+            plate[0] as usize,
+            plate[1] as usize,
+            plate[MASK],
+            &plate[2..66],
+            &plate[66..131],
+            line,
+        ),
         written,
     )
 }
@@ -173,8 +223,12 @@ pub extern "C" fn yendrufal_write_word(
         return MISSHAPEN;
     }
     cells::written_length(
-        listings::write_word(
-            flat::plate_of(plate),
+        listings::write_word_parts(
+            plate[0] as usize,
+            plate[1] as usize,
+            plate[MASK],
+            &plate[2..66],
+            &plate[66..131],
             word,
             metric,
             additions,

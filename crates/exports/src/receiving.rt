@@ -4,9 +4,9 @@ ghost use Rattle.exports.specs.Explaining.{CallsWhyNot, reasonCells};
 ghost use Rattle.exports.specs.Judging.{CallsFirmness, firmnessCells};
 ghost use Rattle.exports.specs.Parting.{CallsMetric, CallsWord, metricCells, wordCells};
 ghost use Rattle.exports.specs.Promises.{CallsDecode, decodeCells};
+use crate::MASK;
 use crate::MISSHAPEN;
 use crate::cells;
-use crate::flat;
 use crate::reasons;
 use asking::Verdict;
 use decoding::Decoded;
@@ -37,7 +37,16 @@ pub extern "C" fn yendrufal_decode(
     ) {
         return MISSHAPEN;
     }
-    match decoding::decode(flat::plate_of(plate), samples, metrics, decisions) {
+    match decoding::decode_parts(
+        plate[0] as usize,
+        plate[1] as usize,
+        plate[MASK],
+        &plate[2..66],
+        &plate[66..131],
+        samples,
+        metrics,
+        decisions,
+    ) {
         Decoded::Found(answer) => {
             cells::put_answer(answer, word, metric, counts);
             at[0] = 0;
@@ -62,7 +71,15 @@ pub extern "C" fn yendrufal_metric(
     if !cells::part_shaped(plate.len(), metric.len(), counts.len(), at.len()) {
         return MISSHAPEN;
     }
-    match decoding::apart::best_metric(flat::plate_of(plate), samples, metrics) {
+    match decoding::apart::best_metric_parts(
+        plate[0] as usize,
+        plate[1] as usize,
+        plate[MASK],
+        &plate[2..66],
+        &plate[66..131],
+        samples,
+        metrics,
+    ) {
         Measured::Found(measure) => {
             cells::put_measure(measure, metric, counts);
             at[0] = 0;
@@ -88,7 +105,16 @@ pub extern "C" fn yendrufal_word(
     if !cells::part_shaped(plate.len(), word.len(), counts.len(), at.len()) {
         return MISSHAPEN;
     }
-    match decoding::apart::best_word(flat::plate_of(plate), samples, metrics, decisions) {
+    match decoding::apart::best_word_parts(
+        plate[0] as usize,
+        plate[1] as usize,
+        plate[MASK],
+        &plate[2..66],
+        &plate[66..131],
+        samples,
+        metrics,
+        decisions,
+    ) {
         Chosen::Found(selection) => {
             cells::put_selection(selection, word, counts);
             at[0] = 0;
@@ -115,8 +141,12 @@ pub extern "C" fn yendrufal_firmness(
     if !cells::firmness_shaped(plate.len(), fixed.len(), value.len(), at.len()) {
         return MISSHAPEN;
     }
-    match decoding::firmness::firmness(
-        flat::plate_of(plate),
+    match decoding::firmness::firmness_parts(
+        plate[0] as usize,
+        plate[1] as usize,
+        plate[MASK],
+        &plate[2..66],
+        &plate[66..131],
         samples,
         position as usize,
         metrics,
@@ -148,7 +178,17 @@ pub extern "C" fn yendrufal_why_not(
     if !cells::part_shaped(plate.len(), difference.len(), reason.len(), at.len()) {
         return MISSHAPEN;
     }
-    match asking::why_not(flat::plate_of(plate), samples, word, metrics, decisions) {
+    match asking::why_not_parts(
+        plate[0] as usize,
+        plate[1] as usize,
+        plate[MASK],
+        &plate[2..66],
+        &plate[66..131],
+        samples,
+        word,
+        metrics,
+        decisions,
+    ) {
         Verdict::Explained(explained) => {
             reasons::put_reason(explained, reason, difference);
             at[0] = 0;

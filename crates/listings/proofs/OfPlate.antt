@@ -1,8 +1,11 @@
 -- Lines of a plate: refusal 5 comes first, and a prepared plate's lines fit 256 bytes.
 use lib.ListN.{getD, length}
 use lib.Seq.{getD-take, length-take-le}
+use mathlib.Core.Bool.{Bool, false, true}
 use mathlib.Core.List.{List}
-use mathlib.Core.Path.{refl, _≡_}
+use mathlib.Core.Path.{refl, sym, _≡_}
+use mir.Syntax.{w64}
+use mir.Val.{Fits}
 use native.Mathlib.Omega.{arith}
 use Prim.Native.Nat.{_+_, _<_, ℕ, _≤_}
 use Rattle.listings.proofs.Conditions.{passed-first, refused-first}
@@ -14,7 +17,7 @@ use Rattle.listings.specs.Writing.{WritesLine, WritesOf, entriesOf}
 use Rattle.plates.proofs.SoundIsPrepared.{sound}
 use Rattle.plates.specs.declared.Plate.{Plate}
 use Rattle.plates.specs.declared.Refusal.the-variants.{NotPrepared}
-use Rattle.plates.specs.Prepare.{IsPrepared}
+use Rattle.plates.specs.Prepare.{IsPrepared, Tests}
 
 -- a plate that is not prepared
 pub plate-refused : {plate : Plate} {line room : List ℕ} → (IsPrepared plate → ⊥) → WritesOf plate line room (Refused NotPrepared) room
@@ -47,3 +50,30 @@ module _ (plate : Plate) (p : IsPrepared plate) where
   -- so the line fits
   pub entries-fit : length (profileLine (entriesOf plate)) ≤ 256
   entries-fit = profile-fits-256 (entriesOf plate) (omega (arith, entries-length, short)) narrow
+
+-- ---- by the test of the plate
+
+module _ {plate : Plate} {p : Bool} (t : Tests plate p) where
+  -- it says no
+  pub untested : {line room : List ℕ} → p ≡ false → WritesOf plate line room (Refused NotPrepared) room
+  untested e = plate-refused (t .no-is e)
+
+  -- it says yes
+  module _ (e : p ≡ true) where
+    given : IsPrepared plate
+    given = t .yes-is e
+
+    pub tested-short : plate .n ≤ 64
+    tested-short = short plate given
+
+    pub count-fits : Fits w64 (plate .n + 1)
+    count-fits = record { fits = omega (arith, tested-short) }
+
+    pub tested-length : plate .n + 1 ≡ length (entriesOf plate)
+    tested-length = sym (entries-length plate given)
+
+    pub tested-fit : length (profileLine (entriesOf plate)) ≤ 256
+    tested-fit = entries-fit plate given
+
+    pub tested : {line room room′ : List ℕ} {r : Written} → WritesLine line room r room′ → WritesOf plate line room r room′
+    tested = plate-passed given

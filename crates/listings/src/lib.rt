@@ -4,6 +4,7 @@ ghost use mathlib.Core.Path.{_≡_};
 ghost use mathlib.Core.List.{_++_};
 ghost use Prim.Native.Nat.{_≤_};
 ghost use lib.ListN.{length, drop};
+ghost use Rattle.plates.specs.Prepare.{ofParts};
 ghost use Rattle.listings.specs.Building.{Ends};
 ghost use Rattle.listings.specs.Lines.{plateLine, profileLine, wordLine};
 ghost use Rattle.listings.specs.Writing.{WritesLine, WritesPlate, WritesProfile, WritesWord, WritesRefused, WritesEnd, WritesWeight, WritesLeast, WritesNoLeast, WritesTally};
@@ -62,16 +63,12 @@ fn write_line(line: &pieces::Line, at: usize, room: &mut [u8]) -> Written
 }
 
 // The line `plate`, from n, k and the profile's entries in use.
-fn put_plate(n: usize, k: usize, entries: &[u8], room: &mut [u8]) -> Written
+fn put_plate(n: usize, k: usize, entries: &[u64], room: &mut [u8]) -> Written
     ensures { λ r. ⌜ WritesLine (plateLine n k (now (entries .entry))) (now (room .entry)) r (now (room .exit)) ⌝ }
 {
     let mut line = [0; 256];
     let feed = pieces::line_feed(&mut line);
-    let most = pieces::prepend_field(
-        &mut line,
-        feed,
-        pieces::wide(pieces::largest_entry(entries)),
-    );
+    let most = pieces::prepend_field(&mut line, feed, pieces::largest_entry(entries));
     let heads = pieces::prepend_field(&mut line, most, k as u64);
     let long = pieces::prepend_field(&mut line, heads, n as u64);
     let at = pieces::prepend_name(&mut line, long, b"plate");
@@ -79,7 +76,7 @@ fn put_plate(n: usize, k: usize, entries: &[u8], room: &mut [u8]) -> Written
 }
 
 // The line `profile`, from the profile's entries in use.
-fn put_profile(entries: &[u8], room: &mut [u8]) -> Written
+fn put_profile(entries: &[u64], room: &mut [u8]) -> Written
     requires { ⌜ length (profileLine (now entries)) ≤ 256 ⌝ }
     ensures { λ r. ⌜ WritesLine (profileLine (now (entries .entry))) (now (room .entry)) r (now (room .exit)) ⌝ }
 {
@@ -114,30 +111,79 @@ fn put_word(
 // ---- public calls
 
 // The line `plate`: n, k and the largest profile entry.
-pub fn write_plate(plate: Plate, room: &mut [u8]) -> Written
-    ensures { λ r. ⌜ WritesPlate plate (now (room .entry)) r (now (room .exit)) ⌝ }
+pub fn write_plate_parts<'a>(
+    n: usize,
+    k: usize,
+    mask: u64,
+    rows: &'a [u64],
+    profile: &'a [u64],
+    room: &mut [u8],
+) -> Written
+    ensures { λ r. ⌜ WritesPlate (ofParts n k mask (now (rows .entry)) (now (profile .entry))) (now (room .entry)) r (now (room .exit)) ⌝ }
 {
-    if plates::is_prepared(plate) {
-        let profile = plate.profile;
-        let count = plate.n + 1;
-        return put_plate(plate.n, plate.k, &profile[..count], room);
+    if plates::parts_prepared(n, k, mask, rows, profile) {
+        let count = n + 1;
+        return put_plate(n, k, &profile[..count], room);
     }
     Written::Refused(Refusal::NotPrepared)
 }
 
-// The line `profile`: its entries s(0) to s(n).
-pub fn write_profile(plate: Plate, room: &mut [u8]) -> Written
-    ensures { λ r. ⌜ WritesProfile plate (now (room .entry)) r (now (room .exit)) ⌝ }
+// The line `plate` of a plate by value.
+pub fn write_plate(plate: Plate, room: &mut [u8]) -> Written
+    ensures { λ r. ⌜ WritesPlate plate (now (room .entry)) r (now (room .exit)) ⌝ }
 {
-    if plates::is_prepared(plate) {
-        let profile = plate.profile;
-        let count = plate.n + 1;
+    let profile = plates::widened(plate.profile);
+    write_plate_parts(plate.n, plate.k, plate.mask, &plate.rows, &profile, room)
+}
+
+// The line `profile`: its entries s(0) to s(n).
+pub fn write_profile_parts<'a>(
+    n: usize,
+    k: usize,
+    mask: u64,
+    rows: &'a [u64],
+    profile: &'a [u64],
+    room: &mut [u8],
+) -> Written
+    ensures { λ r. ⌜ WritesProfile (ofParts n k mask (now (rows .entry)) (now (profile .entry))) (now (room .entry)) r (now (room .exit)) ⌝ }
+{
+    if plates::parts_prepared(n, k, mask, rows, profile) {
+        let count = n + 1;
         return put_profile(&profile[..count], room);
     }
     Written::Refused(Refusal::NotPrepared)
 }
 
+// The line `profile` of a plate by value.
+pub fn write_profile(plate: Plate, room: &mut [u8]) -> Written
+    ensures { λ r. ⌜ WritesProfile plate (now (room .entry)) r (now (room .exit)) ⌝ }
+{
+    let profile = plates::widened(plate.profile);
+    write_profile_parts(plate.n, plate.k, plate.mask, &plate.rows, &profile, room)
+}
+
 // The line `word`: its first n positions, the metric, additions and comparisons.
+pub fn write_word_parts<'a>(
+    n: usize,
+    k: usize,
+    mask: u64,
+    rows: &'a [u64],
+    profile: &'a [u64],
+    word: u64,
+    metric: i32,
+    additions: u64,
+    comparisons: u64,
+    room: &mut [u8],
+) -> Written
+    ensures { λ r. ⌜ WritesWord (ofParts n k mask (now (rows .entry)) (now (profile .entry))) word metric additions comparisons (now (room .entry)) r (now (room .exit)) ⌝ }
+{
+    if plates::parts_prepared(n, k, mask, rows, profile) {
+        return put_word(n, word, metric, additions, comparisons, room);
+    }
+    Written::Refused(Refusal::NotPrepared)
+}
+
+// The line `word` of a plate by value.
 pub fn write_word(
     plate: Plate,
     word: u64,
@@ -148,10 +194,19 @@ pub fn write_word(
 ) -> Written
     ensures { λ r. ⌜ WritesWord plate word metric additions comparisons (now (room .entry)) r (now (room .exit)) ⌝ }
 {
-    if plates::is_prepared(plate) {
-        return put_word(plate.n, word, metric, additions, comparisons, room);
-    }
-    Written::Refused(Refusal::NotPrepared)
+    let profile = plates::widened(plate.profile);
+    write_word_parts(
+        plate.n,
+        plate.k,
+        plate.mask,
+        &plate.rows,
+        &profile,
+        word,
+        metric,
+        additions,
+        comparisons,
+        room,
+    )
 }
 
 // The line `refused`: a number and a place, and the field where the place of this number is a line and a field.

@@ -142,14 +142,14 @@ pub fn prepend_less(line: &mut Line, end: usize, above: u64, below: u64) -> usiz
 }
 
 // The larger of two entries.
-pub fn larger(entry: u8, other: u8) -> u8
+pub fn larger(entry: u64, other: u64) -> u64
     ensures { λ r. ⌜ r ≡ max entry other ⌝ }
 {
     if entry < other { other } else { entry }
 }
 
 // The largest of some entries.
-pub fn largest_entry(entries: &[u8]) -> u8
+pub fn largest_entry(entries: &[u64]) -> u64
     ensures { λ r. ⌜ r ≡ largest (now (entries .entry)) ⌝ }
 {
     let mut most = 0;
@@ -162,21 +162,14 @@ pub fn largest_entry(entries: &[u8]) -> u8
 }
 
 // Entries as fields, and the line feed, at the end of the array.
-pub fn prepend_entries(line: &mut Line, entries: &[u8]) -> usize
+pub fn prepend_entries(line: &mut Line, entries: &[u64]) -> usize
     ensures { λ r. ⌜ Prepends (now (line .entry)) 256 (following (map decimal (now (entries .entry)))) (now (line .exit)) r ⌝ }
 {
     let mut at = line_feed(line);
     let mut i = entries.len();
     while i > 0 {
         i -= 1;
-        at = prepend_field(line, at, wide(entries[i]));
+        at = prepend_field(line, at, entries[i]);
     }
     at
-}
-
-// An entry as a number to print.
-pub fn wide(entry: u8) -> u64
-    ensures { λ r. ⌜ r ≡ entry ⌝ }
-{
-    entry as u64
 }

@@ -1,6 +1,6 @@
 // The trellis of a plate: its sections as plain numbers, and its branches.
+ghost use Rattle.plates.specs.Prepare.{ofParts};
 ghost use Rattle.trellises.specs.Branching.{Branches};
-use plates::Plate;
 use plates::Refusal;
 
 mod branching;
@@ -25,11 +25,31 @@ pub enum Next {
 }
 
 // The branch of a plate's trellis that leaves a state with a bit: where it leads, or that there is none.
-pub fn branch(plate: Plate, depth: usize, state: usize, bit: u64) -> Next
-    ensures { λ r. ⌜ Branches plate depth state bit r ⌝ }
+pub fn branch_parts<'a>(
+    n: usize,
+    k: usize,
+    mask: u64,
+    rows: &'a [u64],
+    profile: &'a [u64],
+    depth: usize,
+    state: usize,
+    bit: u64,
+) -> Next
+    ensures { λ r. ⌜ Branches (ofParts n k mask (now (rows .entry)) (now (profile .entry))) depth state bit r ⌝ }
 {
-    if plates::is_prepared(plate) {
-        return branching::branch_of(plate, depth, state, bit);
+    if !plates::parts_prepared(n, k, mask, rows, profile) {
+        return Next::Refused(Refusal::NotPrepared);
     }
-    Next::Refused(Refusal::NotPrepared)
+    if n <= depth {
+        return Next::Refused(Refusal::NoSuchBranch);
+    }
+    if 1 < bit {
+        return Next::Refused(Refusal::NoSuchBranch);
+    }
+    let section = sections::section_of(&rows[..k], depth);
+    if branching::weight_of(section.live) <= state {
+        return Next::Refused(Refusal::NoSuchBranch);
+    }
+    // the branch's bit is the mask's added to that of the code's branch
+    branching::next_of(section, state, bit ^ words::bit_at(mask, depth))
 }

@@ -1,27 +1,32 @@
 -- The replies of `count_weights`, case by case.
+use borrow.Author.Tests.{not-false, not-true}
 use lib.Arith.{bin-ind}
 use lib.Count.{ones, ones-step}
-use lib.ListN.{drop, getD, length, replicate}
+use lib.ListN.{drop, getD, length, replicate, take}
+use lib.Seq.{length-take-le}
+use mathlib.Core.Bool.{Bool, false, not, true}
 use mathlib.Core.List.{_++_, List}
 use mathlib.Core.Logic.{inl, inr, _⊎_}
 use mathlib.Core.Path.{ap, refl, subst, sym, _∙_, _≡_}
+use mir.Syntax.{w64}
+use mir.Val.{Fits}
 use native.Mathlib.Decide.{decLt}
 use native.Mathlib.Omega.{arith}
-use Prim.Native.Nat.{_*_, _/_, _<_, _^_, ℕ, _≤_}
-use Rattle.decoding.proofs.PlateSizes.{entry-widest}
+use Prim.Native.Nat.{_*_, _+_, _/_, _<_, _^_, ℕ, _≤_}
+use Rattle.decoding.proofs.PlateSizes.{entry-widest, plate-sizes-fit, profile-fits}
 use Rattle.decoding.specs.Decode.{widest}
-use Rattle.decoding.specs.Needs.{widestEntry}
+use Rattle.decoding.specs.Needs.{ProfileFits, widestEntry}
 use Rattle.plates.proofs.SoundIsPrepared.{sound, used-rows}
 use Rattle.plates.specs.declared.Plate.{Plate}
 use Rattle.plates.specs.declared.Refusal.the-variants.{MetricRoom, NotPrepared, WholeSpace}
-use Rattle.plates.specs.Prepare.{IsPrepared, rowsOf}
+use Rattle.plates.specs.Prepare.{IsPrepared, Tests, rowsOf}
 use Rattle.plates.specs.Refusals.{Passes}
 use Rattle.trellises.proofs.PlateTrellis.{plate-spans}
 use Rattle.weights.proofs.CountPairs.{number-some, number-zero}
-use Rattle.weights.proofs.PlateWeights.{codeword-below, ways-number, weight-most}
+use Rattle.weights.proofs.PlateWeights.{codeword-below, tally-fits, ways-number, weight-most}
 use Rattle.weights.specs.declared.Counted.the-variants.{Least, OnlyZero, Refused}
-use Rattle.weights.specs.Rooms.{FirstAbove}
-use Rattle.weights.specs.Tallying.{Counted}
+use Rattle.weights.specs.Rooms.{FirstAbove, TestsRooms}
+use Rattle.weights.specs.Tallying.{Counted, TallyFits}
 use Rattle.weights.specs.Weights.{CountsWeights, Filled, LeastWeight, NumberOfWeight, OfWeight, weightConditions, workingNeed}
 use Rattle.words.proofs.Ends.{some-pos}
 use Rattle.words.proofs.Sums.{in-row}
@@ -130,3 +135,94 @@ module _ (plate : Plate) (counts working : List ℕ) where
 
               pub counted-none : 65 ≤ r → CountsWeights plate counts working counts′ working′ OnlyZero
               counted-none h = (passes, only-zero h, filled need e working′ z)
+
+-- ---- by the promises of what `count_weights_parts` calls
+
+-- nothing is refused: the plate is tested, and both rooms are long enough
+pub record Ready (plate : Plate) (half : ℕ) (counts working : List ℕ) : Type 0 where
+  pub plate-given : IsPrepared plate
+  pub half-widest : half ≡ 2 ^ widest plate * 65
+  pub not-whole : plate .k ≡ 64 → ⊥
+  pub counts-there : 65 ≤ length counts
+  pub working-there : half + half ≤ length working
+
+module _ {plate : Plate} {p : Bool} (t : Tests plate p) where
+  pub unprepared : (counts working : List ℕ) → not p ≡ true → CountsWeights plate counts working counts working (Refused NotPrepared)
+  unprepared counts working e = refused-5 plate counts working (t .no-is (not-true _ e))
+
+  module _ (e : not p ≡ false) where
+    given : IsPrepared plate
+    given = t .yes-is (not-false _ e)
+
+    pub profile-long : plate .n < length (plate .profile)
+    profile-long = omega (arith, sound given .short, sound given .entries)
+
+    pub entries-small : ProfileFits (plate .profile) (plate .n)
+    entries-small = profile-fits plate given
+
+    pub rows-count : plate .k ≡ length (rowsOf plate)
+    rows-count = sym (used-rows plate (sound given .few) (sound given .table))
+
+    pub whole-space : (counts working : List ℕ) → plate .k ≡ 64 → CountsWeights plate counts working counts working (Refused WholeSpace)
+    whole-space counts working = refused-22 plate counts working given
+
+    -- the half that was found
+    module _ {half : ℕ} (h : half ≡ 2 ^ widestEntry (plate .profile) (plate .n) * 65) where
+      widest-half : half ≡ 2 ^ widest plate * 65
+      widest-half = h ∙ half-is plate given
+
+      need-is : half + half ≡ workingNeed plate
+      need-is = omega (arith, widest-half)
+
+      pub need-fits : Fits w64 (half + half)
+      need-fits = record { fits = omega (arith, widest-half, plate-sizes-fit plate given .half-small) }
+
+      -- the rooms that were tested
+      module _ (counts working : List ℕ) {short : Bool} (rooms : TestsRooms (length counts) (length working) (half + half) short)
+          (not-whole : plate .k ≡ 64 → ⊥) where
+        pub rooms-refused : short ≡ true → CountsWeights plate counts working counts working (Refused MetricRoom)
+        rooms-refused e = refused-8 plate counts working given not-whole (by-need need-is (rooms .yes-is e))
+
+        pub made-ready : short ≡ false → Ready plate half counts working
+        made-ready e = record {
+          plate-given = given;
+          half-widest = widest-half;
+          not-whole = not-whole;
+          counts-there = rooms .no-is e .0;
+          working-there = rooms .no-is e .1;
+        }
+
+module _ {plate : Plate} {half : ℕ} {counts working : List ℕ} (ready : Ready plate half counts working) where
+  abbrev lent : List ℕ
+  lent = take (half + half) working
+
+  pub working-count : half + half ≡ length (take (half + half) working)
+  working-count = sym (length-take-le (half + half) working (ready .working-there))
+
+  pub tally-asks : TallyFits (rowsOf plate) (plate .n) half (take (half + half) working)
+  tally-asks =
+      tally-fits plate (ready .plate-given) (not-64 plate counts working (ready .plate-given) (ready .not-whole)) half (ready .half-widest) lent
+      (sym working-count)
+
+  -- what was counted
+  module _ {counts′ zeros : List ℕ} (k : Counted (rowsOf plate) (plate .n) counts counts′)
+      (z : zeros ≡ replicate (length (take (half + half) working)) 0) where
+    pub counts-still : 65 ≤ length counts′
+    counts-still = omega (arith, k .size, ready .counts-there)
+
+    module _ {r : ℕ} (f : FirstAbove counts′ r) where
+      need-same : half + half ≡ workingNeed plate
+      need-same = omega (arith, ready .half-widest)
+
+      zeroed : zeros ++ drop (half + half) working ≡ replicate (half + half) 0 ++ drop (half + half) working
+      zeroed = ap (λ (l : List ℕ). l ++ drop (half + half) working) (z ∙ ap (λ (m : ℕ). replicate m 0) (sym working-count))
+
+      pub least-found : r < 65 → CountsWeights plate counts working counts′ (zeros ++ drop (half + half) working) (Least r)
+      least-found =
+          counted-least plate counts working (ready .plate-given) (ready .not-whole) (ready .counts-there) (omega (arith, ready .working-there, need-same))
+          counts′ k r f (half + half) need-same (zeros ++ drop (half + half) working) zeroed
+
+      pub none-found : 65 ≤ r → CountsWeights plate counts working counts′ (zeros ++ drop (half + half) working) OnlyZero
+      none-found =
+          counted-none plate counts working (ready .plate-given) (ready .not-whole) (ready .counts-there) (omega (arith, ready .working-there, need-same))
+          counts′ k r f (half + half) need-same (zeros ++ drop (half + half) working) zeroed

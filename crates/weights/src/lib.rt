@@ -5,6 +5,7 @@ use crate::rooms::half_of;
 use crate::tallies::tally;
 use plates::Plate;
 use plates::Refusal;
+ghost use Rattle.plates.specs.Prepare.{ofParts};
 ghost use Rattle.weights.specs.Weights.{CountsWeights};
 
 mod rooms;
@@ -20,14 +21,21 @@ pub enum Counted {
 
 // The number of codewords of each weight into the first 65 counts. The working room needs 130 * 2^m numbers, m being the largest profile
 // entry.
-pub fn count_weights(plate: Plate, counts: &mut [u64], working: &mut [u64]) -> Counted
-    ensures { λ r. ⌜ CountsWeights plate (now (counts .entry)) (now (working .entry)) (now (counts .exit)) (now (working .exit)) r ⌝ }
+pub fn count_weights_parts<'a>(
+    n: usize,
+    k: usize,
+    mask: u64,
+    rows: &'a [u64],
+    profile: &'a [u64],
+    counts: &mut [u64],
+    working: &mut [u64],
+) -> Counted
+    ensures { λ r. ⌜ CountsWeights (ofParts n k mask (now (rows .entry)) (now (profile .entry))) (now (counts .entry)) (now (working .entry)) (now (counts .exit)) (now (working .exit)) r ⌝ }
 {
-    if !plates::is_prepared(plate) {
+    if !plates::parts_prepared(n, k, mask, rows, profile) {
         return Counted::Refused(Refusal::NotPrepared);
     }
-    let k = plate.k;
-    let half = half_of(plate.n, &plate.profile);
+    let half = half_of(n, profile);
     let need = half + half;
     let short = are_short(counts.len(), working.len(), need);
     if k == 64 {
@@ -36,17 +44,26 @@ pub fn count_weights(plate: Plate, counts: &mut [u64], working: &mut [u64]) -> C
     if short {
         return Counted::Refused(Refusal::MetricRoom);
     }
-    let rows = plate.rows;
-    tally(
-        &rows[..k],
-        plate.n,
-        half,
-        &mut working[..need],
-        &mut *counts,
-    );
+    tally(&rows[..k], n, half, &mut working[..need], &mut *counts);
     let least = find_least(&*counts);
     if least < 65 {
         return Counted::Least(least);
     }
     Counted::OnlyZero
+}
+
+// The weights of a plate by value.
+pub fn count_weights(plate: Plate, counts: &mut [u64], working: &mut [u64]) -> Counted
+    ensures { λ r. ⌜ CountsWeights plate (now (counts .entry)) (now (working .entry)) (now (counts .exit)) (now (working .exit)) r ⌝ }
+{
+    let profile = plates::widened(plate.profile);
+    count_weights_parts(
+        plate.n,
+        plate.k,
+        plate.mask,
+        &plate.rows,
+        &profile,
+        counts,
+        working,
+    )
 }

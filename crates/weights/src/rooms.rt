@@ -14,29 +14,23 @@ fn greater(a: usize, b: usize) -> usize
     if a < b { b } else { a }
 }
 
-fn wide(entry: u8) -> usize
-    ensures { λ r. ⌜ r ≡ entry ⌝ }
-{
-    entry as usize
-}
-
 // The largest of the first n + 1 profile entries.
-fn widest(profile: &[u8; 65], n: usize) -> usize
-    requires { ⌜ n ≤ 64 ⌝ }
+fn widest(profile: &[u64], n: usize) -> usize
+    requires { ⌜ n < length (now profile) ⌝ }
     ensures { λ r. ⌜ r ≡ widestEntry (now (profile .entry)) n ⌝ }
 {
-    let mut most = wide(profile[0]);
+    let mut most = profile[0] as usize;
     let mut t = 0;
     while t < n {
         t += 1;
-        most = greater(wide(profile[t]), most);
+        most = greater(profile[t] as usize, most);
     }
     most
 }
 
 // 65 numbers for each state of the widest depth.
-pub fn half_of(n: usize, profile: &[u8; 65]) -> usize
-    requires { ⌜ (n ≤ 64) × ProfileFits (now profile) n ⌝ }
+pub fn half_of(n: usize, profile: &[u64]) -> usize
+    requires { ⌜ (n < length (now profile)) × ProfileFits (now profile) n ⌝ }
     ensures { λ r. ⌜ r ≡ 2 ^ widestEntry (now (profile .entry)) n * 65 ⌝ }
 {
     power(widest(profile, n)) * 65

@@ -17,41 +17,25 @@ Inv-loop rows k information sum₀ j₀ sum j = (j ≤ k) × (sum ≡ sumFrom ro
 abbrev μ-loop : tie.MeasureT-loop
 μ-loop rows k information sum₀ j₀ sum j = j
 
-loop-holds : tie.Need-loop-holds Inv-loop μ-loop
-loop-holds c = (omega arith, sum-start (c .args .rows .now) (c .args .k) (c .args .information) (c .pre .0) (c .pre .1))
-
-sub-j : tie.Need-sub-j Inv-loop μ-loop
-sub-j c = search needs
-
-mul-with-row : tie.Need-mul-with-row Inv-loop μ-loop
-mul-with-row c = search needs
-
-element-copy-out-with-row : tie.Need-element-copy-out-with-row Inv-loop μ-loop
-element-copy-out-with-row c = search needs
-
-bit-at-requires : tie.Need-bit-at-requires Inv-loop μ-loop
-bit-at-requires c κs = search needs
-
 with-row-requires : tie.Need-with-row-requires Inv-loop μ-loop
-with-row-requires c κs = subst (λ (x : ℕ). x < 2) (sym (c .bit-at .ensures)) (bit-lt (c .before .before .before .loop .j - 1) (c .before .before .before .before .args .information))
-
-loop-less : tie.Need-loop-less Inv-loop μ-loop
-loop-less c = search needs
+with-row-requires c κs =
+    let l = c .before .before .before in
+    subst (λ (x : ℕ). x < 2) (sym (c .bit-at .ensures)) (bit-lt (l .loop .j - 1) (l .before .before .args .information))
 
 loop-again : tie.Need-loop-again Inv-loop μ-loop
 loop-again c =
-    let s = c .before .before .before .before .before in
-    let j : ℕ = c .before .before .before .before .loop .j in
-    let sum : ℕ = c .before .before .before .before .loop .sum in (
+    let l = c .before .before .before .before in
+    let s = l .before .before in
+    let j : ℕ = l .loop .j in (
       omega arith,
-      c .with-row .ensures ∙ ap (λ (d : ℕ). bitXor (taken d (getD (s .args .rows .now) (j - 1) 0)) sum) (c .before .bit-at .ensures)
-          ∙ sum-down (s .args .rows .now) (s .args .k) (s .args .information) (s .pre .0) (s .pre .1) j sum (c .before .before .before .loop-test .taken)
-          (c .before .before .before .before .loop .inv .0) (c .before .before .before .before .loop .inv .1),
+      c .with-row .ensures ∙ ap (λ (d : ℕ). bitXor (taken d (getD (s .args .rows .now) (j - 1) 0)) (l .loop .sum)) (c .before .bit-at .ensures)
+          ∙ sum-down (s .args .rows .now) (s .args .k) (s .args .information) (s .pre .0) (s .pre .1) j (l .loop .sum) (c .before .before .before .loop-test .taken)
+          (l .loop .inv .0) (l .loop .inv .1),
     )
 
 returns : tie.Need-returns Inv-loop μ-loop
 returns c =
-    let s = c .before .before in
+    let s = c .before .before .before in
     sum-end (s .args .rows .now) (s .args .k) (s .args .information) (s .pre .0) (s .pre .1) (c .before .loop .j) (c .before .loop .sum)
     (omega (arith, c .loop-test .left)) (c .before .loop .inv .1)
 
@@ -61,12 +45,12 @@ sum-rows-spec =
     (tie.spec
     Inv-loop
     μ-loop
-    loop-holds
-    sub-j
-    mul-with-row
-    element-copy-out-with-row
-    bit-at-requires
+    (λ c. search (sum-start, needs))  -- the loop's start
+    (λ c. search needs)  -- j -= 1
+    (λ c. search needs)  -- the place of rows[j]
+    (λ c. search needs)  -- rows[j]
+    (λ c κs. search needs)  -- bit_at
     with-row-requires
-    loop-less
+    (λ c. search needs)  -- the measure falls
     loop-again
     returns)

@@ -46,7 +46,7 @@ same-length-2 c = search needs
 
 returns-4 : tie.Need-returns-4
 returns-4 c =
-    let done = c .before .before .before .before .before .before in
+    let done = c .before .before .before .before .before .before .before .before .before in
     let start = done .before .before .before .before .before .before .before .before in
     let made = done .prepare .result in
     replied (search needs) made made
@@ -54,7 +54,7 @@ returns-4 c =
     (done .before .kind-of .ensures) (done .prepare .ensures))
     refl
     (crossed-accepted (start .args .plate .now) (start .args .at .now) (made .plate)
-    (c .before .before .before .before .enum-told .given .1) (c .before .before .put-plate .ensures))
+    (c .before .before .before .before .before .before .before .enum-told .given .1) (c .before .before .put-plate .ensures))
 
 same-length-3 : tie.Need-same-length-3
 same-length-3 c = search needs

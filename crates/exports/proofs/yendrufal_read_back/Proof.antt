@@ -1,61 +1,42 @@
 -- `exports::yendrufal_read_back` meets its promise.
 use borrow.Author.Needs.{needs}
-use Rattle.exports.proofs.CallsMade.{misshaped, replied, same-code}
 use mathlib.Core.Path.{refl}
 use native.Mathlib.Omega.{arith}
-use Rattle.exports.proofs.PromisesCarried.{read-back-carried}
+use Rattle.exports.proofs.CallsMade.{misshaped, replied, same-code}
 use Rattle.exports.proofs.yendrufal_read_back.Statement.{statement}
 use Rattle.exports.proofs.yendrufal_read_back.Tie as tie
-
-returns : tie.Need-returns
-returns c = misshaped (λ s. omega (arith, s .0))
-
-returns-2 : tie.Need-returns-2
-returns-2 c = misshaped (λ s. omega (arith, s .1))
-
-plate-of-requires : tie.Need-plate-of-requires
-plate-of-requires c κs = search needs
-
-read-back-requires : tie.Need-read-back-requires
-read-back-requires c κs = search needs
-
-enum-known-found : tie.Need-enum-known-found
-enum-known-found c = search needs
-
-slice-write-information : tie.Need-slice-write-information
-slice-write-information c = search needs
-
-enum-known-refusal : tie.Need-enum-known-refusal
-enum-known-refusal c = search needs
-
-refusal-number-requires : tie.Need-refusal-number-requires
-refusal-number-requires c κs = search needs
-
-same-length : tie.Need-same-length
-same-length c = search needs
 
 returns-3 : tie.Need-returns-3
 returns-3 c =
     let done = c .before .before .before in
-    replied (search needs) (done .read-back .result) _ (read-back-carried (done .before .plate-of .ensures) (done .before .before .before .before .before .before .args .word) (done .read-back .result) (done .read-back .ensures)) (c .before .found .given .1) refl
+    replied (search needs) (done .read-back-parts .result) _ (done .read-back-parts .ensures) (c .before .found .given .1) refl
 
 returns-4 : tie.Need-returns-4
 returns-4 c =
     let done = c .before .before .before .before in
-    replied (search needs) (done .read-back .result) _ (read-back-carried (done .before .plate-of .ensures) (done .before .before .before .before .before .before .args .word) (done .read-back .result) (done .read-back .ensures)) (c .before .before .refusal .given .1) (same-code (c .refusal-number .ensures))
+    replied (search needs) (done .read-back-parts .result) _ (done .read-back-parts .ensures) (c .before .before .refusal .given .1)
+    (same-code (c .refusal-number .ensures))
 
 pub yendrufal-read-back-spec : {M : Type 1} → statement M
 yendrufal-read-back-spec =
     tie.close
     (tie.spec
-    returns
-    returns-2
-    plate-of-requires
-    read-back-requires
-    enum-known-found
-    slice-write-information
-    enum-known-refusal
-    refusal-number-requires
-    same-length
+    (λ c. misshaped (λ s. omega (arith, s .0)))  -- plate
+    (λ c. misshaped (λ s. omega (arith, s .1)))  -- the cell
+    (λ c. search needs)  -- plate[0]
+    (λ c. search needs)  -- plate[1]
+    (λ c. search needs)  -- plate[MASK]
+    (λ c. search needs)  -- &plate[2..66]
+    (λ c. search needs)  -- &plate[2..66]
+    (λ c. search needs)  -- &plate[2..66]
+    (λ c. search needs)  -- &plate[66..131]
+    (λ c. search needs)  -- &plate[66..131]
+    (λ c. search needs)  -- &plate[66..131]
+    (λ c κs. search needs)  -- read_back_parts
+    (λ c. search needs)  -- the reply
+    (λ c. search needs)  -- information[0]
+    (λ c. search needs)  -- the reply
+    (λ c κs. search needs)  -- refusal_number
+    (λ c. search needs)  -- a length
     returns-3
     returns-4)

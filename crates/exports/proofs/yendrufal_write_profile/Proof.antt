@@ -1,51 +1,38 @@
 -- `exports::yendrufal_write_profile` meets its promise.
 use borrow.Author.Needs.{needs}
-use Rattle.exports.proofs.CallsMade.{misshaped, wrote}
 use native.Mathlib.Omega.{arith}
-use Rattle.exports.proofs.PromisesCarried.{write-carried}
+use Rattle.exports.proofs.CallsMade.{misshaped, wrote}
 use Rattle.exports.specs.Flat.{plateOf}
-use Rattle.listings.specs.Lines.{profileLine}
-use Rattle.listings.specs.Writing.{WritesProfile, entriesOf}
-use Rattle.plates.specs.declared.Plate.{Plate}
+use Rattle.listings.specs.Writing.{WritesProfile}
 use Rattle.exports.proofs.yendrufal_write_profile.Statement.{statement}
 use Rattle.exports.proofs.yendrufal_write_profile.Tie as tie
-
-returns : tie.Need-returns
-returns c = misshaped (λ s. omega (arith, s .0))
-
-returns-2 : tie.Need-returns-2
-returns-2 c = misshaped (λ s. omega (arith, s .1))
-
-plate-of-requires : tie.Need-plate-of-requires
-plate-of-requires c κs = search needs
-
-write-profile-requires : tie.Need-write-profile-requires
-write-profile-requires c κs = search needs
-
-written-length-requires : tie.Need-written-length-requires
-written-length-requires c κs = search needs
-
-same-length : tie.Need-same-length
-same-length c = search needs
-
-same-length-2 : tie.Need-same-length-2
-same-length-2 c = search needs
 
 returns-3 : tie.Need-returns-3
 returns-3 c =
     let done = c .before .before .before .before .before .before in
-    let start = done .before .before .before .before .before .before .before .before in
-    wrote (WritesProfile (plateOf (start .args .plate .now))) _ _ _ _ _ (done .write-profile .result) (search needs) (write-carried (done .before .before .plate-of .ensures) (λ (p : Plate). profileLine (entriesOf p)) _ _ (done .write-profile .result) (done .write-profile .ensures)) (c .before .before .written-length .ensures)
+    let start = done .before .before .before .before .before .before .before .before .before .before .before .before in
+    let a = start .args in
+    wrote (WritesProfile (plateOf (a .plate .now))) _ _ _ _ _ (done .write-profile-parts .result) (search needs)
+    (done .write-profile-parts .ensures)
+    (c .before .before .written-length .ensures)
 
 pub yendrufal-write-profile-spec : {M : Type 1} → statement M
 yendrufal-write-profile-spec =
     tie.close
     (tie.spec
-    returns
-    returns-2
-    plate-of-requires
-    write-profile-requires
-    written-length-requires
-    same-length
-    same-length-2
+    (λ c. misshaped (λ s. omega (arith, s .0)))  -- plate
+    (λ c. misshaped (λ s. omega (arith, s .1)))  -- the cell
+    (λ c. search needs)  -- plate[0]
+    (λ c. search needs)  -- plate[1]
+    (λ c. search needs)  -- plate[MASK]
+    (λ c. search needs)  -- &plate[2..66]
+    (λ c. search needs)  -- &plate[2..66]
+    (λ c. search needs)  -- &plate[2..66]
+    (λ c. search needs)  -- &plate[66..131]
+    (λ c. search needs)  -- &plate[66..131]
+    (λ c. search needs)  -- &plate[66..131]
+    (λ c κs. search needs)  -- write_profile_parts
+    (λ c κs. search needs)  -- written_length
+    (λ c. search needs)  -- a length
+    (λ c. search needs)  -- a length
     returns-3)

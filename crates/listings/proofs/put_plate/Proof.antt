@@ -13,9 +13,6 @@ line-feed-requires c κs = search needs
 largest-entry-requires : tie.Need-largest-entry-requires
 largest-entry-requires c κs = search needs
 
-wide-requires : tie.Need-wide-requires
-wide-requires c κs = search needs
-
 prepend-field-requires : tie.Need-prepend-field-requires
 prepend-field-requires c κs = search needs
 
@@ -33,7 +30,7 @@ prepend-name-requires c κs = search needs
 
 -- what the call takes
 abbrev start : tie.After-prepend-name → tie.Start
-start c = c .before .before .before .before .before .before .before .before .before .before .before .before .before .before .before
+start c = c .before .before .before .before .before .before .before .before .before .before .before .before .before .before
 
 -- the whole line stands at the end of the array
 built : (c : tie.After-prepend-name) → Built (plateLine (start c .args .n) (start c .args .k) (start c .args .entries .now)) (c .prepend-name .last .0) (c .prepend-name .result)
@@ -43,8 +40,8 @@ built c =
     let n = c .before .before .before in
     let k = n .before .before in
     let m = k .before .before in
-    let feed = m .before .before .before .before in
-    let largest = rw (m .before .wide .ensures, m .before .before .largest-entry .ensures) at (m .prepend-field .ensures) in
+    let feed = m .before .before .before in
+    let largest = rw (m .before .largest-entry .ensures) at (m .prepend-field .ensures) in
     let fields = prepend-then (prepend-then (prepend-then (feed .line-feed .ensures) largest) (k .prepend-field2 .ensures)) (n .prepend-field3 .ensures) in
     record {
       short = plate-fits-256 (a .n) (a .k) (a .entries .now);
@@ -66,7 +63,6 @@ put-plate-spec =
     (tie.spec
     line-feed-requires
     largest-entry-requires
-    wide-requires
     prepend-field-requires
     prepend-field-requires-2
     prepend-field-requires-3

@@ -1,49 +1,20 @@
--- `listings::write_profile` meets its contract.
+-- `listings::write_profile` meets its contract: it is the call over the plate's parts.
 use borrow.Author.Needs.{needs}
-use mathlib.Core.Path.{sym}
-use native.Mathlib.Omega.{arith}
-use Rattle.plates.specs.Prepare.{IsPrepared}
-use Rattle.listings.proofs.OfPlate.{short, entries-there, entries-length, entries-fit, plate-passed, plate-refused}
 use Rattle.listings.proofs.write_profile.Statement.{statement}
 use Rattle.listings.proofs.write_profile.Tie as tie
 
--- the plate is prepared where the test says so
-prepared : (c : tie.Then1) → IsPrepared (c .before .before .before .args .plate)
-prepared c = c .before .is-prepared .ensures .yes-is (c .if1 .taken)
-
-is-prepared-requires : tie.Need-is-prepared-requires
-is-prepared-requires c κs = search needs
-
-add-count : tie.Need-add-count
-add-count c = record { fits = omega (arith, short _ (prepared (c .before .before))) }
-
-array-share-prefix-profile : tie.Need-array-share-prefix-profile
-array-share-prefix-profile c = entries-there _ (prepared (c .before .before))
-
-slice-aggregate-put-profile : tie.Need-slice-aggregate-put-profile
-slice-aggregate-put-profile c = sym (entries-length _ (prepared (c .before .before .before)))
-
-put-profile-requires : tie.Need-put-profile-requires
-put-profile-requires c κs = entries-fit _ (prepared (c .before .before .before .before))
-
-same-length : tie.Need-same-length
-same-length c = search needs
-
 returns : tie.Need-returns
-returns c = plate-passed (prepared (c .before .before .before .before .before .before .before)) (c .before .before .put-profile .ensures)
-
-returns-2 : tie.Need-returns-2
-returns-2 c = plate-refused (c .before .is-prepared .ensures .no-is (c .if1 .left))
+returns c =
+    let wrote = c .before .before in
+    let wide = wrote .before .before .before .before .before .before in
+    rw (wide .widened .ensures) at (wrote .write-profile-parts .ensures)
 
 pub write-profile-spec : {M : Type 1} → statement M
 write-profile-spec =
     tie.close
     (tie.spec
-    is-prepared-requires
-    add-count
-    array-share-prefix-profile
-    slice-aggregate-put-profile
-    put-profile-requires
-    same-length
-    returns
-    returns-2)
+    (λ c κs. search needs)  -- widened
+    (λ c. search needs)  -- &profile
+    (λ c κs. search needs)  -- write_profile_parts
+    (λ c. search needs)  -- the room's length
+    returns)

@@ -2,7 +2,7 @@
 use borrow.Author.Needs.{needs}
 use lib.ListN.{length-set, set}
 use native.Mathlib.Omega.{arith}
-use Rattle.exports.proofs.PlateStands.{headed}
+use Rattle.exports.proofs.PlatePut.{headed}
 use Rattle.exports.proofs.flat.put_numbers.Statement.{statement}
 use Rattle.exports.proofs.flat.put_numbers.Tie as tie
 

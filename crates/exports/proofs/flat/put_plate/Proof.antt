@@ -1,6 +1,7 @@
 -- `exports::flat::put_plate` meets its contract: the three steps.
 use borrow.Author.Needs.{needs}
-use Rattle.exports.proofs.PlateStands.{put-whole}
+use Rattle.exports.proofs.PlatePut.{put-whole}
+use Rattle.plates.specs.Prepare.{ofParts}
 use Rattle.exports.proofs.flat.put_plate.Statement.{statement}
 use Rattle.exports.proofs.flat.put_plate.Tie as tie
 
@@ -18,10 +19,11 @@ same-length c = search needs
 
 returns : tie.Need-returns
 returns c =
-    let rows = c .before .before .before .before .before .before .before .before in
-    let numbers = rows .before .before .before .before .before .before in
+    let rows = c .before .before .before .before .before .before in
+    let numbers = rows .before .before .before .before in
     let start = numbers .before .before .before in
-    put-whole (start .args .words .now) (start .args .t2) (start .pre .0) (start .pre .1) (start .pre .2) _ _ _
+    let a = start .args in
+    put-whole (a .words .now) (ofParts (a .n) (a .k) (a .mask) (a .rows .now) (a .profile .now)) (start .pre .0) (start .pre .1) (start .pre .2) _ _ _
     (numbers .put-numbers .ensures)
     (rows .put-rows .ensures)
     (c .before .before .put-profile .ensures)

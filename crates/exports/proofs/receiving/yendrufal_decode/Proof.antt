@@ -1,98 +1,79 @@
 -- `exports::receiving::yendrufal_decode` meets its promise.
 use borrow.Author.Needs.{needs}
 use borrow.Author.Tests.{not-false, not-true}
+use lib.ListN.{length}
+use native.Mathlib.Omega.{arith}
 use Rattle.exports.proofs.CallsMade.{misshaped}
 use Rattle.exports.proofs.DecodeCrossed.{decode-found, decode-refused}
+use Rattle.exports.specs.Promises.{DecodeShape}
 use Rattle.exports.proofs.receiving.yendrufal_decode.Statement.{statement}
 use Rattle.exports.proofs.receiving.yendrufal_decode.Tie as tie
 
-decode-shaped-requires : tie.Need-decode-shaped-requires
-decode-shaped-requires c κs = search needs
+-- the runs are long enough
+shaped : (c : tie.Else1) → let a = c .before .before .before .before .before .before .before .args in
+    DecodeShape (length (a .plate .now)) (length (a .word .now)) (length (a .metric .now)) (length (a .counts .now)) (length (a .at .now))
+shaped c = c .before .decode-shaped .ensures .yes-is (not-false _ (c .if1 .left))
 
-returns : tie.Need-returns
-returns c = misshaped (c .before .decode-shaped .ensures .no-is (not-true _ (c .if1 .taken)))
-
-plate-of-requires : tie.Need-plate-of-requires
-plate-of-requires c κs = c .before .decode-shaped .ensures .yes-is (not-false _ (c .if1 .left)) .0
-
-decode-requires : tie.Need-decode-requires
-decode-requires c κs = search needs
-
-enum-known-answer : tie.Need-enum-known-answer
-enum-known-answer c = search needs
+-- so they were when the call below was made
+abbrev asked : tie.After-decode-parts → tie.Else1
+asked c = c .before .before .before .before .before .before .before .before
 
 put-answer-requires : tie.Need-put-answer-requires
 put-answer-requires c κs =
-    let shape = c .before .before .before .before .before .before .before .before .before .before .before .before .before .before .decode-shaped .ensures .yes-is (not-false _ (c .before .before .before .before .before .before .before .before .before .before .before .before .before .if1 .left)) in
+    let done = c .before .before .before .before .before .before .before .before .before in
+    let shape = shaped (asked done) in
     (shape .1, shape .2, shape .3)
 
 slice-write-at : tie.Need-slice-write-at
-slice-write-at c = c .before .before .before .before .before .before .before .before .before .before .before .before .before .before .before .before .before .before .before .before .decode-shaped .ensures .yes-is (not-false _ (c .before .before .before .before .before .before .before .before .before .before .before .before .before .before .before .before .before .before .before .if1 .left)) .4
-
-enum-known-refusal : tie.Need-enum-known-refusal
-enum-known-refusal c = search needs
-
-refused-at-requires : tie.Need-refused-at-requires
-refused-at-requires c κs = c .before .before .before .before .before .before .before .before .before .before .before .before .decode-shaped .ensures .yes-is (not-false _ (c .before .before .before .before .before .before .before .before .before .before .before .if1 .left)) .4
-
-same-length : tie.Need-same-length
-same-length c = search needs
-
-same-length-2 : tie.Need-same-length-2
-same-length-2 c = search needs
-
-same-length-3 : tie.Need-same-length-3
-same-length-3 c = search needs
-
-same-length-4 : tie.Need-same-length-4
-same-length-4 c = search needs
-
-same-length-5 : tie.Need-same-length-5
-same-length-5 c = search needs
-
-same-length-6 : tie.Need-same-length-6
-same-length-6 c = search needs
+slice-write-at c =
+    let done = c .before .before .before .before .before .before .before .before .before .before .before .before .before .before .before in
+    shaped (asked done) .4
 
 returns-2 : tie.Need-returns-2
 returns-2 c =
     let done = c .before .before .before .before .before .before .before .before .before .before .before .before .before .before .before in
-    decode-found _ _ (record { reply = done .decode .result; metrics = _; decisions = _ }) (c .before .before .before .before .before .before .before .before .before .before .before .before .before .before .before .before .before .before .plate-of .ensures) (c .before .before .before .before .before .before .before .before .before .before .before .before .before .before .before .before .before .before .before .before .decode-shaped .ensures .yes-is (not-false _ (c .before .before .before .before .before .before .before .before .before .before .before .before .before .before .before .before .before .before .before .if1 .left))) (done .decode .ensures) (c .before .before .before .before .before .before .before .before .before .before .answer .given .1) (c .before .before .before .before .before .put-answer .ensures)
-
-same-length-7 : tie.Need-same-length-7
-same-length-7 c = search needs
-
-same-length-8 : tie.Need-same-length-8
-same-length-8 c = search needs
-
-same-length-9 : tie.Need-same-length-9
-same-length-9 c = search needs
+    let a = asked done .before .before .before .before .before .before .before .args in
+    decode-found (a .samples .now) _ (record { reply = done .decode-parts .result; metrics = _; decisions = _ }) (a .plate .now) (shaped (asked done))
+    (done .decode-parts .ensures) (c .before .before .before .before .before .before .before .before .before .before .answer .given .1)
+    (c .before .before .before .before .before .put-answer .ensures)
 
 returns-3 : tie.Need-returns-3
 returns-3 c =
     let done = c .before .before .before .before .before .before .before .before .before .before in
-    decode-refused _ _ (record { reply = done .decode .result; metrics = _; decisions = _ }) (c .before .before .before .before .before .before .before .before .before .before .before .before .before .plate-of .ensures) (c .before .before .before .before .before .before .before .before .before .before .before .before .before .before .before .decode-shaped .ensures .yes-is (not-false _ (c .before .before .before .before .before .before .before .before .before .before .before .before .before .before .if1 .left))) (done .decode .ensures) (c .before .before .before .before .before .refusal .given .1) (c .before .before .refused-at .ensures)
+    let a = asked done .before .before .before .before .before .before .before .args in
+    decode-refused (a .samples .now) _ (record { reply = done .decode-parts .result; metrics = _; decisions = _ }) (a .plate .now) (shaped (asked done))
+    (done .decode-parts .ensures) (c .before .before .before .before .before .refusal .given .1)
+    (c .before .before .refused-at .ensures)
 
 pub yendrufal-decode-spec : {M : Type 1} → statement M
 yendrufal-decode-spec =
     tie.close
     (tie.spec
-    decode-shaped-requires
-    returns
-    plate-of-requires
-    decode-requires
-    enum-known-answer
+    (λ c κs. search needs)  -- decode_shaped
+    (λ c. misshaped (c .before .decode-shaped .ensures .no-is (not-true _ (c .if1 .taken))))
+    (λ c. omega (arith, shaped (c .before) .0))  -- plate[0]
+    (λ c. omega (arith, shaped (c .before .before) .0))  -- plate[1]
+    (λ c. omega (arith, shaped (c .before .before .before) .0))  -- plate[MASK]
+    (λ c. search needs)  -- &plate[2..66]
+    (λ c. search needs)  -- &plate[2..66]
+    (λ c. omega (arith, shaped (c .before .before .before) .0))  -- &plate[2..66]
+    (λ c. search needs)  -- &plate[66..131]
+    (λ c. search needs)  -- &plate[66..131]
+    (λ c. omega (arith, shaped (c .before .before .before .before) .0))  -- &plate[66..131]
+    (λ c κs. search needs)  -- decode_parts
+    (λ c. search needs)  -- the reply
     put-answer-requires
     slice-write-at
-    enum-known-refusal
-    refused-at-requires
-    same-length
-    same-length-2
-    same-length-3
-    same-length-4
-    same-length-5
-    same-length-6
+    (λ c. search needs)  -- the reply
+    (λ c κs. shaped (asked (c .before .before .before .before .before .before .before)) .4)  -- refused_at
+    (λ c. search needs)  -- a length
+    (λ c. search needs)  -- a length
+    (λ c. search needs)  -- a length
+    (λ c. search needs)  -- a length
+    (λ c. search needs)  -- a length
+    (λ c. search needs)  -- a length
     returns-2
-    same-length-7
-    same-length-8
-    same-length-9
+    (λ c. search needs)  -- a length
+    (λ c. search needs)  -- a length
+    (λ c. search needs)  -- a length
     returns-3)

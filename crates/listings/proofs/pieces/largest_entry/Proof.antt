@@ -22,6 +22,9 @@ loop-holds c = (omega arith, rw (drop-length (c .before .args .entries .now)))
 sub-i : tie.Need-sub-i Inv-loop μ-loop
 sub-i c = omega arith
 
+mul-larger : tie.Need-mul-larger Inv-loop μ-loop
+mul-larger c = search needs
+
 shared-slice-read-larger : tie.Need-shared-slice-read-larger Inv-loop μ-loop
 shared-slice-read-larger c = omega arith
 
@@ -49,6 +52,7 @@ largest-entry-spec =
     μ-loop
     loop-holds
     sub-i
+    mul-larger
     shared-slice-read-larger
     larger-requires
     loop-less

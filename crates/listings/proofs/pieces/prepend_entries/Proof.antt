@@ -29,11 +29,11 @@ loop-holds c = (omega arith, λ d end p. rw (drop-length (c .before .before .bef
 sub-i : tie.Need-sub-i Inv-loop μ-loop
 sub-i c = omega arith
 
-shared-slice-read-wide : tie.Need-shared-slice-read-wide Inv-loop μ-loop
-shared-slice-read-wide c = omega arith
+mul-prepend-field : tie.Need-mul-prepend-field Inv-loop μ-loop
+mul-prepend-field c = search needs
 
-wide-requires : tie.Need-wide-requires Inv-loop μ-loop
-wide-requires c κs = search needs
+shared-slice-read-prepend-field : tie.Need-shared-slice-read-prepend-field Inv-loop μ-loop
+shared-slice-read-prepend-field c = omega arith
 
 prepend-field-requires : tie.Need-prepend-field-requires Inv-loop μ-loop
 prepend-field-requires c κs = search needs
@@ -43,10 +43,8 @@ loop-less c = omega arith
 
 loop-again : tie.Need-loop-again Inv-loop μ-loop
 loop-again c =
-    let l = c .before .before .before .before .before .loop in (
-      omega arith,
-      λ d end p. fields-on _ _ (c .before .before .before .before .loop-test .taken) (l .inv .0) (l .inv .1 d end p) (rw (c .before .wide .ensures) at (c .prepend-field .ensures)),
-    )
+    let l = c .before .before .before .before .loop in
+    (omega arith, λ d end p. fields-on _ _ (c .before .before .before .loop-test .taken) (l .inv .0) (l .inv .1 d end p) (c .prepend-field .ensures))
 
 returns : tie.Need-returns Inv-loop μ-loop
 returns c =
@@ -62,8 +60,8 @@ prepend-entries-spec =
     line-feed-requires
     loop-holds
     sub-i
-    shared-slice-read-wide
-    wide-requires
+    mul-prepend-field
+    shared-slice-read-prepend-field
     prepend-field-requires
     loop-less
     loop-again

@@ -1,7 +1,7 @@
 -- `weights::rooms::widest` meets its contract. The loop's invariant: the largest entry up to t. The measure is what is left of n.
 use borrow.Author.Needs.{needs}
 use lib.ListN.{getD}
-use mathlib.Core.Path.{_≡_, _∙_, ap, ap₂, sym}
+use mathlib.Core.Path.{_≡_, _∙_, ap, refl, sym}
 use native.Mathlib.Numerals.{add-one}
 use native.Mathlib.Omega.{arith}
 use Prim.Native.Nat.{ℕ, max, _-_, _≤_}
@@ -15,37 +15,14 @@ Inv-loop profile n most₀ t₀ most t = (t ≤ n) × (most ≡ widestEntry prof
 abbrev μ-loop : tie.MeasureT-loop
 μ-loop profile n most₀ t₀ most t = n - t
 
-element-copy-out-wide : tie.Need-element-copy-out-wide Inv-loop μ-loop
-element-copy-out-wide c = search needs
-
-wide-requires : tie.Need-wide-requires Inv-loop μ-loop
-wide-requires c κs = search needs
-
-loop-holds : tie.Need-loop-holds Inv-loop μ-loop
-loop-holds c = (omega arith, c .wide .ensures)
-
-add-t : tie.Need-add-t Inv-loop μ-loop
-add-t c = search needs
-
-element-copy-out-wide-2 : tie.Need-element-copy-out-wide-2 Inv-loop μ-loop
-element-copy-out-wide-2 c = search needs
-
-wide-requires-2 : tie.Need-wide-requires-2 Inv-loop μ-loop
-wide-requires-2 c κs = search needs
-
-greater-requires : tie.Need-greater-requires Inv-loop μ-loop
-greater-requires c κs = search needs
-
-loop-less : tie.Need-loop-less Inv-loop μ-loop
-loop-less c = search needs
-
 loop-again : tie.Need-loop-again Inv-loop μ-loop
 loop-again c =
-    let l = c .before .before .before .before .loop in (
-      omega (arith, c .before .before .before .loop-test .taken),
-      c .greater .ensures ∙ ap₂ max (c .before .wide2 .ensures) (l .inv .1)
-          ∙ ap (λ (x : ℕ). max (getD (c .before .before .before .before .before .before .before .args .profile .now) x 0) (widestEntry (c .before .before .before .before .before .before .before .args .profile .now) (l .t))) (add-one (l .t))
-          ∙ ap (widestEntry (c .before .before .before .before .before .before .before .args .profile .now)) (sym (add-one (l .t))),
+    let l = c .before .before .before in
+    let profile = l .before .before .before .args .profile .now in (
+      omega (arith, c .before .before .loop-test .taken),
+      c .greater .ensures ∙ ap (max (getD profile _ 0)) (l .loop .inv .1)
+          ∙ ap (λ (x : ℕ). max (getD profile x 0) (widestEntry profile (l .loop .t))) (add-one (l .loop .t))
+          ∙ ap (widestEntry profile) (sym (add-one (l .loop .t))),
     )
 
 returns : tie.Need-returns Inv-loop μ-loop
@@ -59,13 +36,12 @@ widest-spec =
     (tie.spec
     Inv-loop
     μ-loop
-    element-copy-out-wide
-    wide-requires
-    loop-holds
-    add-t
-    element-copy-out-wide-2
-    wide-requires-2
-    greater-requires
-    loop-less
+    (λ c. search needs)  -- profile[0]
+    (λ c. (omega arith, refl))  -- the loop's start
+    (λ c. search needs)  -- t += 1
+    (λ c. search needs)  -- the place of profile[t]
+    (λ c. search needs)  -- profile[t]
+    (λ c κs. search needs)  -- greater
+    (λ c. search needs)  -- the measure falls
     loop-again
     returns)

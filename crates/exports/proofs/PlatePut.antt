@@ -1,41 +1,15 @@
--- The plate read from a run stands for it: an entry over a byte is in no prepared plate.
+-- A plate put into a run: it is what the run then holds.
 use lib.ListN.{drop, getD, length, length-append, set, take}
 use lib.Seq.{drop-at, drop-cons, drop-drop, drop-set-lt, getD-at, getD-set-same, lt-length-set, paste, take-all, take-at}
 use mathlib.Core.List.{_++_, List, [], append-assoc, _∷_}
-use mathlib.Core.Logic.{inr}
 use mathlib.Core.Path.{ap, ap₂, refl, sym, _∙_, _≡_}
-use native.Mathlib.Decide.{decLt}
 use native.Mathlib.Omega.{arith}
-use Prim.Native.Nat.{_+_, _<_, ℕ, _≤_}
-use Rattle.exports.proofs.CellsCopied.{part-at}
-use Rattle.exports.specs.Flat.{EntriesFit, StandsFor, flat, plateOf}
-use Rattle.plates.proofs.SoundIsPrepared.{sound}
+use Prim.Native.Nat.{_+_, ℕ, _≤_}
+use Rattle.exports.specs.Flat.{flat, plateOf}
 use Rattle.plates.specs.declared.Plate.{Plate}
-use Rattle.plates.specs.Prepare.{IsPrepared}
-
--- a plate of length 0 is not prepared
-pub empty-not-prepared : {plate : Plate} → plate .n ≡ 0 → IsPrepared plate → ⊥
-empty-not-prepared e p = omega (arith, sound p .positive)
-
--- the entries of a prepared plate fit bytes
-pub entries-of-prepared : (words : List ℕ) → 132 ≤ length words → IsPrepared (plateOf words) → EntriesFit words
-entries-of-prepared words long p t h = go (decLt (plateOf words .n) t)
-  where
-    entry : getD words (66 + t) 0 ≡ getD (plateOf words .profile) t 0
-    entry = part-at words 66 65 (omega arith) t h
-
-    go : Dec (plateOf words .n < t) → getD words (66 + t) 0 < 256
-    go (yes l) = omega (arith, entry, sound p .unused-entries t l)
-    go (no l) = omega (arith, entry, sound p .profile t (omega arith), sound p .narrow t (omega arith))
-
--- where an entry is over a byte, any plate of length 0 stands for the run
-pub stands-empty : (words : List ℕ) (plate : Plate) → 132 ≤ length words → (EntriesFit words → ⊥) → plate .n ≡ 0 → StandsFor words plate
-stands-empty words plate long over e = record { either = inr (empty-not-prepared e, λ p. over (entries-of-prepared words long p)) }
-
--- ---- into a run
 
 -- what begins with a is continued by b
-pub continued : (run run′ a b : List ℕ) (i k : ℕ) → length a ≡ i → length b ≡ k → run′ ≡ paste (a ++ drop i run) i b k → run′ ≡ (a ++ b) ++ drop (i + k) run
+continued : (run run′ a b : List ℕ) (i k : ℕ) → length a ≡ i → length b ≡ k → run′ ≡ paste (a ++ drop i run) i b k → run′ ≡ (a ++ b) ++ drop (i + k) run
 continued run run′ a b i k size-a size-b e =
     e
     ∙ ap (λ (x : List ℕ). x ++ take k b ++ drop (i + k) (a ++ drop i run)) (take-at a (drop i run) i size-a)
