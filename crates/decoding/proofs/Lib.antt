@@ -47,8 +47,11 @@ pub mod SampleLimits
 pub mod SearchEnds
 pub mod PlateSizes
 pub mod ZeroedRooms
+pub mod Batched
 pub mod DecodeCalls
 pub mod DecodeDetermined
+pub mod BatchCalls
+pub mod BatchDetermined
 pub mod Undecided
 pub mod ApartCalls
 pub mod ApartDetermined

@@ -2,11 +2,11 @@
 use lib.ListN.{getD, length}
 use lib.Pow.{pow-add, pow-mono}
 use mathlib.Core.List.{List}
-use mathlib.Core.Path.{ap, ap₂, _∙_, _≡_}
+use mathlib.Core.Path.{ap, ap₂, subst, sym, _∙_, _≡_}
 use native.Mathlib.Decide.{decLt}
 use native.Mathlib.Nat.{le-refl, le-trans, mul-le-mul-left, mul-le-mul-right}
 use native.Mathlib.Omega.{arith}
-use Prim.Native.Nat.{_*_, _-_, _/_, _<_, _^_, max, suc, zero, zero-le, ℕ, _≤_}
+use Prim.Native.Nat.{_*_, _+_, _-_, _/_, _<_, _^_, max, suc, zero, zero-le, ℕ, _≤_}
 use Rattle.decoding.proofs.BegunRows.{all-begun}
 use Rattle.decoding.proofs.LiveMarks.{in-order, none-live-last}
 use Rattle.decoding.proofs.MaskedWords.{restOf}
@@ -98,3 +98,11 @@ module _ (plate : Plate) (given : IsPrepared plate) where
 
   pub decision-need-small : plate .n * sectionWords plate ≤ 4096
   decision-need-small = le-trans (mul-le-mul-left (plate .n) (words-few (widest plate) widest-small)) (mul-le-mul-right 64 (sound given .short))
+
+  -- the needs of sizes that were found
+  module _ {z : Sizes} (of : SizesOf (plate .n) (plate .k) (plate .mask) (plate .rows) (plate .profile) z) where
+    pub metrics-fit : z .half + z .half < 2 ^ 64
+    metrics-fit = omega (arith, ap (λ (y : Sizes). y .half) (sizes-are z of), plate-sizes-fit .half-small)
+
+    pub decisions-fit : plate .n * z .words < 2 ^ 64
+    decisions-fit = subst (λ (x : ℕ). plate .n * x < 2 ^ 64) (sym (ap (λ (y : Sizes). y .words) (sizes-are z of))) (omega (arith, decision-need-small))

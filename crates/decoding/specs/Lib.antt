@@ -21,3 +21,5 @@ pub mod Halves
 pub mod Forcing
 pub mod Firmness
 pub mod Apart
+pub mod Batch
+pub mod Batching

@@ -6,6 +6,7 @@ ghost use Rattle.decoding.specs.Decode.{Decodes};
 ghost use Rattle.plates.specs.Prepare.{ofParts};
 
 pub mod apart;
+pub mod batch;
 mod blocks;
 mod choices;
 pub mod cosets;
