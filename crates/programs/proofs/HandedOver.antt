@@ -21,8 +21,8 @@ ends-all read whole (Refused q sent) count x t = subst (AllLines read whole) (sy
 ends-all read whole Unwritten count x t = absurd t
 
 -- the bytes handed over, line after line, are the listing of the whole input
-pub handed-is-listing : (ended : Bool) (read : List ℕ) (e : Ending) → Ends ended read e → (handed : List (List ℕ)) → InPlace read handed → Took e (length handed)
-    → (whole : List ℕ) → Whole ended read whole → Lists whole (joined handed)
+pub handed-is-listing : (ended : Bool) (read : List ℕ) (e : Ending) → Ends ended read e → (handed : List (List ℕ)) → InPlace read handed
+    → Took e (length handed) → (whole : List ℕ) → Whole ended read whole → Lists whole (joined handed)
 handed-is-listing ended read e x handed p t whole w = record {
   lines = handed;
   reports = handed-reports read whole handed p (ends-all read whole e (length handed) (x .is whole w) t);

@@ -46,7 +46,8 @@ one-line input count a b x y =
     let n : length (x .lines) ≡ length (y .lines) = x .counted ∙ sym (y .counted) in
     let m : length (x .lines ++ a ∷ []) ≡ length (y .lines ++ b ∷ []) =
     omega (arith, n, length-append (x .lines) (a ∷ []), length-append (y .lines) (b ∷ [])) in
-    let e = turns-determined input (x .given .first) (y .given .first) (x .given .opens) (y .given .opens) (x .lines ++ a ∷ []) (y .lines ++ b ∷ []) (x .next) (y .next) m
+    let e = turns-determined input (x .given .first) (y .given .first) (x .given .opens) (y .given .opens) (x .lines ++ a ∷ []) (y .lines ++ b ∷ []) (x .next)
+    (y .next) m
     (x .given .turns) (y .given .turns) in
     sym (getD-append-seam (x .lines) a [] [])
     ∙ ap (λ (ls : List (List ℕ)). getD ls (length (x .lines)) []) e

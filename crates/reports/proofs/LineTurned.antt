@@ -123,7 +123,8 @@ module _ (input : List ℕ) (plate : Plate) (order : Order) (at blocks : ℕ) (k
       (λ lines l. subst (λ (b : List (List ℤ)). BlocksReport order plate blocks b (endLine blocks ∷ lines)) (sym n) (ap (λ (ls : List (List ℕ)). endLine blocks ∷ ls) l))
       (omega (arith, ap length n))
       (λ w l. subst (λ (b : List (List ℤ)). BlocksLeave plate b (workingOf lent) w) (sym n) (l ∙ ap₂ rooms (x .working .metrics-same) (x .working .decisions-same)))
-      (subst (λ (f : BlockFound). BlocksCome f (counterAt input at) (nextLine input at) (Of false) (endLine blocks) (toNothing (Of false))) (sym e) (refl, refl))
+      (subst (λ (f : BlockFound). BlocksCome f (counterAt input at) (nextLine input at) (Of false) (endLine blocks) (toNothing (Of false))) (sym e)
+      (refl, refl))
   close-turned true e x =
       let n = ap (byPosition order) (block-none true input at e) in
       let t = kept-before .tally in
@@ -160,7 +161,8 @@ module _ (input : List ℕ) (plate : Plate) (order : Order) (at blocks : ℕ) (k
       (line-more heard counter next samples (g .reply) (g .answer) (countersFrom heard input next) rest (length rest) (sound prepared .short) r lines l)))
       (omega (arith, ap length f))
       (λ w l. subst (λ (b : List (List ℤ)). BlocksLeave plate b (workingOf lent) w) (sym f) (workingOf left, g .leaves, l))
-      (subst (λ (b : BlockFound). BlocksCome b counter next (Of heard) (lineHere (Of heard) counter (g .reply)) (afterLine next (Of heard) counter samples (g .reply))) (sym e)
+      (subst (λ (b : BlockFound). BlocksCome b counter next (Of heard) (lineHere (Of heard) counter (g .reply))
+      (afterLine next (Of heard) counter samples (g .reply))) (sym e)
       (record { reply = g .reply; answer = g .answer; line-is = refl; after-is = refl }))
   blocks-turned heard prepared room noBlock e x = close-turned heard e x
 
@@ -173,7 +175,9 @@ module _ (input : List ℕ) (report : Report) (lent left : Lent) (step : Step) (
       gives (lineOfRefusal q) (toNothing (At (S.Refused q)))
       (line-given _ (lineOfRefusal q) (lent .room) (left .room) _ _ step (refused-fits-256 (number q) (place q) (field q))
       (fits (lineOfRefusal q) (lent .room) (refused-fits-256 (number q) (place q) (field q)) (enough .room)) (x .line))
-      tt (λ lines l. ap (λ (ls : List (List ℕ)). lineOfRefusal q ∷ ls) l) refl (λ w l. l ∙ kept input (report .plate) (report .order) (report .at) (report .heard) (report .blocks) (report .kept) lent left step enough (x .working)) (refl, refl)
+      tt (λ lines l. ap (λ (ls : List (List ℕ)). lineOfRefusal q ∷ ls) l) refl
+      (λ w l. l ∙ kept input (report .plate) (report .order) (report .at) (report .heard) (report .blocks) (report .kept) lent left step enough (x .working))
+      (refl, refl)
   turned S.PlateLine ready x =
       let plate = report .plate in
       gives (lineOfPlate plate) (toProfile (At S.PlateLine))

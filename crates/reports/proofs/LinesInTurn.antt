@@ -57,7 +57,8 @@ module _ (input : List ℕ) where
   first-shown : (report : Report) (line : List ℕ) (lines : List (List ℕ)) (last : Report) → Ready input report → (t : Turns input report (line ∷ lines) last)
       → Shown input report line (t .step .next)
   first-shown report line lines last ready t =
-      shown report (t .lent) (t .left) (t .step) (t .size) line (t .outcome) (t .bytes) (step-turned input report (t .lent) (t .left) (t .step) ready (t .enough) (t .steps))
+      shown report (t .lent) (t .left) (t .step) (t .size) line (t .outcome) (t .bytes)
+      (step-turned input report (t .lent) (t .left) (t .step) ready (t .enough) (t .steps))
 
   came : (report : Report) (lines : List (List ℕ)) (last : Report) → Ready input report → Turns input report lines last → Came report lines last
   came report [] last ready e =
@@ -82,7 +83,8 @@ module _ (input : List ℕ) where
       (ap₂ (λ (x : List ℕ) (xs : List (List ℕ)). x ∷ xs) (c .0) (d .0), d .1)
 
   -- the lines before some others were taken in turn too
-  pub turns-before : (report : Report) (lines more : List (List ℕ)) (last : Report) → Turns input report (lines ++ more) last → (here : Report) × Turns input report lines here
+  pub turns-before : (report : Report) (lines more : List (List ℕ)) (last : Report) → Turns input report (lines ++ more) last
+      → (here : Report) × Turns input report lines here
   turns-before report [] more last t = (report, refl)
   turns-before report (line ∷ lines) more last t =
       let r = turns-before (t .step .next) lines more last (t .next) in (
@@ -103,8 +105,8 @@ module _ (input : List ℕ) where
 -- ---- from what `open` replies
 
 -- whatever the rooms of each call, an input gives one list of so many lines
-pub turns-determined : (input : List ℕ) (report other : Report) → Opens input report → Opens input other → (a b : List (List ℕ)) (last end : Report) → length a ≡ length b
-    → Turns input report a last → Turns input other b end → a ≡ b
+pub turns-determined : (input : List ℕ) (report other : Report) → Opens input report → Opens input other → (a b : List (List ℕ)) (last end : Report)
+    → length a ≡ length b → Turns input report a last → Turns input other b end → a ≡ b
 turns-determined input report other o p a b last end n t u =
     turns-same input report a b last end (open-ready input (reading input) refl report (o .is)) n t
     (subst (λ (r : Report). Turns input r b end) (sym (open-determined input report other o p)) u) .0
