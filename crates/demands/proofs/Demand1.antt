@@ -18,10 +18,11 @@ use Rattle.decoding.specs.Decode.{Decodes, decisionNeed, decodeConditions, metr
 use Rattle.decoding.specs.Metric.{limit}
 use Rattle.demands.specs.Refusing.{Numbered, RefusesExactly, WriteRefuses}
 use Rattle.listings.proofs.Determined.{must-refuse}
+use Rattle.listings.specs.declared.Tally.{Tally}
 use Rattle.listings.specs.declared.Written.{Written}
-use Rattle.listings.specs.Lines.{endLine, plateLine, profileLine, refusedLine, wordLine}
-use Rattle.listings.specs.Writing.{Writes, WritesAs, WritesEnd, WritesLine, WritesOf, WritesPlate, WritesProfile, WritesRefused, WritesWord}
-use Rattle.listings.specs.Writing.{entriesOf, lineRoom}
+use Rattle.listings.specs.Lines.{endLine, leastLine, noLeastLine, plateLine, profileLine, refusedLine, tallyLine, weightLine, wordLine}
+use Rattle.listings.specs.Writing.{Writes, WritesAs, WritesEnd, WritesLeast, WritesLine, WritesNoLeast, WritesOf, WritesPlate, WritesProfile, WritesRefused}
+use Rattle.listings.specs.Writing.{WritesTally, WritesWeight, WritesWord, entriesOf, lineRoom}
 use Rattle.plates.proofs.PrepareDetermined.{prepare-determined}
 use Rattle.plates.proofs.Refusing.{Single, never-both}
 use Rattle.plates.specs.Code.{InCode}
@@ -210,3 +211,20 @@ module _ (room : List ℕ) (r : Written) (room′ : List ℕ) where
   -- the line end
   pub write-end-refuses : (blocks : ℕ) → WritesEnd blocks room r room′ → WriteRefuses (lineRoom (endLine blocks) room ∷ []) room r room′
   write-end-refuses blocks = of-line (endLine blocks)
+
+  -- the line weight
+  pub write-weight-refuses : (weight count : ℕ) → WritesWeight weight count room r room′
+      → WriteRefuses (lineRoom (weightLine weight count) room ∷ []) room r room′
+  write-weight-refuses weight count = of-line (weightLine weight count)
+
+  -- the line least
+  pub write-least-refuses : (weight : ℕ) → WritesLeast weight room r room′ → WriteRefuses (lineRoom (leastLine weight) room ∷ []) room r room′
+  write-least-refuses weight = of-line (leastLine weight)
+
+  -- the line that says there is none
+  pub write-no-least-refuses : WritesNoLeast room r room′ → WriteRefuses (lineRoom noLeastLine room ∷ []) room r room′
+  write-no-least-refuses = of-line noLeastLine
+
+  -- the line tally
+  pub write-tally-refuses : (tally : Tally) → WritesTally tally room r room′ → WriteRefuses (lineRoom (tallyLine tally) room ∷ []) room r room′
+  write-tally-refuses tally = of-line (tallyLine tally)

@@ -24,8 +24,10 @@ use Rattle.decoding.specs.declared.firmness.Judged.{Judged}
 use Rattle.decoding.specs.Decode.{Decodes}
 use Rattle.decoding.specs.Firmness.{Judges}
 use Rattle.listings.proofs.Determined.{write-end-determined, write-plate-determined, write-profile-determined, write-refused-determined, write-word-determined}
+use Rattle.listings.proofs.Determined.{write-least-determined, write-no-least-determined, write-tally-determined, write-weight-determined}
+use Rattle.listings.specs.declared.Tally.{Tally}
 use Rattle.listings.specs.declared.Written.{Written}
-use Rattle.listings.specs.Writing.{WritesEnd, WritesPlate, WritesProfile, WritesRefused, WritesWord}
+use Rattle.listings.specs.Writing.{WritesEnd, WritesLeast, WritesNoLeast, WritesPlate, WritesProfile, WritesRefused, WritesTally, WritesWeight, WritesWord}
 use Rattle.plates.proofs.PrepareDetermined.{is-prepared-determined, prepare-determined}
 use Rattle.plates.specs.declared.Kind.{Kind}
 use Rattle.plates.specs.declared.Plate.{Plate}
@@ -157,3 +159,19 @@ module _ (room : List ℕ) (r s : Written) (a b : List ℕ) where
   -- the line end
   pub write-end : (blocks : ℕ) → WritesEnd blocks room r a → WritesEnd blocks room s b → (r ≡ s) × (a ≡ b)
   write-end = write-end-determined
+
+  -- the line weight
+  pub write-weight : (weight count : ℕ) → WritesWeight weight count room r a → WritesWeight weight count room s b → (r ≡ s) × (a ≡ b)
+  write-weight = write-weight-determined
+
+  -- the line least
+  pub write-least : (weight : ℕ) → WritesLeast weight room r a → WritesLeast weight room s b → (r ≡ s) × (a ≡ b)
+  write-least = write-least-determined
+
+  -- the line that says there is none
+  pub write-no-least : WritesNoLeast room r a → WritesNoLeast room s b → (r ≡ s) × (a ≡ b)
+  write-no-least = write-no-least-determined
+
+  -- the line tally
+  pub write-tally : (tally : Tally) → WritesTally tally room r a → WritesTally tally room s b → (r ≡ s) × (a ≡ b)
+  write-tally = write-tally-determined

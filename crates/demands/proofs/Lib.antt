@@ -1,4 +1,7 @@
 pub mod Demand1
+pub mod LineRefusals
+pub mod SheetConditions
+pub mod SheetRefusals
 pub mod Demand2
 pub mod StepCounts
 pub mod Demand3

@@ -1,4 +1,5 @@
 pub mod Refusing
+pub mod SheetRefusals
 pub mod Greatest
 pub mod Masks
 pub mod Unmasked

@@ -1,19 +1,21 @@
 -- Lines handed over in turn.
 use lib.IntN.{ℤ}
-use lib.ListN.{length, length-append, take}
+use lib.ListN.{drop, getD, length, length-append, take}
+use lib.Seq.{ext-getD, getD-append-seam, length-take-le, split-at}
 use mathlib.Core.Bool.{Bool, cond, false, true}
-use mathlib.Core.List.{List, [], _∷_, _++_}
-use mathlib.Core.Path.{_≡_, refl, subst, sym, _∙_}
+use mathlib.Core.List.{List, [], _∷_, _++_, append-assoc}
+use mathlib.Core.Path.{_≡_, ap, refl, subst, sym, _∙_}
 use native.Mathlib.Omega.{arith}
 use Prim.Native.Nat.{_+_, _-_, _<_, _^_, suc, ℕ}
 use Rattle.programs.specs.declared.listing.Turn.{Turn}
 use Rattle.programs.specs.declared.writer.Handed.{Handed}
 use Rattle.programs.specs.declared.writer.Sent.{Sent}
-use Rattle.programs.specs.Printing.{AllLines, Before, Given, Going, Hands, IsLine, OneMore, Prints}
-use Rattle.reports.proofs.LinesInTurn.{lines-in-turn}
+use Rattle.programs.specs.Printing.{AllLines, Before, Given, Going, Hands, InPlace, IsLine, OneMore, Prints}
+use Rattle.reports.proofs.LinesInTurn.{lines-in-turn, turns-before, turns-determined}
 use Rattle.reports.specs.declared.Outcome.the-variants as O
 use Rattle.reports.specs.declared.Report.{Report}
 use Rattle.reports.specs.declared.Step.{Step}
+use Rattle.reports.specs.Report.{Reports}
 use Rattle.reports.specs.Steps.{Lent, Opens, Steps, lends}
 use Rattle.reports.specs.Turns.{Enough, Turns}
 
@@ -36,7 +38,55 @@ snoc input (l ∷ lines) line first now last t u = record {
   next = snoc input lines line (t .step .next) now last (t .next) u;
 }
 
--- before the first line
+-- ---- one list of lines
+
+-- the line that an input gives after so many others is one line only, whatever the rooms
+pub one-line : (input : List ℕ) (count : ℕ) (a b : List ℕ) → IsLine input count a → IsLine input count b → a ≡ b
+one-line input count a b x y =
+    let n : length (x .lines) ≡ length (y .lines) = x .counted ∙ sym (y .counted) in
+    let m : length (x .lines ++ a ∷ []) ≡ length (y .lines ++ b ∷ []) =
+    omega (arith, n, length-append (x .lines) (a ∷ []), length-append (y .lines) (b ∷ [])) in
+    let e = turns-determined input (x .given .first) (y .given .first) (x .given .opens) (y .given .opens) (x .lines ++ a ∷ []) (y .lines ++ b ∷ []) (x .next)
+    (y .next) m
+    (x .given .turns) (y .given .turns) in
+    sym (getD-append-seam (x .lines) a [] [])
+    ∙ ap (λ (ls : List (List ℕ)). getD ls (length (x .lines)) []) e
+    ∙ ap (λ (j : ℕ). getD (y .lines ++ b ∷ []) j []) n
+    ∙ getD-append-seam (y .lines) b [] []
+
+-- lines that were given in turn stand each in its place
+given-in-place : (input : List ℕ) (lines : List (List ℕ)) (report : Report) → Given input lines report → InPlace input lines
+given-in-place input lines report g = record { each = at }
+  where
+    at : (j : ℕ) → j < length lines → IsLine input j (getD lines j [])
+    at j h =
+        let split : take j lines ++ getD lines j [] ∷ drop (suc j) lines ≡ (take j lines ++ getD lines j [] ∷ []) ++ drop (suc j) lines =
+        sym (append-assoc (take j lines) (getD lines j [] ∷ []) (drop (suc j) lines)) in
+        let t = subst (λ (ls : List (List ℕ)). Turns input (g .first) ls report) (split-at lines j [] h ∙ split) (g .turns) in
+        let r = turns-before input (g .first) (take j lines ++ getD lines j [] ∷ []) (drop (suc j) lines) report t in
+        record {
+          lines = take j lines;
+          counted = length-take-le j lines (omega (arith, h));
+          next = r .0;
+          given = record { first = g .first; opens = g .opens; turns = r .1 };
+        }
+
+-- and two lists of as many lines in their places are one
+pub in-place-same : (input : List ℕ) (a b : List (List ℕ)) → length a ≡ length b → InPlace input a → InPlace input b → a ≡ b
+in-place-same input a b n x y = ext-getD [] a b n (λ j h. one-line input j (getD a j []) (getD b j []) (x .each j h) (y .each j (omega (arith, h, n))))
+
+all-lines : (input : List ℕ) (lines : List (List ℕ)) (report : Report) → Given input lines report → {count : ℕ} → length lines ≡ count → Reports input lines
+    → AllLines input input count
+all-lines input lines report g n r = record {
+  lines = lines;
+  counted = n;
+  reports = r;
+  in-place = given-in-place input lines report g;
+  only = λ handed m x. in-place-same input handed lines (m ∙ sym n) x (given-in-place input lines report g);
+}
+
+-- ---- before the first line
+
 pub none-yet : {input : List ℕ} {report : Report} {count : ℕ} → count ≡ 0 → Opens input report → Before input count report
 none-yet {input} {report} e o = record { lines = []; counted = sym e; given = record { first = report; opens = o; turns = refl } }
 
@@ -85,11 +135,8 @@ module _ {report : Report} {input : List ℕ} {lent left : Lent} {step : Step} {
     one-more = λ h. no-truth h;
     going = record {
       more = λ h. no-truth h;
-      all = λ h. record {
-        lines = b .lines;
-        counted = b .counted ∙ sym k;
-        reports = lines-in-turn input (b .given .first) (b .given .opens) (b .lines) report (b .given .turns) lent left step rooms s e;
-      };
+      all = λ h. all-lines input (b .lines) report (b .given) (b .counted ∙ sym k)
+          (lines-in-turn input (b .given .first) (b .given .opens) (b .lines) report (b .given .turns) lent left step rooms s e);
     };
   }
 

@@ -44,34 +44,34 @@ status-fault h = subst (λ (z : ℤ). IsStatus (toZ w32 (ofZ w32 z))) (sym h) (r
 -- ---- the ending
 
 -- the ending of a report that was just opened, of which all lines were taken
-module _ (read whole : List ℕ) (same : reading whole ≡ reading read) (sent : Sent) (a : AllLines read (sent .lines)) where
+module _ (read whole : List ℕ) (same : reading whole ≡ reading read) (sent : Sent) (a : AllLines read read (sent .lines)) where
   over : {lines : List (List ℕ)} → Reports read lines → Reports whole lines
   over {lines} r = record { is = subst (λ (x : Reading). ReportsAs x lines) (sym same) (r .is) }
 
-  all-over : AllLines whole (sent .lines)
-  all-over = record { lines = a .lines; counted = a .counted; reports = over (a .reports) }
+  all-over : AllLines read whole (sent .lines)
+  all-over = record { lines = a .lines; counted = a .counted; reports = over (a .reports); in-place = a .in-place; only = a .only }
 
   -- the one line of a refusal
-  refused-ends : (q : Refusal) → Reports read (lineOfRefusal q ∷ []) → EndsAs whole (Refused q sent)
+  refused-ends : (q : Refusal) → Reports read (lineOfRefusal q ∷ []) → EndsAs read whole (Refused q sent)
   refused-ends q r =
       let e = ap length (report-determined read (a .lines) (lineOfRefusal q ∷ []) (a .reports) r) in
-      (omega (arith, e, a .counted), over r)
+      (all-over, omega (arith, e, a .counted), over r)
 
   sheet-ends : (c : Contents) → reading read ≡ says c → (report : Report)
       (x : OpensSheet (c .n) (c .kind) (c .rows) (c .mask) (c .order) (startOf read c) (c .heard) (length (c .blocks)) report) (v : Verdict)
       → x .prepared .verdict ≡ v
-      → EndsAs whole (endingOf ((reportBy v (x .prepared .plate) (c .order) (startOf read c) (c .heard) (length (c .blocks))) .stage) sent)
+      → EndsAs read whole (endingOf ((reportBy v (x .prepared .plate) (c .order) (startOf read c) (c .heard) (length (c .blocks))) .stage) sent)
   sheet-ends c e report x (J.Refused q) f =
       refused-ends q (record { is = subst (λ (y : Reading). ReportsAs y (lineOfRefusal q ∷ [])) (sym e) (record { prepared = x .prepared; prepares = x .prepares; is = rw f refl }) })
   sheet-ends c e report x J.Accepted f =
       (all-over, record { sheet = c; reads = same ∙ e; prepared = x .prepared; prepares = x .prepares; accepted = f })
 
-  opened-ends : (found : Reading) → reading read ≡ found → (report : Report) → OpensAs read found report → EndsAs whole (endingOf (report .stage) sent)
+  opened-ends : (found : Reading) → reading read ≡ found → (report : Report) → OpensAs read found report → EndsAs read whole (endingOf (report .stage) sent)
   opened-ends (refused q) e report x =
-      subst (λ (r : Report). EndsAs whole (endingOf (r .stage) sent)) (sym x)
+      subst (λ (r : Report). EndsAs read whole (endingOf (r .stage) sent)) (sym x)
       (refused-ends q (record { is = subst (λ (y : Reading). ReportsAs y (lineOfRefusal q ∷ [])) (sym e) refl }))
   opened-ends (says c) e report x =
-      subst (λ (r : Report). EndsAs whole (endingOf (r .stage) sent)) (sym (x .is)) (sheet-ends c e report x (x .prepared .verdict) refl)
+      subst (λ (r : Report). EndsAs read whole (endingOf (r .stage) sent)) (sym (x .is)) (sheet-ends c e report x (x .prepared .verdict) refl)
 
 pub printed-all : {input : List ℕ} {report : Report} {sent : Sent} {goes-on whole : Bool} → Going input report sent goes-on whole
     → PrintsAll input (record { whole = whole; sent = sent })
@@ -81,7 +81,7 @@ printed-all g = record { all = g .all }
 pub all-taken : {ended : Bool} {read : List ℕ} {report : Report} {r : Printed} {e : Ending} → StandsFor ended read → Opens read report → PrintsAll read r
     → r .whole ≡ true → e ≡ endingOf (report .stage) (r .sent) → Ends ended read e
 all-taken {ended} {read} {report} {r} {e} s o p h k = record {
-  is = λ whole w. subst (EndsAs whole) (sym k) (opened-ends read whole (reads-same s w) (r .sent) (p .all h) (reading read) refl report (o .is));
+  is = λ whole w. subst (EndsAs read whole) (sym k) (opened-ends read whole (reads-same s w) (r .sent) (p .all h) (reading read) refl report (o .is));
 }
 
 pub not-all-taken : {ended : Bool} {read : List ℕ} → Ends ended read Unwritten

@@ -40,7 +40,7 @@ endingOf S.Done sent = Listed sent
 
 -- what printing says: all lines of what was read were taken, or not
 pub record PrintsAll (read : List ℕ) (r : Printed) : Type 0 where
-  pub all : r .whole ≡ true → AllLines read (r .sent .lines)
+  pub all : r .whole ≡ true → AllLines read read (r .sent .lines)
 
 -- a sheet that is not refused: it is read, and its matrix is accepted with its mask
 pub record Accepts (whole : List ℕ) : Type 0 where
@@ -50,12 +50,18 @@ pub record Accepts (whole : List ℕ) : Type 0 where
   pub prepares : Prepares (sheet .n) (sheet .kind) (sheet .rows) (sheet .mask) prepared
   pub accepted : prepared .verdict ≡ J.Accepted
 
--- the lines that were taken are all lines of a listing, or the one line of a refused sheet
-abbrev pub EndsAs : List ℕ → Ending → Type 0
-EndsAs whole (Listed sent) = AllLines whole (sent .lines) × Accepts whole
-EndsAs whole (Refused q sent) = (sent .lines ≡ 1) × Reports whole (lineOfRefusal q ∷ [])
-EndsAs whole Unwritten = Unit {0}
+-- the lines that were taken of what was read are all lines of the whole input's listing, or its one line where the sheet is refused
+abbrev pub EndsAs : List ℕ → List ℕ → Ending → Type 0
+EndsAs read whole (Listed sent) = AllLines read whole (sent .lines) × Accepts whole
+EndsAs read whole (Refused q sent) = AllLines read whole (sent .lines) × (sent .lines ≡ 1) × Reports whole (lineOfRefusal q ∷ [])
+EndsAs read whole Unwritten = Unit {0}
 
 -- so for every input of which this was read
 pub record Ends (ended : Bool) (read : List ℕ) (r : Ending) : Type 0 where
-  pub is : (whole : List ℕ) → Whole ended read whole → EndsAs whole r
+  pub is : (whole : List ℕ) → Whole ended read whole → EndsAs read whole r
+
+-- a run ended with 0 or 1 and so many lines taken
+abbrev pub Took : Ending → ℕ → Type 0
+Took (Listed sent) count = count ≡ sent .lines
+Took (Refused q sent) count = count ≡ sent .lines
+Took Unwritten count = ⊥

@@ -1,5 +1,5 @@
 -- What trellis hands to its writer, line by line.
-use lib.ListN.{length}
+use lib.ListN.{getD, length}
 use mathlib.Core.Bool.{Bool, true}
 use mathlib.Core.List.{List, [], _∷_, _++_}
 use mathlib.Core.Path.{_≡_}
@@ -31,11 +31,17 @@ pub record IsLine (input : List ℕ) (count : ℕ) (line : List ℕ) : Type 0 wh
   pub next : Report
   pub given : Given input (lines ++ line ∷ []) next
 
--- so many lines are all that the input is to give
-pub record AllLines (input : List ℕ) (count : ℕ) : Type 0 where
+-- lines of which each is the one that the input gives after those before it
+pub record InPlace (input : List ℕ) (lines : List (List ℕ)) : Type 0 where
+  pub each : (j : ℕ) → j < length lines → IsLine input j (getD lines j [])
+
+-- so many lines of what was read are all that the whole input is to give: they are its report, and no other lines, each in its place, are so many
+pub record AllLines (read whole : List ℕ) (count : ℕ) : Type 0 where
   pub lines : List (List ℕ)
   pub counted : length lines ≡ count
-  pub reports : Reports input lines
+  pub reports : Reports whole lines
+  pub in-place : InPlace read lines
+  pub only : (handed : List (List ℕ)) → length handed ≡ count → InPlace read handed → handed ≡ lines
 
 -- one line more was counted, below the most that the count can say
 pub record OneMore (sent after : Sent) : Type 0 where
@@ -49,7 +55,7 @@ pub record Hands (sent : Sent) (r : Handed) : Type 0 where
 -- between two turns: where they go on, as many lines were given as were taken; where none was left, all were
 pub record Going (input : List ℕ) (report : Report) (sent : Sent) (goes-on whole : Bool) : Type 0 where
   pub more : goes-on ≡ true → Before input (sent .lines) report
-  pub all : whole ≡ true → AllLines input (sent .lines)
+  pub all : whole ≡ true → AllLines input input (sent .lines)
 
 -- what one turn does
 pub record Prints (input : List ℕ) (sent : Sent) (r : Turn) : Type 0 where

@@ -11,6 +11,7 @@ pub mod Openings
 pub mod ReportDetermined
 pub mod StepDetermined
 pub mod LinesGiven
+pub mod LineComes
 pub mod LineTurned
 pub mod OpenedReports
 pub mod ListingLines

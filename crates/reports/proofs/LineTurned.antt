@@ -34,6 +34,7 @@ use Rattle.reports.specs.Remaining.{BlocksLeave, HasRoom, Leaves, Left, 
 use Rattle.reports.specs.Report.{BlockAnswer, BlocksReport, HeardsReport, LinesReport, closing, heardLines, lineOfHeard, lineOfPlate, lineOfProfile, lineOfRefusal, refusedBlock, wordOfBlock}
 use Rattle.reports.specs.Steps.{BlocksStep, Closes, Lent, LineStep, Steps, StepsAt, Untouched, afterLine, closed, keptAfter, to, toBlocks, toEnd, toNothing, toProfile}
 use Rattle.reports.specs.Turns.{Enough}
+use Rattle.reports.proofs.LineComes.{BlocksCome, Comes}
 use Rattle.reports.proofs.LinesGiven.{Given, block-given, fits, line-given, lineHere, plate-fits}
 use Rattle.reports.proofs.TallyLaws.{plus-assoc, plus-none, raised-plus, room-left, room-stays, share-small}
 
@@ -42,7 +43,8 @@ pub data Turned (input : List ℕ) (report : Report) (lent : Lent) (step : Step)
   nothing : step .outcome ≡ O.Nothing → Left input report [] → linesLeft input report ≡ 0 → Turned input report lent step left
   gives : (line : List ℕ) (after : Report) → Given line after step (lent .room) (left .room) → Ready input after
       → ((lines : List (List ℕ)) → Left input after lines → Left input report (line ∷ lines)) → linesLeft input report ≡ suc (linesLeft input after)
-      → ((w : Rooms) → Leaves input after (workingOf left) w → Leaves input report (workingOf lent) w) → Turned input report lent step left
+      → ((w : Rooms) → Leaves input after (workingOf left) w → Leaves input report (workingOf lent) w) → Comes input report line after
+      → Turned input report lent step left
 
 module _ (input : List ℕ) (plate : Plate) (order : Order) (at : ℕ) (heard : Bool) (blocks : ℕ) (kept-before : Kept) (lent left : Lent) (step : Step) (enough : Enough lent) where
   abbrev In : Stage → Report
@@ -63,7 +65,7 @@ module _ (input : List ℕ) (plate : Plate) (order : Order) (at : ℕ) (heard : 
   end-turned x =
       gives (endLine blocks) (toNothing (In S.EndLine))
       (line-given _ (endLine blocks) (lent .room) (left .room) _ _ step (end-fits-256 blocks) (fits (endLine blocks) (lent .room) (end-fits-256 blocks) (enough .room)) (x .line))
-      tt (λ lines l. ap (λ (ls : List (List ℕ)). endLine blocks ∷ ls) l) refl (λ w l. l ∙ kept (x .working))
+      tt (λ lines l. ap (λ (ls : List (List ℕ)). endLine blocks ∷ ls) l) refl (λ w l. l ∙ kept (x .working)) (refl, refl)
 
 module _ (input : List ℕ) (plate : Plate) (order : Order) (at blocks : ℕ) (kept-before : Kept) (lent left : Lent) (step : Step) (enough : Enough lent) where
   abbrev Of : Bool → Report
@@ -121,6 +123,8 @@ module _ (input : List ℕ) (plate : Plate) (order : Order) (at blocks : ℕ) (k
       (λ lines l. subst (λ (b : List (List ℤ)). BlocksReport order plate blocks b (endLine blocks ∷ lines)) (sym n) (ap (λ (ls : List (List ℕ)). endLine blocks ∷ ls) l))
       (omega (arith, ap length n))
       (λ w l. subst (λ (b : List (List ℤ)). BlocksLeave plate b (workingOf lent) w) (sym n) (l ∙ ap₂ rooms (x .working .metrics-same) (x .working .decisions-same)))
+      (subst (λ (f : BlockFound). BlocksCome f (counterAt input at) (nextLine input at) (Of false) (endLine blocks) (toNothing (Of false))) (sym e)
+      (refl, refl))
   close-turned true e x =
       let n = ap (byPosition order) (block-none true input at e) in
       let t = kept-before .tally in
@@ -137,6 +141,7 @@ module _ (input : List ℕ) (plate : Plate) (order : Order) (at blocks : ℕ) (k
       }))
       (omega (arith, ap length n))
       (λ w l. subst (λ (b : List (List ℤ)). BlocksLeave plate b (workingOf lent) w) (sym n) (l ∙ ap₂ rooms (x .working .metrics-same) (x .working .decisions-same)))
+      (subst (λ (f : BlockFound). BlocksCome f (counterAt input at) (nextLine input at) (Of true) (tallyLine t) (toEnd (Of true))) (sym e) (refl, refl))
 
   blocks-turned : (heard : Bool) → IsPrepared plate → HasRoom (kept-before .tally) (length (blocksAt input (Of heard))) → (found : BlockFound) → blockAt heard input at ≡ found
       → BlocksStep found (counterAt input at) (nextLine input at) (Of heard) lent step left → Turned input (Of heard) lent step left
@@ -156,6 +161,9 @@ module _ (input : List ℕ) (plate : Plate) (order : Order) (at blocks : ℕ) (k
       (line-more heard counter next samples (g .reply) (g .answer) (countersFrom heard input next) rest (length rest) (sound prepared .short) r lines l)))
       (omega (arith, ap length f))
       (λ w l. subst (λ (b : List (List ℤ)). BlocksLeave plate b (workingOf lent) w) (sym f) (workingOf left, g .leaves, l))
+      (subst (λ (b : BlockFound). BlocksCome b counter next (Of heard) (lineHere (Of heard) counter (g .reply))
+      (afterLine next (Of heard) counter samples (g .reply))) (sym e)
+      (record { reply = g .reply; answer = g .answer; line-is = refl; after-is = refl }))
   blocks-turned heard prepared room noBlock e x = close-turned heard e x
 
 module _ (input : List ℕ) (report : Report) (lent left : Lent) (step : Step) (enough : Enough lent) where
@@ -167,7 +175,9 @@ module _ (input : List ℕ) (report : Report) (lent left : Lent) (step : Step) (
       gives (lineOfRefusal q) (toNothing (At (S.Refused q)))
       (line-given _ (lineOfRefusal q) (lent .room) (left .room) _ _ step (refused-fits-256 (number q) (place q) (field q))
       (fits (lineOfRefusal q) (lent .room) (refused-fits-256 (number q) (place q) (field q)) (enough .room)) (x .line))
-      tt (λ lines l. ap (λ (ls : List (List ℕ)). lineOfRefusal q ∷ ls) l) refl (λ w l. l ∙ kept input (report .plate) (report .order) (report .at) (report .heard) (report .blocks) (report .kept) lent left step enough (x .working))
+      tt (λ lines l. ap (λ (ls : List (List ℕ)). lineOfRefusal q ∷ ls) l) refl
+      (λ w l. l ∙ kept input (report .plate) (report .order) (report .at) (report .heard) (report .blocks) (report .kept) lent left step enough (x .working))
+      (refl, refl)
   turned S.PlateLine ready x =
       let plate = report .plate in
       gives (lineOfPlate plate) (toProfile (At S.PlateLine))
@@ -175,6 +185,7 @@ module _ (input : List ℕ) (report : Report) (lent left : Lent) (step : Step) (
       (plate-fits plate (ready .0) (lineOfPlate plate) (lent .room) (plate-fits-256 (plate .n) (plate .k) (entriesOf plate)) (enough .room)) (x .line))
       ready (λ lines l. (refl, l)) (omega arith)
       (λ w l. still input plate (report .order) (report .at) (report .heard) (report .blocks) (report .kept) lent left step enough (x .working) w l)
+      (refl, refl)
   turned S.ProfileLine ready x =
       let plate = report .plate in
       gives (lineOfProfile plate) (toBlocks (report .at) (At S.ProfileLine))
@@ -182,6 +193,7 @@ module _ (input : List ℕ) (report : Report) (lent left : Lent) (step : Step) (
       (plate-fits plate (ready .0) (lineOfProfile plate) (lent .room) (entries-fit plate (ready .0)) (enough .room)) (x .line))
       ready (λ lines l. (refl, l)) (omega arith)
       (λ w l. still input plate (report .order) (report .at) (report .heard) (report .blocks) (report .kept) lent left step enough (x .working) w l)
+      (refl, refl)
   turned S.BlockLines ready x =
       blocks-turned input (report .plate) (report .order) (report .at) (report .blocks) (report .kept) lent left step enough (report .heard) (ready .0) (ready .1)
       (blockAt (report .heard) input (report .at)) refl x

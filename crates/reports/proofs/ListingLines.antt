@@ -56,14 +56,14 @@ module _ (input : List ℕ) (p : Progress) (lent left : Rooms) (listing room′ 
     where
       by : Turned input (p .report) lent-part step (lends (left .metrics) (left .decisions) room′) → ⊥
       by (nothing o l z) = omega (arith, z, b .more)
-      by (gives line after g ready f z w) = let o = g .outcome in let y : _≡_ {A = ℕ} 0 1 = cc in omega arith
+      by (gives line after g ready f z w c) = let o = g .outcome in let y : _≡_ {A = ℕ} 0 1 = cc in omega arith
 
   pub refuses-never : (q : Refusal) → step .outcome ≡ O.Refused q → ⊥
   refuses-never q e = by turned
     where
       by : Turned input (p .report) lent-part step (lends (left .metrics) (left .decisions) room′) → ⊥
       by (nothing o l z) = let y : _≡_ {A = ℕ} 0 1 = cc in omega arith
-      by (gives line after g ready f z w) = let o = g .outcome in let y : _≡_ {A = ℕ} 0 1 = cc in omega arith
+      by (gives line after g ready f z w c) = let o = g .outcome in let y : _≡_ {A = ℕ} 0 1 = cc in omega arith
 
   same-size : {size other : ℕ} → O.Line size ≡ O.Line other → size ≡ other
   same-size e = cc
@@ -74,7 +74,7 @@ module _ (input : List ℕ) (p : Progress) (lent left : Rooms) (listing room′ 
     where
       by : Turned input (p .report) lent-part step (lends (left .metrics) (left .decisions) room′) → p .size + size ≤ length listing
       by (nothing o l z) = absurd (gives-some o)
-      by (gives line after g ready f z w) = omega (arith, same-size (sym e ∙ g .outcome), g .short, b .room)
+      by (gives line after g ready f z w c) = omega (arith, same-size (sym e ∙ g .outcome), g .short, b .room)
 
   -- it stands behind those before it
   pub line-added : (size : ℕ) → step .outcome ≡ O.Line size
@@ -84,7 +84,7 @@ module _ (input : List ℕ) (p : Progress) (lent left : Rooms) (listing room′ 
       by : Turned input (p .report) lent-part step (lends (left .metrics) (left .decisions) room′)
           → LineAdded input p lent listing left (take (p .size) listing ++ (room′ ++ drop k (drop (p .size) listing))) (record { report = step .next; size = p .size + size })
       by (nothing o l z) = absurd (gives-some o)
-      by (gives line after g ready f z w) = record {
+      by (gives line after g ready f z w c) = record {
         line = line;
         short = g .short;
         size = ap (λ (m : ℕ). p .size + m) (same-size (sym e ∙ g .outcome));

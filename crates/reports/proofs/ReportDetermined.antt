@@ -82,7 +82,8 @@ module _ (order : Order) (plate : Plate) (prepared : IsPrepared plate) (samples 
       let r = in-rooms (lineOf order plate (Found a)) (wordOfBlock a (x .0) (x .1) refl) in
       (r .metrics′, r .decisions′, r .decodes)
 
-  reply-determined : (d e : Decoded) → BlockAnswer plate samples d → BlockAnswer plate samples e → d ≡ e
+  -- a block has one answer
+  pub reply-determined : (d e : Decoded) → BlockAnswer plate samples d → BlockAnswer plate samples e → d ≡ e
   reply-determined d e x y =
       let p = decodes-as d x in
       let q = decodes-as e y in
@@ -109,7 +110,7 @@ module _ (order : Order) (plate : Plate) (prepared : IsPrepared plate) (count : 
   blocks-determined (samples ∷ blocks) (k ∷ ks) (l ∷ ls) x y =
       both (block-line-determined order plate prepared samples k l (x .0) (y .0)) (blocks-determined blocks ks ls (x .1) (y .1))
 
-  -- a block has one answer
+  -- the blocks of a sheet have one answer each
   replies-determined : (blocks : List (List ℤ)) (a b : List Decoded) → BlockAnswers plate blocks a → BlockAnswers plate blocks b → a ≡ b
   replies-determined [] [] [] x y = refl
   replies-determined [] [] (e ∷ b) x y = absurd y
