@@ -15,42 +15,40 @@ static const uint64_t rows[3][4] = {
 static const int16_t samples[8] = {-6, -5, -7, -1, 5, 6, 2, 7};
 
 /* The metrics are ours for all plates, the decisions for the one whose word is wanted. */
-static uint64_t plates[3][YENDRUFAL_PLATE_WORDS];
+static yendrufal_plate plates[3];
 static int32_t metrics[YENDRUFAL_METRICS_MOST];
 static uint64_t decisions[YENDRUFAL_DECISIONS_MOST];
+static const yendrufal_rooms rooms = {metrics, YENDRUFAL_METRICS_MOST, decisions, YENDRUFAL_DECISIONS_MOST};
 
-/* Says what was refused, with the numbers of the header. */
-static int refused(const char *call, uint64_t reply, uint64_t place) {
-    printf("%s: refusal %d at place %d\n", call, (int)reply, (int)place);
+/* Says what was refused, and in words. */
+static int refused(const char *call, yendrufal_reply reply) {
+    printf("%s: refusal %d at place %d: %s\n", call, (int)reply.number, (int)reply.place,
+           yendrufal_refusal_words(reply.number));
     return 1;
 }
 
 int main(void) {
-    uint64_t word, counts[2], place = 0, reply;
-    int32_t metric, greatest = 0;
+    yendrufal_answer found, answer = {0, 0, 0, 0};
+    yendrufal_reply reply;
     int best = 0;
 
     for (int code = 0; code < 3; code++) {
-        reply = yendrufal_prepare(8, YENDRUFAL_KIND_G, rows[code], 4, 0, plates[code],
-                                  YENDRUFAL_PLATE_WORDS, &place, 1);
-        if (reply != YENDRUFAL_DONE) return refused("prepare", reply, place);
+        reply = yendrufal_plate_prepare(8, YENDRUFAL_KIND_G, rows[code], 4, 0, &plates[code]);
+        if (reply.number != YENDRUFAL_DONE) return refused("prepare", reply);
     }
     for (int code = 0; code < 3; code++) {
-        reply = yendrufal_metric(plates[code], YENDRUFAL_PLATE_WORDS, samples, 8, metrics,
-                                 YENDRUFAL_METRICS_MOST, &metric, 1, counts, 2, &place, 1);
-        if (reply != YENDRUFAL_DONE) return refused("metric", reply, place);
-        if (code == 0 || metric > greatest) {
-            greatest = metric;
+        reply = yendrufal_plate_metric(&plates[code], samples, 8, &rooms, &found);
+        if (reply.number != YENDRUFAL_DONE) return refused("metric", reply);
+        if (code == 0 || found.metric > answer.metric) {
+            answer.metric = found.metric;
             best = code;
         }
     }
-    reply = yendrufal_word(plates[best], YENDRUFAL_PLATE_WORDS, samples, 8, metrics,
-                           YENDRUFAL_METRICS_MOST, decisions, YENDRUFAL_DECISIONS_MOST, &word, 1,
-                           counts, 2, &place, 1);
-    if (reply != YENDRUFAL_DONE) return refused("word", reply, place);
+    reply = yendrufal_plate_word(&plates[best], samples, 8, &rooms, &answer);
+    if (reply.number != YENDRUFAL_DONE) return refused("word", reply);
 
-    printf("code %d, metric %d, word ", best, (int)greatest);
-    for (int position = 0; position < 8; position++) printf("%d", (int)(word >> position & 1));
+    printf("code %d, metric %d, word ", best, (int)answer.metric);
+    for (int position = 0; position < 8; position++) printf("%d", (int)(answer.word >> position & 1));
     printf("\n");
     return 0;
 }

@@ -16,8 +16,6 @@ mod direct;
 mod firmness;
 mod header;
 mod itself;
-#[cfg(linked)]
-mod library;
 mod linear;
 mod listing;
 mod macros;
@@ -33,6 +31,10 @@ mod tally;
 mod trellis;
 mod words;
 mod worked;
+#[cfg(linked)]
+#[allow(dead_code)]
+#[path = "../../include/yendrufal.rs"]
+mod yendrufal;
 
 use bridge::Bridge;
 use comparison::{Comparison, Library};
