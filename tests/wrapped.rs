@@ -64,7 +64,9 @@ fn a_block_is_decoded() {
 #[test]
 fn decoding_is_refused() {
     let plate = paper();
-    let decode = |metrics, decisions, samples: &[i16]| with(metrics, decisions, |rooms| plate.decode(samples, rooms)).0;
+    let decode = |metrics, decisions, samples: &[i16]| {
+        with(metrics, decisions, |rooms| plate.decode(samples, rooms)).0
+    };
     assert_eq!(decode(16, 8, &SAMPLES[1..]), refused(6, 0));
     assert_eq!(decode(16, 8, &[0, 0, 0, 0, 0, -2048, 0, 0]), refused(7, 5));
     assert_eq!(decode(15, 8, &SAMPLES), refused(8, 0));
