@@ -27,25 +27,30 @@ static int refused(const char *call, yendrufal_reply reply) {
     return 1;
 }
 
-int main(void) {
-    yendrufal_answer found, answer = {0, 0, 0, 0};
-    yendrufal_reply reply;
-    int best = 0;
-
+/* Takes a block with whichever of the plates has the greatest metric, of equals the first: each plate gives its metric, which needs
+   no decisions, and then that one its word. */
+static yendrufal_reply receive(const int16_t *block, size_t length, int *best, yendrufal_answer *answer) {
     for (int code = 0; code < 3; code++) {
-        reply = yendrufal_plate_prepare(8, YENDRUFAL_KIND_G, rows[code], 4, 0, &plates[code]);
-        if (reply.number != YENDRUFAL_DONE) return refused("prepare", reply);
-    }
-    for (int code = 0; code < 3; code++) {
-        reply = yendrufal_plate_metric(&plates[code], samples, 8, &rooms, &found);
-        if (reply.number != YENDRUFAL_DONE) return refused("metric", reply);
-        if (code == 0 || found.metric > answer.metric) {
-            answer.metric = found.metric;
-            best = code;
+        yendrufal_answer found;
+        const yendrufal_reply reply = yendrufal_plate_metric(&plates[code], block, length, &rooms, &found);
+        if (reply.number != YENDRUFAL_DONE) return reply;
+        if (code == 0 || found.metric > answer->metric) {
+            *best = code;
+            answer->metric = found.metric;
         }
     }
-    reply = yendrufal_plate_word(&plates[best], samples, 8, &rooms, &answer);
-    if (reply.number != YENDRUFAL_DONE) return refused("word", reply);
+    return yendrufal_plate_word(&plates[*best], block, length, &rooms, answer);
+}
+
+int main(void) {
+    yendrufal_answer answer;
+    int best;
+    for (int code = 0; code < 3; code++) {
+        const yendrufal_reply reply = yendrufal_plate_prepare(8, YENDRUFAL_KIND_G, rows[code], 4, 0, &plates[code]);
+        if (reply.number != YENDRUFAL_DONE) return refused("prepare", reply);
+    }
+    const yendrufal_reply reply = receive(samples, 8, &best, &answer);
+    if (reply.number != YENDRUFAL_DONE) return refused("receive", reply);
 
     printf("code %d, metric %d, word ", best, (int)answer.metric);
     for (int position = 0; position < 8; position++) printf("%d", (int)(answer.word >> position & 1));
