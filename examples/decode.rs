@@ -1,6 +1,6 @@
 //! Prepares a code of length 8, decodes one block of samples with it, and prints the answer.
 //!
-//! Build:   rustc -O examples/decode.rs -C link-arg=target/staticlib/libexports.a -o target/decode
+//! Build:   rustc -O --edition 2021 examples/decode.rs -C link-arg=target/staticlib/libexports.a -o target/decode
 //! Prints:  word 11110000, metric 19, additions 44, comparisons 11
 
 #[allow(dead_code)]

@@ -1,9 +1,10 @@
-//! The library's C interface in Rust types: one file, to be taken into a program as a module. It needs nothing but `core`.
+//! The library's C interface in Rust types: one file, to be taken into a program as a module, in edition 2018 or later. It needs nothing
+//! but `core`, of Rust 1.82 or later.
 //!
 //! A [`Plate`] is prepared once for each code, [`Rooms`] are lent to each call that decodes, and a [`Refusal`] says what a call was
 //! refused for. The library has no memory of its own and keeps nothing between calls. `examples/decode.rs` uses it:
 //!
-//!     rustc -O examples/decode.rs -C link-arg=target/staticlib/libexports.a -o target/decode
+//!     rustc -O --edition 2021 examples/decode.rs -C link-arg=target/staticlib/libexports.a -o target/decode
 //!
 //! `include/yendrufal.h` says what each call does. Position i of a word is its bit of weight 2^i; a positive sample favours bit 0.
 
@@ -25,7 +26,7 @@ const MASK: usize = 131;
 /// The calls as C has them: a run is a pointer and the number of its cells.
 pub mod raw {
     #[rustfmt::skip]
-    extern "C" {
+    unsafe extern "C" {
         pub fn yendrufal_prepare(n: u64, kind: u64, rows: *const u64, row_count: usize, mask: u64, plate: *mut u64,
             plate_length: usize, place: *mut u64, place_length: usize) -> u64;
         pub fn yendrufal_branch(plate: *const u64, plate_length: usize, depth: u64, state: u64, bit: u64, next: *mut u64,
