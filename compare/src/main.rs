@@ -119,6 +119,20 @@ fn fixed(comparison: &mut Comparison, sheets: Option<&Path>, random: &mut Random
     rooms::run(comparison, random);
 }
 
+/// More random inputs until so many calls agree; says so at each tenth of them.
+fn go_on(comparison: &mut Comparison, random: &mut Random, calls: u64) {
+    let mut tenths = 10 * comparison.calls() / calls.max(1);
+    while comparison.calls() < calls {
+        matrices::run(comparison, random, 600);
+        damage::more(comparison, random, 4);
+        sheets::more(comparison, random, 120);
+        if 10 * comparison.calls() / calls > tenths {
+            tenths = 10 * comparison.calls() / calls;
+            eprintln!("{} calls agree so far", comparison.calls());
+        }
+    }
+}
+
 fn compare(library: Library, wanted: &Wanted) {
     let mut comparison = Comparison::new(library);
     let mut random = Random::new(wanted.seed);
@@ -131,11 +145,7 @@ fn compare(library: Library, wanted: &Wanted) {
     }
     damage::run(&mut comparison, &mut random, 20 * wanted.times);
     sheets::run(&mut comparison, &mut random, 600 * wanted.times);
-    while comparison.calls() < wanted.calls {
-        matrices::run(&mut comparison, &mut random, 600);
-        damage::more(&mut comparison, &mut random, 4);
-        sheets::more(&mut comparison, &mut random, 120);
-    }
+    go_on(&mut comparison, &mut random, wanted.calls);
     comparison.report();
 }
 
