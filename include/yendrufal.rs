@@ -4,7 +4,9 @@
 //! A [`Plate`] is prepared once for each code, [`Rooms`] are lent to each call that decodes, and a [`Refusal`] says what a call was
 //! refused for. The library has no memory of its own and keeps nothing between calls. `examples/decode.rs` uses it:
 //!
-//!     rustc -O --edition 2021 examples/decode.rs -C link-arg=target/staticlib/libexports.a -o target/decode
+//! ```text
+//! rustc -O --edition 2021 examples/decode.rs -C link-arg=target/staticlib/libexports.a -o target/decode
+//! ```
 //!
 //! `include/yendrufal.h` says what each call does. Position i of a word is its bit of weight 2^i; a positive sample favours bit 0.
 
@@ -23,7 +25,8 @@ const ROWS: usize = 2;
 const PROFILE: usize = 66;
 const MASK: usize = 131;
 
-/// The calls as C has them: a run is a pointer and the number of its cells.
+/// The calls as C has them, which `include/yendrufal.h` tells: a run is a pointer and the number of its cells.
+#[allow(missing_docs)]
 pub mod raw {
     #[rustfmt::skip]
     unsafe extern "C" {
@@ -72,7 +75,9 @@ pub mod raw {
 /// Why a call was refused: the number of docs/REFUSALS.md, and its place. A refused call changed nothing that was lent to it.
 #[derive(Clone, Copy, Debug, PartialEq, Eq)]
 pub struct Refusal {
+    /// Which refusal, from 1 on.
     pub number: u64,
+    /// A row, a depth or a position, by the number; else 0.
     pub place: u64,
 }
 
@@ -147,22 +152,29 @@ pub enum Kind {
 
 /// Working rooms, lent to a call. Where it succeeds, what it needed of them is zero afterwards.
 pub struct Rooms<'a> {
+    /// At least [`Plate::metrics_needed`].
     pub metrics: &'a mut [i32],
+    /// At least [`Plate::decisions_needed`].
     pub decisions: &'a mut [u64],
 }
 
 /// How many steps a decoding took.
 #[derive(Clone, Copy, Debug, Default, PartialEq, Eq)]
 pub struct Counts {
+    /// One for each branch.
     pub additions: u64,
+    /// For each state past the start one fewer than the branches that enter it.
     pub comparisons: u64,
 }
 
 /// The word of greatest metric, its metric, and the counts.
 #[derive(Clone, Copy, Debug, Default, PartialEq, Eq)]
 pub struct Answer {
+    /// The word of the plate that was picked.
     pub word: u64,
+    /// The sum of its samples, each subtracted where the word has a one.
     pub metric: i32,
+    /// What picking it took.
     pub counts: Counts,
 }
 
@@ -178,6 +190,7 @@ pub enum Reading {
 /// Why a word was not the one that decoding picks.
 #[derive(Clone, Copy, Debug, PartialEq, Eq)]
 pub enum Reason {
+    /// It was the one.
     Chosen,
     /// No word of the plate; the first position at which none continues its beginning.
     NotInCode(u64),
@@ -214,22 +227,27 @@ impl Plate {
         &self.words
     }
 
+    /// The length.
     pub fn n(&self) -> u64 {
         self.words[0]
     }
 
+    /// The number of rows.
     pub fn k(&self) -> u64 {
         self.words[1]
     }
 
+    /// The rows, in order of their heads.
     pub fn rows(&self) -> &[u64] {
         &self.words[ROWS..][..self.k().min(64) as usize]
     }
 
+    /// How many rows are live at each depth, 0 to n.
     pub fn profile(&self) -> &[u64] {
         &self.words[PROFILE..][..=self.n().min(64) as usize]
     }
 
+    /// What is added to every word.
     pub fn mask(&self) -> u64 {
         self.words[MASK]
     }
