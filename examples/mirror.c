@@ -14,9 +14,9 @@ static const char *const rows[4] = {"1110000", "1001100", "0101010", "1101001"};
 /* One sample a position, position 0 first. */
 static const int16_t samples[7] = {5, -4, 2, -3, -6, 1, 4};
 
-static uint64_t plate[YENDRUFAL_PLATE_WORDS];
 static int32_t metrics[YENDRUFAL_METRICS(3)];
 static uint64_t decisions[YENDRUFAL_DECISIONS(7, 3)];
+static const yendrufal_rooms rooms = {metrics, YENDRUFAL_METRICS(3), decisions, YENDRUFAL_DECISIONS(7, 3)};
 
 /* The word of a row whose position 0 is its leftmost character, or its rightmost. */
 static uint64_t word_of(const char *row, int rightmost) {
@@ -26,28 +26,29 @@ static uint64_t word_of(const char *row, int rightmost) {
     return word;
 }
 
-/* Says what was refused, with the numbers of the header. */
-static int refused(const char *call, uint64_t reply, uint64_t place) {
-    printf("%s: refusal %d at place %d\n", call, (int)reply, (int)place);
+/* Says what was refused, and in words. */
+static int refused(const char *call, yendrufal_reply reply) {
+    printf("%s: refusal %d at place %d: %s\n", call, (int)reply.number, (int)reply.place,
+           yendrufal_refusal_words(reply.number));
     return 1;
 }
 
 /* Prepares the rows as they are read and decodes the samples; prints profile, word and metric. */
 static int show(const char *end, int rightmost) {
-    uint64_t matrix[4], word, counts[2], place = 0;
-    int32_t metric;
+    uint64_t matrix[4];
+    yendrufal_plate plate;
+    yendrufal_answer answer;
     for (int i = 0; i < 4; i++) matrix[i] = word_of(rows[i], rightmost);
-    uint64_t reply = yendrufal_prepare(7, YENDRUFAL_KIND_G, matrix, 4, 0, plate, YENDRUFAL_PLATE_WORDS, &place, 1);
-    if (reply != YENDRUFAL_DONE) return refused("prepare", reply, place);
-    reply = yendrufal_decode(plate, YENDRUFAL_PLATE_WORDS, samples, 7, metrics, YENDRUFAL_METRICS(3), decisions,
-                             YENDRUFAL_DECISIONS(7, 3), &word, 1, &metric, 1, counts, 2, &place, 1);
-    if (reply != YENDRUFAL_DONE) return refused("decode", reply, place);
+    yendrufal_reply reply = yendrufal_plate_prepare(7, YENDRUFAL_KIND_G, matrix, 4, 0, &plate);
+    if (reply.number != YENDRUFAL_DONE) return refused("prepare", reply);
+    reply = yendrufal_plate_decode(&plate, samples, 7, &rooms, &answer);
+    if (reply.number != YENDRUFAL_DONE) return refused("decode", reply);
 
     printf("from the %s: profile", end);
-    for (int depth = 0; depth <= 7; depth++) printf(" %d", (int)plate[YENDRUFAL_PLATE_PROFILE + depth]);
+    for (int depth = 0; depth <= 7; depth++) printf(" %d", (int)plate.words[YENDRUFAL_PLATE_PROFILE + depth]);
     printf(", word ");
-    for (int position = 0; position < 7; position++) printf("%d", (int)(word >> position & 1));
-    printf(", metric %d\n", (int)metric);
+    for (int position = 0; position < 7; position++) printf("%d", (int)(answer.word >> position & 1));
+    printf(", metric %d\n", (int)answer.metric);
     return 0;
 }
 

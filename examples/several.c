@@ -15,42 +15,45 @@ static const uint64_t rows[3][4] = {
 static const int16_t samples[8] = {-6, -5, -7, -1, 5, 6, 2, 7};
 
 /* The metrics are ours for all plates, the decisions for the one whose word is wanted. */
-static uint64_t plates[3][YENDRUFAL_PLATE_WORDS];
+static yendrufal_plate plates[3];
 static int32_t metrics[YENDRUFAL_METRICS_MOST];
 static uint64_t decisions[YENDRUFAL_DECISIONS_MOST];
+static const yendrufal_rooms rooms = {metrics, YENDRUFAL_METRICS_MOST, decisions, YENDRUFAL_DECISIONS_MOST};
 
-/* Says what was refused, with the numbers of the header. */
-static int refused(const char *call, uint64_t reply, uint64_t place) {
-    printf("%s: refusal %d at place %d\n", call, (int)reply, (int)place);
+/* Says what was refused, and in words. */
+static int refused(const char *call, yendrufal_reply reply) {
+    printf("%s: refusal %d at place %d: %s\n", call, (int)reply.number, (int)reply.place,
+           yendrufal_refusal_words(reply.number));
     return 1;
 }
 
-int main(void) {
-    uint64_t word, counts[2], place = 0, reply;
-    int32_t metric, greatest = 0;
-    int best = 0;
-
+/* Takes a block with whichever of the plates has the greatest metric, of equals the first: each plate gives its metric, which needs
+   no decisions, and then that one its word. */
+static yendrufal_reply receive(const int16_t *block, size_t length, int *best, yendrufal_answer *answer) {
     for (int code = 0; code < 3; code++) {
-        reply = yendrufal_prepare(8, YENDRUFAL_KIND_G, rows[code], 4, 0, plates[code],
-                                  YENDRUFAL_PLATE_WORDS, &place, 1);
-        if (reply != YENDRUFAL_DONE) return refused("prepare", reply, place);
-    }
-    for (int code = 0; code < 3; code++) {
-        reply = yendrufal_metric(plates[code], YENDRUFAL_PLATE_WORDS, samples, 8, metrics,
-                                 YENDRUFAL_METRICS_MOST, &metric, 1, counts, 2, &place, 1);
-        if (reply != YENDRUFAL_DONE) return refused("metric", reply, place);
-        if (code == 0 || metric > greatest) {
-            greatest = metric;
-            best = code;
+        yendrufal_answer found;
+        const yendrufal_reply reply = yendrufal_plate_metric(&plates[code], block, length, &rooms, &found);
+        if (reply.number != YENDRUFAL_DONE) return reply;
+        if (code == 0 || found.metric > answer->metric) {
+            *best = code;
+            answer->metric = found.metric;
         }
     }
-    reply = yendrufal_word(plates[best], YENDRUFAL_PLATE_WORDS, samples, 8, metrics,
-                           YENDRUFAL_METRICS_MOST, decisions, YENDRUFAL_DECISIONS_MOST, &word, 1,
-                           counts, 2, &place, 1);
-    if (reply != YENDRUFAL_DONE) return refused("word", reply, place);
+    return yendrufal_plate_word(&plates[*best], block, length, &rooms, answer);
+}
 
-    printf("code %d, metric %d, word ", best, (int)greatest);
-    for (int position = 0; position < 8; position++) printf("%d", (int)(word >> position & 1));
+int main(void) {
+    yendrufal_answer answer;
+    int best;
+    for (int code = 0; code < 3; code++) {
+        const yendrufal_reply reply = yendrufal_plate_prepare(8, YENDRUFAL_KIND_G, rows[code], 4, 0, &plates[code]);
+        if (reply.number != YENDRUFAL_DONE) return refused("prepare", reply);
+    }
+    const yendrufal_reply reply = receive(samples, 8, &best, &answer);
+    if (reply.number != YENDRUFAL_DONE) return refused("receive", reply);
+
+    printf("code %d, metric %d, word ", best, (int)answer.metric);
+    for (int position = 0; position < 8; position++) printf("%d", (int)(answer.word >> position & 1));
     printf("\n");
     return 0;
 }

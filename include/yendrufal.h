@@ -23,13 +23,19 @@
  *   x86-64 under 11 KiB for yendrufal_listing and under 4.5 KiB for every other call, beside what
  *   memcpy and memset of the C library take (docs/PERFORMANCE.md has each call's bytes).
  *
- * docs/REFUSALS.md has all refusals in words: number, when, place, and which call meets them.
+ * Below the calls stand types for plates, rooms and answers, and each call that takes a plate once more with these, as an
+ * inline function; and the words of a refusal. docs/REFUSALS.md has all refusals: number, words, when, place, and which
+ * call meets them; docs/INTEGRATION.md how to size rooms and what a receiver's loop looks like.
  */
 #ifndef YENDRUFAL_INCLUDED
 #define YENDRUFAL_INCLUDED
 
 #include <stddef.h>
 #include <stdint.h>
+
+/* 10000 * major + 100 * minor + patch. The major number changes where a program that links the library has to be compiled
+   again. */
+#define YENDRUFAL_VERSION 10000
 
 #ifdef __cplusplus
 extern "C" {
@@ -205,5 +211,222 @@ uint64_t yendrufal_listing(const uint8_t *sheet, size_t sheet_length, int32_t *m
 #ifdef __cplusplus
 }
 #endif
+
+/* ---- The same with types. Each call that takes a plate stands here as yendrufal_plate_NAME: a plate is one argument, what is
+   written is a struct, which changes only where the reply's number is YENDRUFAL_DONE, and the place is in the reply. */
+
+/* The 132 numbers of a plate. It may be copied; any value of it may be handed to any call. */
+typedef struct yendrufal_plate {
+    uint64_t words[YENDRUFAL_PLATE_WORDS];
+} yendrufal_plate;
+
+/* What a call replies; place is that of a refusal, else 0. */
+typedef struct yendrufal_reply {
+    uint64_t number;
+    uint64_t place;
+} yendrufal_reply;
+
+/* The working rooms. They are the caller's, and may serve one call after another. */
+typedef struct yendrufal_rooms {
+    int32_t *metrics;
+    size_t metric_count;
+    uint64_t *decisions;
+    size_t decision_count;
+} yendrufal_rooms;
+
+typedef struct yendrufal_answer {
+    uint64_t word;
+    int32_t metric;
+    uint64_t additions;
+    uint64_t comparisons;
+} yendrufal_answer;
+
+/* How firmly a position was received: fixed is 1 and value its bit, or fixed is 0 and value its margin. */
+typedef struct yendrufal_reading {
+    uint64_t fixed;
+    int32_t value;
+} yendrufal_reading;
+
+/* One of the four reasons, YENDRUFAL_CHOSEN and on, with its position or its difference. */
+typedef struct yendrufal_reason {
+    uint64_t number;
+    uint64_t position;
+    int32_t difference;
+} yendrufal_reason;
+
+static inline yendrufal_reply yendrufal_reply_of(uint64_t number, uint64_t place) {
+    yendrufal_reply reply;
+    reply.number = number;
+    reply.place = place;
+    return reply;
+}
+
+/* m, the largest profile entry. An entry over 12, which no prepared plate has, counts as 12. */
+static inline size_t yendrufal_plate_widest(const yendrufal_plate *plate) {
+    size_t widest = 0;
+    for (size_t depth = 0; depth <= 64; depth++) {
+        const uint64_t entry = plate->words[YENDRUFAL_PLATE_PROFILE + depth];
+        if (entry > widest) widest = entry < 12 ? (size_t)entry : 12;
+    }
+    return widest;
+}
+
+/* The cells that a plate needs of each working room. */
+static inline size_t yendrufal_plate_metrics_needed(const yendrufal_plate *plate) {
+    return YENDRUFAL_METRICS(yendrufal_plate_widest(plate));
+}
+
+static inline size_t yendrufal_plate_decisions_needed(const yendrufal_plate *plate) {
+    const uint64_t n = plate->words[YENDRUFAL_PLATE_N];
+    return YENDRUFAL_DECISIONS(n < 64 ? n : 64, yendrufal_plate_widest(plate));
+}
+
+static inline yendrufal_reply yendrufal_plate_prepare(uint64_t n, uint64_t kind, const uint64_t *rows, size_t row_count,
+                                                      uint64_t mask, yendrufal_plate *plate) {
+    uint64_t place = 0;
+    const uint64_t number =
+        yendrufal_prepare(n, kind, rows, row_count, mask, plate->words, YENDRUFAL_PLATE_WORDS, &place, 1);
+    return yendrufal_reply_of(number, place);
+}
+
+static inline yendrufal_reply yendrufal_plate_branch(const yendrufal_plate *plate, uint64_t depth, uint64_t state,
+                                                     uint64_t bit, uint64_t *next) {
+    return yendrufal_reply_of(yendrufal_branch(plate->words, YENDRUFAL_PLATE_WORDS, depth, state, bit, next, 1), 0);
+}
+
+static inline yendrufal_reply yendrufal_plate_encode(const yendrufal_plate *plate, uint64_t information, uint64_t *word) {
+    return yendrufal_reply_of(yendrufal_encode(plate->words, YENDRUFAL_PLATE_WORDS, information, word, 1), 0);
+}
+
+static inline yendrufal_reply yendrufal_plate_read_back(const yendrufal_plate *plate, uint64_t word,
+                                                        uint64_t *information) {
+    return yendrufal_reply_of(yendrufal_read_back(plate->words, YENDRUFAL_PLATE_WORDS, word, information, 1), 0);
+}
+
+static inline yendrufal_reply yendrufal_plate_decode(const yendrufal_plate *plate, const int16_t *samples,
+                                                     size_t sample_count, const yendrufal_rooms *rooms,
+                                                     yendrufal_answer *answer) {
+    uint64_t counts[2] = {0, 0}, place = 0;
+    const uint64_t number =
+        yendrufal_decode(plate->words, YENDRUFAL_PLATE_WORDS, samples, sample_count, rooms->metrics, rooms->metric_count,
+                         rooms->decisions, rooms->decision_count, &answer->word, 1, &answer->metric, 1, counts, 2, &place, 1);
+    if (number == YENDRUFAL_DONE) {
+        answer->additions = counts[0];
+        answer->comparisons = counts[1];
+    }
+    return yendrufal_reply_of(number, place);
+}
+
+/* Leaves answer->word, and needs no decisions in `rooms`. */
+static inline yendrufal_reply yendrufal_plate_metric(const yendrufal_plate *plate, const int16_t *samples,
+                                                     size_t sample_count, const yendrufal_rooms *rooms,
+                                                     yendrufal_answer *answer) {
+    uint64_t counts[2] = {0, 0}, place = 0;
+    const uint64_t number = yendrufal_metric(plate->words, YENDRUFAL_PLATE_WORDS, samples, sample_count, rooms->metrics,
+                                             rooms->metric_count, &answer->metric, 1, counts, 2, &place, 1);
+    if (number == YENDRUFAL_DONE) {
+        answer->additions = counts[0];
+        answer->comparisons = counts[1];
+    }
+    return yendrufal_reply_of(number, place);
+}
+
+/* Leaves answer->metric. */
+static inline yendrufal_reply yendrufal_plate_word(const yendrufal_plate *plate, const int16_t *samples,
+                                                   size_t sample_count, const yendrufal_rooms *rooms,
+                                                   yendrufal_answer *answer) {
+    uint64_t counts[2] = {0, 0}, place = 0;
+    const uint64_t number =
+        yendrufal_word(plate->words, YENDRUFAL_PLATE_WORDS, samples, sample_count, rooms->metrics, rooms->metric_count,
+                       rooms->decisions, rooms->decision_count, &answer->word, 1, counts, 2, &place, 1);
+    if (number == YENDRUFAL_DONE) {
+        answer->additions = counts[0];
+        answer->comparisons = counts[1];
+    }
+    return yendrufal_reply_of(number, place);
+}
+
+static inline yendrufal_reply yendrufal_plate_firmness(const yendrufal_plate *plate, const int16_t *samples,
+                                                       size_t sample_count, uint64_t position,
+                                                       const yendrufal_rooms *rooms, yendrufal_reading *reading) {
+    uint64_t place = 0;
+    const uint64_t number = yendrufal_firmness(plate->words, YENDRUFAL_PLATE_WORDS, samples, sample_count, position,
+                                               rooms->metrics, rooms->metric_count, rooms->decisions,
+                                               rooms->decision_count, &reading->fixed, 1, &reading->value, 1, &place, 1);
+    return yendrufal_reply_of(number, place);
+}
+
+static inline yendrufal_reply yendrufal_plate_why_not(const yendrufal_plate *plate, const int16_t *samples,
+                                                      size_t sample_count, uint64_t word, const yendrufal_rooms *rooms,
+                                                      yendrufal_reason *reason) {
+    uint64_t told[2] = {0, 0}, place = 0;
+    const uint64_t number =
+        yendrufal_why_not(plate->words, YENDRUFAL_PLATE_WORDS, samples, sample_count, word, rooms->metrics,
+                          rooms->metric_count, rooms->decisions, rooms->decision_count, told, 2, &reason->difference, 1,
+                          &place, 1);
+    if (number == YENDRUFAL_DONE) {
+        reason->number = told[0];
+        reason->position = told[1];
+    }
+    return yendrufal_reply_of(number, place);
+}
+
+static inline yendrufal_reply yendrufal_plate_write_plate(const yendrufal_plate *plate, uint8_t *line,
+                                                          size_t line_length, uint64_t *written) {
+    return yendrufal_reply_of(yendrufal_write_plate(plate->words, YENDRUFAL_PLATE_WORDS, line, line_length, written, 1), 0);
+}
+
+static inline yendrufal_reply yendrufal_plate_write_profile(const yendrufal_plate *plate, uint8_t *line,
+                                                            size_t line_length, uint64_t *written) {
+    return yendrufal_reply_of(yendrufal_write_profile(plate->words, YENDRUFAL_PLATE_WORDS, line, line_length, written, 1),
+                              0);
+}
+
+static inline yendrufal_reply yendrufal_plate_write_word(const yendrufal_plate *plate, const yendrufal_answer *answer,
+                                                         uint8_t *line, size_t line_length, uint64_t *written) {
+    return yendrufal_reply_of(yendrufal_write_word(plate->words, YENDRUFAL_PLATE_WORDS, answer->word, answer->metric,
+                                                   answer->additions, answer->comparisons, line, line_length, written,
+                                                   1),
+                              0);
+}
+
+/* A reply's number in words: those of docs/REFUSALS.md, and words for the others. */
+static inline const char *yendrufal_refusal_words(uint64_t number) {
+    static const char *const words[] = {
+        "done",
+        "length is not 1 to 64",
+        "more than 64 rows",
+        "a row has a one beyond its length",
+        "plate too wide",
+        "not a prepared plate",
+        "number of samples is not n",
+        "sample outside -2047 to 2047",
+        "working room too short",
+        "decision room too short",
+        "line missing or not ended",
+        "line longer than its room",
+        "no such depth, state or bit",
+        "information beyond k",
+        "not a codeword",
+        "input over 32,768 bytes",
+        "alist fault",
+        "first field unknown or out of its turn",
+        "wrong number of fields",
+        "bad number, letter or order",
+        "row or mask of wrong length or character",
+        "position is n or beyond",
+        "k is 64",
+        "mask has a one beyond its length",
+        "step or top level out of range",
+        "a heard value is not a number",
+        "bad branch line or depth order",
+        "branch told twice",
+        "more than 1,024 branch lines",
+    };
+    if (number < sizeof words / sizeof words[0]) return words[number];
+    if (number == YENDRUFAL_NO_BRANCH) return "no branch with this bit";
+    if (number == YENDRUFAL_SHAPE) return "a run too short for its fixed use, or an unknown kind";
+    return "no reply of this library";
+}
 
 #endif

@@ -1,10 +1,18 @@
 //! The decoders that are timed, under one shape.
 
-use crate::{library, sections, steps};
+use crate::yendrufal::raw as library;
+use crate::{sections, steps};
 
 extern "C" {
     fn c_straight(p: *const u64, s: *const i16, m: *mut i32, d: *mut u64, word: *mut u64, metric: *mut i32);
-    fn c_tested(p: *const u64, s: *const i16, m: *mut i32, d: *mut u64, word: *mut u64, metric: *mut i32) -> i32;
+    fn c_tested(
+        p: *const u64,
+        s: *const i16,
+        m: *mut i32,
+        d: *mut u64,
+        word: *mut u64,
+        metric: *mut i32,
+    ) -> i32;
     fn c_block(p: *const u64, s: *const i16, m: *mut i32, d: *mut u64, word: *mut u64, metric: *mut i32);
 }
 

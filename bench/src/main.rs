@@ -5,17 +5,18 @@ mod codes;
 mod contestants;
 #[cfg(liquid)]
 mod liquid;
-#[allow(dead_code)]
-#[path = "../../compare/src/library.rs"]
-mod library;
 mod sections;
 mod steps;
 mod timing;
+#[allow(dead_code)]
+#[path = "../../include/yendrufal.rs"]
+mod yendrufal;
 
 use codes::{codes, Code};
 use contestants::{by_library, exhaustive, plate_test, same_verdict, DECODERS};
 use std::hint::black_box;
 use timing::{best, clock};
+use yendrufal::raw as library;
 
 const ROUNDS: usize = 30;
 const BLOCKS: usize = 16;

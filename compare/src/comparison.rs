@@ -64,7 +64,14 @@ impl Comparison {
     pub fn begin(&mut self, kind: &'static str) {
         self.finish();
         self.kind = kind;
-        self.order.push(kind);
+        if !self.order.contains(&kind) {
+            self.order.push(kind);
+        }
+    }
+
+    /// How many calls were put so far; each agreed, or the program has ended.
+    pub fn calls(&self) -> u64 {
+        self.agreed.values().sum()
     }
 
     /// Puts a call to both sides; gives back the model's reply and the call as the model left it.
@@ -129,6 +136,12 @@ impl Comparison {
             let sum: u64 = of_kind.map(|(_, count)| count).sum();
             println!("{kind}: {sum} agree ({})", by_call.join(", "));
         }
-        println!("in all: {} calls agree", self.agreed.values().sum::<u64>());
+        let mut by_call = BTreeMap::new();
+        for ((_, name), count) in &self.agreed {
+            *by_call.entry(name).or_insert(0) += count;
+        }
+        let by_call: Vec<String> = by_call.iter().map(|(name, count)| format!("{name:?} {count}")).collect();
+        println!("by call: {}", by_call.join(", "));
+        println!("in all: {} calls agree", self.calls());
     }
 }

@@ -93,6 +93,12 @@ pub fn run(comparison: &mut Comparison, random: &mut Random, plates: usize) {
         all_wrong(comparison, random, &flat);
         comparison.agree(asked::read_back(&flat, 0, FIXED));
     }
+    more(comparison, random, plates);
+}
+
+/// So many random plates, each damaged in every number.
+pub fn more(comparison: &mut Comparison, random: &mut Random, plates: usize) {
+    comparison.begin("damaged plates");
     for _ in 0..plates {
         let found = matrix(random);
         let Ok(sound) = prepare_masked(found.n, Kind::G, &found.rows, found.mask) else {

@@ -1,7 +1,7 @@
 //! The library linked into this program: a call's runs are lent to it as they are.
 
 use crate::call::{Call, Name};
-use crate::library::*;
+use crate::yendrufal::raw::*;
 
 /// A run as pointer and length, by the kind of its cells. An empty one is lent as NULL, which the header permits.
 macro_rules! lent {

@@ -91,8 +91,8 @@ fn prepare(matrix: &Matrix) -> Call {
     asked::prepare_masked(matrix.n, matrix.kind, &matrix.rows, matrix.mask, FIXED)
 }
 
-/// Matrices in order, and one in eight with the faults of refusals 1 to 3 and 23.
-pub fn run(comparison: &mut Comparison, random: &mut Random, count: usize) {
+/// Matrices in order, and one in eight with the faults of refusals 1 to 3 and 23. Gives back how many had each width, 14 and wider as one.
+pub fn run(comparison: &mut Comparison, random: &mut Random, count: usize) -> [usize; 15] {
     comparison.begin("random matrices");
     let mut widths = [0usize; 15];
     for _ in 0..count {
@@ -107,6 +107,5 @@ pub fn run(comparison: &mut Comparison, random: &mut Random, count: usize) {
             comparison.agree(prepare(&bad));
         }
     }
-    println!("random matrices by widest profile entry, 0 to 13 and wider: {widths:?}");
-    assert!(widths[..14].iter().all(|&seen| seen > 0), "not every width occurred");
+    widths
 }

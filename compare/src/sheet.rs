@@ -94,7 +94,10 @@ fn faults(fields: &[&str], turn: &[&str], n: usize) -> Vec<Fault> {
     if fields.len() != due {
         found.push((18, fields.len().min(due) + 1));
     }
-    let forms = fields.iter().enumerate().filter_map(|(i, field)| form(word, i + 1, field, n).map(|number| (number, i + 1)));
+    let forms = fields
+        .iter()
+        .enumerate()
+        .filter_map(|(i, field)| form(word, i + 1, field, n).map(|number| (number, i + 1)));
     found.extend(forms);
     found
 }
@@ -158,7 +161,9 @@ fn body(lines: &[&str], unended: bool, cover: &Cover) -> Result<Body, Refusal> {
             "mask" => mask = row(found[1], cover),
             "row" => rows.push(row(found[1], cover)),
             "block" => blocks.push(Block { counter: None, samples: by_position(&found[1..], cover) }),
-            "heard" => blocks.push(Block { counter: counter(found[1]), samples: by_position(&found[2..], cover) }),
+            "heard" => {
+                blocks.push(Block { counter: counter(found[1]), samples: by_position(&found[2..], cover) })
+            }
             _ => break,
         }
     }
@@ -212,7 +217,11 @@ pub fn listing(bytes: &[u8]) -> (String, Option<Plate>, usize) {
     let of_heard = |(block, reply)| {
         let Block { counter, samples }: &Block = block;
         let reply: &Result<decoding::Decoded, Refusal> = reply;
-        counter.map(|counter| Heard { counter, samples, answer: reply.as_ref().ok().map(|found| (found.word, found.metric)) })
+        counter.map(|counter| Heard {
+            counter,
+            samples,
+            answer: reply.as_ref().ok().map(|found| (found.word, found.metric)),
+        })
     };
     let heard: Vec<Heard> = sheet.blocks.iter().zip(&replies).filter_map(of_heard).collect();
     let classes = tally::classes(&heard);
@@ -223,7 +232,15 @@ pub fn listing(bytes: &[u8]) -> (String, Option<Plate>, usize) {
         match reply {
             Err(refusal) => text += &refused_line(refusal),
             Ok(_) if classes.get(i) == Some(&tally::Class::Repeated) => {}
-            Ok(found) => text += &word_line(&sheet.plate, to_print(found.word, &sheet), found.metric, found.additions, found.comparisons),
+            Ok(found) => {
+                text += &word_line(
+                    &sheet.plate,
+                    to_print(found.word, &sheet),
+                    found.metric,
+                    found.additions,
+                    found.comparisons,
+                )
+            }
         }
     }
     let mut lines = sheet.blocks.len() + 3;

@@ -236,6 +236,12 @@ pub fn run(comparison: &mut Comparison, random: &mut Random, count: usize) {
     list_in_rooms(comparison, b"cover\t2\tG\tlast\nrow\t10\nblock\t-3\t4\nblock\t1\nend\n", 5);
     list_in_rooms(comparison, b"cover\t2\tG\tlast\nmask\t01\nrow\t10\nblock\t-3\t4\nend\n", 4);
     list_in_rooms(comparison, b"cover\t2\tG\tlast\nrow\t10\nheard\t7\t-3\t4\nheard\t7\t1\t1\nend\n", 6);
+    more(comparison, random, count);
+}
+
+/// So many random sheets, each with damages.
+pub fn more(comparison: &mut Comparison, random: &mut Random, count: usize) {
+    comparison.begin("sheets");
     for _ in 0..count {
         let mut text = sheet(random);
         list(comparison, &text);

@@ -52,7 +52,8 @@ fn opposed(samples: &[i16], word: u64) -> usize {
 /// The nine numbers in the order in which they are printed.
 pub fn numbers(lines: &[Heard], classes: &[Class]) -> [i64; 9] {
     let count = |class| classes.iter().filter(|c| **c == class).count() as i64;
-    let decoded: Vec<usize> = (0..lines.len()).filter(|&i| !matches!(classes[i], Class::Refused | Class::Repeated)).collect();
+    let decoded: Vec<usize> =
+        (0..lines.len()).filter(|&i| !matches!(classes[i], Class::Refused | Class::Repeated)).collect();
     let sum = |number: &dyn Fn(&Heard) -> i64| decoded.iter().map(|&i| number(&lines[i])).sum::<i64>();
     let missing: i64 = (0..lines.len())
         .filter(|&i| classes[i] == Class::Onward)
