@@ -3,14 +3,21 @@ pub mod Demand2
 pub mod StepCounts
 pub mod Demand3
 pub mod Determined
+pub mod A1
+pub mod A2
 pub mod A3
+pub mod A4
+pub mod A5
+pub mod A6
 pub mod A7
 pub mod A8
+pub mod A9
 pub mod A10
 pub mod A11
 pub mod ZeroMasks
 pub mod A12
 pub mod A13
+pub mod A14
 pub mod Checking
 pub mod CodeWords
 pub mod PlatesChecked
@@ -20,3 +27,4 @@ pub mod BlocksChecked
 pub mod QuestionsChecked
 pub mod LinesChecked
 pub mod ExamplesRight
+pub mod HeardSheet
