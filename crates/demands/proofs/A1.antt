@@ -1,6 +1,6 @@
 -- A1, parity checks from the code designers: H matrices as MacKay's alist text. Definitions: alists/specs/Text (`alistText`: the lines in the request's
--- order), Reading (`reading`: each line judged against those above it), OwnForm (`OwnForm`), Accepted (`Sized`, `Accepted`), Calls (`Reads`,
--- `WritesAlist`).
+-- order), Reading (`reading`), OwnForm (`OwnForm`), Accepted (`Sized`, `Accepted`), Calls (`Reads`,
+-- `WritesAlist`), and demands/specs/AlistFaults (`FirstFaulty`: each line judged against those above it, the first that is faulty, missing or extra).
 use lib.ListN.{drop, getD, length, replicate, take}
 use mathlib.Core.List.{_++_, List, [], _∷_}
 use mathlib.Core.Logic.{inl, inr, _↔_, _⊎_}
@@ -21,6 +21,8 @@ use Rattle.alists.specs.OwnForm.{OwnForm}
 use Rattle.alists.specs.Reading.{Reading, faultIn, matrix, reading}
 use Rattle.alists.specs.Text.{alistText}
 use Rattle.demands.proofs.Demand1.{its-number}
+use Rattle.demands.proofs.AlistFaults.{matrix-has-none, told-exactly}
+use Rattle.demands.specs.AlistFaults.{FirstFaulty, NoneFaulty}
 use Rattle.demands.specs.Refusing.{Numbered, WriteRefuses}
 use Rattle.listings.specs.declared.Written.{Written}
 use Rattle.listings.specs.declared.Written.the-variants.{Length}
@@ -28,6 +30,7 @@ use Rattle.listings.specs.Writing.{WritesAs}
 use Rattle.plates.specs.declared.Refusal.{Refusal}
 use Rattle.plates.specs.declared.Refusal.the-variants.{AlistFault}
 use Rattle.plates.specs.Refusals.{number, place}
+use Rattle.sheets.specs.Text.{lines}
 use Rattle.listings.specs.declared.Written.the-variants as W
 
 -- ---- what is read and written
@@ -69,8 +72,17 @@ sizes-are-one-to-sixty-four text n rows e =
 pub sixteen-has-line : (l : ℕ) → (number (AlistFault l) ≡ 16) × (place (AlistFault l) ≡ l)
 sixteen-has-line l = (refl, refl)
 
+-- the line told is the first that is faulty, missing or extra: the lines of the text by its line feeds, each judged against those above it
+-- (specs/AlistFaults, which names no reader)
+pub line-told-exactly : (text : List ℕ) (l : ℕ) → (reading text ≡ faultIn l) ↔ FirstFaulty [] (lines text) l
+line-told-exactly = told-exactly
+
+-- and a text that reads as a matrix has none
+pub matrix-has-no-fault : (text : List ℕ) (n : ℕ) (rows : List ℕ) → reading text ≡ matrix n rows → NoneFaulty [] (lines text)
+matrix-has-no-fault = matrix-has-none
+
 module _ (text table : List ℕ) (r : Alist) (table′ : List ℕ) (x : Reads text table r table′) where
-  -- refused exactly where the reading is a fault in a line (which line: AlistFaults), and with nothing else
+  -- refused exactly where the reading is a fault in a line, and with nothing else
   pub read-refuses-exactly : (q : Refusal) → (r ≡ Refused q) ↔ ((l : ℕ) × (reading text ≡ faultIn l) × (q ≡ AlistFault l))
   read-refuses-exactly q = (
     (λ e. told (reading text) refl (sym (x .replies) ∙ e)),
@@ -102,13 +114,14 @@ module _ (n : ℕ) (rows room : List ℕ) where
     write-refuses = (
       (λ q. (
         (λ e. subst (WritesAs (writeConditions n rows room) (alistText n rows) room room′) e (w .reply) .0),
-        λ h. write-determined n rows room w (record { reply = (h, refl) }) .0,
+        λ h. write-determined n rows room {s = W.Refused q} {b = room} w (record { reply = (h, refl) }) .0,
       )),
       λ q e. subst (WritesAs (writeConditions n rows room) (alistText n rows) room room′) e (w .reply) .1,
     )
 
     -- else the text stands at the start of the room, and the bytes behind it are as they were
-    pub write-leaves-text : (size : ℕ) → r ≡ W.Length size → (size ≡ length (alistText n rows)) × (room′ ≡ alistText n rows ++ drop (length (alistText n rows)) room)
+    pub write-leaves-text : (size : ℕ) → r ≡ W.Length size
+        → (size ≡ length (alistText n rows)) × (room′ ≡ alistText n rows ++ drop (length (alistText n rows)) room)
     write-leaves-text size e = let y = subst (WritesAs (writeConditions n rows room) (alistText n rows) room room′) e (w .reply) in (y .1, y .2)
 
 -- place 0

@@ -123,4 +123,5 @@ module _ (plate : Plate) (given : IsPrepared plate) (w : ℕ) where
       → Decodes plate samples room words room′ words′ (D.Found a)
       → (r ≡ Explained (Y.NoCodeword (plate .n))) ↔ (((c : ℕ) × IsWord plate c × ((i : ℕ) → i < plate .n → bit c i ≡ bit w i)) × (2 ^ plate .n ≤ w))
   replied-at-n-exactly samples metrics metrics′ room room′ decisions decisions′ words words′ r p h a d =
-      Iff·trans (why-not-exactly plate samples w metrics decisions metrics′ decisions′ r p h room room′ words words′ a d (Y.NoCodeword (plate .n))) told-at-n-exactly
+      Iff·trans (why-not-exactly plate samples w metrics decisions metrics′ decisions′ r p h room room′ words words′ a d (Y.NoCodeword (plate .n)))
+      told-at-n-exactly

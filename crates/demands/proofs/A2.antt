@@ -66,7 +66,8 @@ module _ (n : ℕ) (part : Part) (fs : List (List ℕ)) (at : ℕ) where
       go (malformed a b h i) = absurd (form-not (firstWord fs) 17 (omega arith) i)
 
   -- 18: the wrong number of fields, at the first missing or extra
-  pub eighteen-exactly : Wrong n part fs 18 at ↔ ((length fs ≡ due (firstWord fs) (length fs) → ⊥) × (at ≡ firstOff (length fs) (due (firstWord fs) (length fs))))
+  pub eighteen-exactly : Wrong n part fs 18 at
+      ↔ ((length fs ≡ due (firstWord fs) (length fs) → ⊥) × (at ≡ firstOff (length fs) (due (firstWord fs) (length fs))))
   eighteen-exactly = (go, λ x. miscounted (x .0) refl (x .1))
     where
       go : Wrong n part fs 18 at → (length fs ≡ due (firstWord fs) (length fs) → ⊥) × (at ≡ firstOff (length fs) (due (firstWord fs) (length fs)))

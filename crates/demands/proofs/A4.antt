@@ -69,6 +69,6 @@ pub listing-has-answers : (s : List ℕ) (prepared : Prepared) (answers : List D
     → Reports s (listingLines (a .sheet .order) (prepared .plate) (a .sheet) answers)
 listing-has-answers = answers-listed
 
-pub turned-listing-has-answers : (s t : List ℕ) → IsTurned s t → length t ≤ 32768 → (prepared : Prepared) (answers : List Decoded) (a : Answers s prepared answers)
-    → Reports t (listingLines (other (a .sheet .order)) (prepared .plate) (a .sheet) answers)
+pub turned-listing-has-answers : (s t : List ℕ) → IsTurned s t → length t ≤ 32768 → (prepared : Prepared) (answers : List Decoded)
+    → (a : Answers s prepared answers) → Reports t (listingLines (other (a .sheet .order)) (prepared .plate) (a .sheet) answers)
 turned-listing-has-answers = turned-listed

@@ -27,8 +27,8 @@ use Rattle.reports.specs.declared.tally.Reference.{Reference}
 use Rattle.reports.specs.declared.tally.Standing.{Standing}
 use Rattle.reports.specs.Report.{BlockAnswers, HeardsReport, LinesReport, PreparedReports, Reports, ReportsAs, SheetReports}
 use Rattle.reports.specs.Report.{atFirst, closing, heardLines, lineOfAnswer, lineOfHeard}
-use Rattle.reports.specs.Tally.{Heard, advance, decodedShare, foundShare, heardsOf, isRepeat, metricsFrom, referenceBy, referenceOf, refusedShare, repeatedShare}
-use Rattle.reports.specs.Tally.{share, standing, standingBy, tallyOf}
+use Rattle.reports.specs.Tally.{Heard, advance, decodedShare, foundShare, heardsOf, isRepeat, metricsFrom, referenceBy, referenceOf}
+use Rattle.reports.specs.Tally.{refusedShare, repeatedShare, share, standing, standingBy, tallyOf}
 use Rattle.sheets.proofs.Ranges.{accepted}
 use Rattle.sheets.specs.Blocks.{BlockFound, block, blockFront, blockThen, blocksOf, countersOf, heardFront, noBlock}
 use Rattle.sheets.specs.declared.cover.Cover.{Cover}
@@ -152,8 +152,8 @@ sum-is-signed (pos k) above below e =
     less-whole above below (omega (arith, s)) ∙ ap decimal d ∙ sym (signed-whole k)
 sum-is-signed (negsuc k) above below e =
     let f : pos below ≡ pos (suc k + above) =
-        sym (+ℤ-idl (pos below)) ∙ ap (λ (z : ℤ). z +ℤ pos below) (sym (+ℤ-invr (pos (suc k)))) ∙ +ℤ-assoc (pos (suc k)) (negsuc k) (pos below)
-        ∙ ap (λ (z : ℤ). pos (suc k) +ℤ z) e ∙ pos-+ℤ-pos (suc k) above in
+    sym (+ℤ-idl (pos below)) ∙ ap (λ (z : ℤ). z +ℤ pos below) (sym (+ℤ-invr (pos (suc k)))) ∙ +ℤ-assoc (pos (suc k)) (negsuc k) (pos below)
+    ∙ ap (λ (z : ℤ). pos (suc k) +ℤ z) e ∙ pos-+ℤ-pos (suc k) above in
     let s : below ≡ suc k + above = pos-once f in
     let d : below - above ≡ suc k = omega (arith, s) in
     less-below above below (omega (arith, s)) ∙ ap (λ (x : ℕ). 45 ∷ decimal x) d ∙ sym (signed-below k)
@@ -166,7 +166,8 @@ unfolding tallyLine
 tally-line-is hs =
     let t = tallyOf hs in
     ap (λ (s : List ℕ). line tallyName (decimal (t .decoded) ∷ decimal (t .refused) ∷ decimal (t .repeated) ∷ decimal (t .late) ∷ decimal (t .missing)
-    ∷ decimal (t .opposing) ∷ decimal (t .zeros) ∷ s ∷ decimal (t .decoded) ∷ [])) (sum-is-signed (metricsFrom R.Unset hs) (t .above) (t .below) (metrics-summed R.Unset hs))
+    ∷ decimal (t .opposing) ∷ decimal (t .zeros) ∷ s ∷ decimal (t .decoded) ∷ []))
+    (sum-is-signed (metricsFrom R.Unset hs) (t .above) (t .below) (metrics-summed R.Unset hs))
 
 -- ---- from the sheet's bytes on
 
@@ -199,7 +200,8 @@ unfolding contents
 counter-for-each s c e =
     let cover = coverIn (coverFront (lines s)) in
     let front = maskFront (cover .n) (cover .order) (drop 1 (lines s)) in
-    subst (λ (d : Contents). length (d .counters) ≡ length (d .blocks)) (accepted s c e .1) (with-counters cover (maskIn front) (drop (masksIn front) (drop 1 (lines s))))
+    subst (λ (d : Contents). length (d .counters) ≡ length (d .blocks)) (accepted s c e .1)
+    (with-counters cover (maskIn front) (drop (masksIn front) (drop 1 (lines s))))
 
 -- as many heard lines as counters and blocks
 answers-many : (plate : Plate) (blocks : List (List ℤ)) (replies : List Decoded) → BlockAnswers plate blocks replies → length replies ≡ length blocks
@@ -228,7 +230,8 @@ pub record TallyTold (sheet : Contents) (plate : Plate) (lines : List (List ℕ)
   pub replies : List Decoded
   pub answered : BlockAnswers plate (sheet .blocks) replies
   pub before : List (List ℕ)
-  pub are : let heards = heardsOf (sheet .counters) (sheet .blocks) replies in lines ≡ before ++ (tallyLine (tallyOf heards) ∷ endLine (length (sheet .blocks)) ∷ [])
+  pub are : let heards = heardsOf (sheet .counters) (sheet .blocks) replies in
+      lines ≡ before ++ (tallyLine (tallyOf heards) ∷ endLine (length (sheet .blocks)) ∷ [])
   pub together : let t = tallyOf (heardsOf (sheet .counters) (sheet .blocks) replies) in t .decoded + t .refused + t .repeated ≡ length (sheet .blocks)
 
 module _ (sheet : Contents) (plate : Plate) (as-many : length (sheet .counters) ≡ length (sheet .blocks)) where
@@ -246,11 +249,13 @@ module _ (sheet : Contents) (plate : Plate) (as-many : length (sheet .counters) 
       }
 
   -- past the plate's and the profile's line
-  told-after : (lines : List (List ℕ)) → sheet .heard ≡ true → PreparedReports J.Accepted plate sheet lines → (rest : List (List ℕ)) × TallyTold sheet plate rest
+  told-after : (lines : List (List ℕ)) → sheet .heard ≡ true → PreparedReports J.Accepted plate sheet lines
+      → (rest : List (List ℕ)) × TallyTold sheet plate rest
   told-after [] e x = absurd x
   told-after (k ∷ []) e x = absurd (x .1)
   told-after (k ∷ l ∷ ls) e x =
-      (ls, told-by ls (subst (λ (b : Bool). LinesReport b (sheet .order) plate (length (sheet .blocks)) atFirst (sheet .counters) (sheet .blocks) ls) e (x .1 .1)))
+      let h = subst (λ (b : Bool). LinesReport b (sheet .order) plate (length (sheet .blocks)) atFirst (sheet .counters) (sheet .blocks) ls) e (x .1 .1) in
+      (ls, told-by ls h)
 
 -- the listing of an input that is a sheet of heard lines whose matrix is accepted: decoded, refused and repeated lines together are the number
 -- that `end` prints
@@ -261,5 +266,6 @@ tally-of-bytes input lines r sheet e heard prepared p a =
     let x : SheetReports sheet lines = subst (λ (found : Reading). ReportsAs found lines) e (r .is) in
     let d = prepare-determined (sheet .n) (sheet .kind) (sheet .rows) (sheet .mask) (x .prepared) prepared (x .prepares) p in
     let y : PreparedReports (prepared .verdict) (prepared .plate) sheet lines =
-        subst (λ (q : Prepared). PreparedReports (q .verdict) (q .plate) sheet lines) d (x .is) in
-    told-after sheet (prepared .plate) (counter-for-each input sheet e) lines heard (subst (λ (v : Verdict). PreparedReports v (prepared .plate) sheet lines) a y)
+    subst (λ (q : Prepared). PreparedReports (q .verdict) (q .plate) sheet lines) d (x .is) in
+    told-after sheet (prepared .plate) (counter-for-each input sheet e) lines heard
+    (subst (λ (v : Verdict). PreparedReports v (prepared .plate) sheet lines) a y)

@@ -111,6 +111,9 @@ module _ (n : ℕ) (kind : Kind) (rows : List ℕ) (mask : ℕ) (r : Prepared) (
 pub weights-without-mask : (plate : Plate) (mask w c : ℕ) → NumberOfWeight (withMask mask plate) w c → NumberOfWeight plate w c
 weights-without-mask plate mask w c k = record {
   test = k .test;
-  right = λ x h. ((λ t. let o = k .right x h .0 t in record { codeword = o .codeword; weight = o .weight }), λ o. k .right x h .1 (record { codeword = o .codeword; weight = o .weight }));
+  right = λ x h. (
+    (λ t. let o = k .right x h .0 t in record { codeword = o .codeword; weight = o .weight }),
+    λ o. k .right x h .1 (record { codeword = o .codeword; weight = o .weight }),
+  );
   number = k .number;
 }

@@ -61,7 +61,9 @@ abbrev zeroWord : ℤ → Answer
 zeroWord metric = answer 0 metric 1 0
 
 abbrev replies : List Decoded
-replies = Found (zeroWord (pos 5)) ∷ Found (zeroWord (negsuc 8)) ∷ Found (zeroWord (pos 7)) ∷ Found (zeroWord (pos 0)) ∷ Found (zeroWord (pos 1)) ∷ Refused SampleCount ∷ []
+replies =
+    Found (zeroWord (pos 5)) ∷ Found (zeroWord (negsuc 8)) ∷ Found (zeroWord (pos 7))
+    ∷ Found (zeroWord (pos 0)) ∷ Found (zeroWord (pos 1)) ∷ Refused SampleCount ∷ []
 
 abbrev answered : (samples : List ℤ) (a : Answer) → Check (BlockAnswer zeroPlate1 samples (Found a))
 answered samples a =

@@ -3,6 +3,10 @@ pub mod Demand2
 pub mod StepCounts
 pub mod Demand3
 pub mod Determined
+pub mod AlistLines
+pub mod AlistSteps
+pub mod AlistLists
+pub mod AlistFaults
 pub mod A1
 pub mod A2
 pub mod A3
