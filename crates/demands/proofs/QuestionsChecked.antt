@@ -24,7 +24,7 @@ use Rattle.demands.proofs.BlocksChecked.{atMostWhole, in-rooms, lessWho
 use Rattle.demands.proofs.Checking.{Check, atMost, below, both, by, each, either, equal, less, some, unequal, whole}
 use Rattle.demands.proofs.CodeWords.{plateWord, plateWords, somePlateWord}
 use Rattle.demands.proofs.Demand1.{decode-passes}
-use Rattle.demands.proofs.Firmness.{firmness-passes}
+use Rattle.demands.proofs.A3.{firmness-passes}
 use Rattle.demands.specs.Examples.{InRooms}
 use Rattle.plates.specs.declared.Plate.{Plate}
 use Rattle.plates.specs.Prepare.{IsWord, rowsOf}

@@ -1,12 +1,14 @@
--- Why not this word (document 02, A10): `why_not` refuses exactly under 5 to 9 in this order and changes nothing then; else it gives exactly one of
--- the four reasons, each exactly when it holds against decoding's answer; both rooms are left as by decoding.
+-- A10, why not this word: `why_not` gives exactly one of four reasons, each exactly when the definitions say so, against decoding's answer. Definitions:
+-- asking/specs/Asking (`NoCodewordAt`, `Less`, `Loses`, `Explains`, `Asks`). Refusals are those of the word call in A7, and both rooms are left as by
+-- decoding.
 use lib.IntN.{natAbs, pos, ℤ}
 use lib.ListN.{drop, replicate}
 use lib.Signed.{_<ℤ_}
 use mathlib.Core.List.{_++_, List, [], _∷_}
-use mathlib.Core.Logic.{_↔_}
+use mathlib.Core.Logic.{Iff·trans, _↔_}
 use mathlib.Core.Path.{refl, subst, sym, _≡_}
-use Prim.Native.Nat.{_<_, _^_, ℕ, _≤_}
+use native.Mathlib.Omega.{arith}
+use Prim.Native.Nat.{_-_, _<_, _^_, ℕ, _≤_}
 use Rattle.asking.proofs.EveryWord.{at-n-beyond, beyond-at-n, difference-bounds, some-reason}
 use Rattle.asking.proofs.OneReason.{reason-once}
 use Rattle.asking.proofs.WhyNotDetermined.{given-exactly, why-not-determined}
@@ -20,6 +22,7 @@ use Rattle.decoding.specs.Decode.{Decodes, decisionNeed, decodeConditions, metr
 use Rattle.demands.proofs.Demand1.{decode-numbers}
 use Rattle.demands.specs.Refusing.{Numbered, RefusesExactly}
 use Rattle.plates.proofs.Refusing.{never-both}
+use Rattle.plates.proofs.SoundIsPrepared.{sound}
 use Rattle.plates.specs.Code.{InCode, Masked}
 use Rattle.plates.specs.declared.Kind.{Kind}
 use Rattle.plates.specs.declared.Plate.{Plate}
@@ -31,6 +34,7 @@ use Rattle.plates.specs.Refusals.{Passes}
 use Rattle.trellises.proofs.AcceptedIsPrepared.{accepted-length}
 use Rattle.trellises.proofs.WordsTrellis.{accepted-words}
 use Rattle.words.specs.Word.{bit}
+use Rattle.asking.specs.declared.Reason.the-variants as Y
 use Rattle.decoding.specs.declared.Decoded.the-variants as D
 
 module _ (plate : Plate) (samples : List ℤ) (w : ℕ) (metrics : List ℤ) (decisions : List ℕ) where
@@ -102,7 +106,22 @@ module _ (n : ℕ) (kind : Kind) (rows : List ℕ) (mask : ℕ) (r : Prepared) (
       x .stops (subst (λ (m : ℕ). position < m) (sym (accepted-length n kind rows mask r p e)) h)
       (record { by = c; codeword = accepted-words n kind rows mask r p e c .0 g; same = same })
 
--- where some word of the plate has its bits below n, a word is no codeword at n exactly if it has a one at n or beyond
-pub no-codeword-at-n : (plate : Plate) → IsPrepared plate → (w c : ℕ) → IsWord plate c → ((i : ℕ) → i < plate .n → bit c i ≡ bit w i)
-    → NoCodewordAt plate w (plate .n) ↔ (2 ^ plate .n ≤ w)
-no-codeword-at-n plate given w c g same = (at-n-beyond given w, beyond-at-n given w c g same)
+-- n is told exactly if some word of the plate has the word's bits below n, and the word has a one at n or beyond
+module _ (plate : Plate) (given : IsPrepared plate) (w : ℕ) where
+  pub told-at-n-exactly : NoCodewordAt plate w (plate .n) ↔ (((c : ℕ) × IsWord plate c × ((i : ℕ) → i < plate .n → bit c i ≡ bit w i)) × (2 ^ plate .n ≤ w))
+  told-at-n-exactly = ((λ x. (continued x, at-n-beyond given w x)), λ x. beyond-at-n given w (x .0 .0) (x .0 .1) (x .0 .2) (x .1))
+    where
+      continued : NoCodewordAt plate w (plate .n) → (c : ℕ) × IsWord plate c × ((i : ℕ) → i < plate .n → bit c i ≡ bit w i)
+      continued x =
+          let positive : 1 ≤ plate .n = sound given .positive in
+          let s = x .sooner (plate .n - 1) (omega (arith, positive)) in
+          (s .by, s .codeword, λ i h. s .same i (omega (arith, h)))
+
+  -- and it is replied exactly then
+  pub replied-at-n-exactly : (samples metrics metrics′ room room′ : List ℤ) (decisions decisions′ words words′ : List ℕ) (r : Verdict)
+      → Asks plate samples w metrics decisions metrics′ decisions′ r → Passes (decodeConditions plate samples metrics decisions) → (a : Answer)
+      → Decodes plate samples room words room′ words′ (D.Found a)
+      → (r ≡ Explained (Y.NoCodeword (plate .n))) ↔ (((c : ℕ) × IsWord plate c × ((i : ℕ) → i < plate .n → bit c i ≡ bit w i)) × (2 ^ plate .n ≤ w))
+  replied-at-n-exactly samples metrics metrics′ room room′ decisions decisions′ words words′ r p h a d =
+      Iff·trans (why-not-exactly plate samples w metrics decisions metrics′ decisions′ r p h room room′ words words′ a d (Y.NoCodeword (plate .n)))
+      told-at-n-exactly

@@ -1,21 +1,24 @@
--- How firm one flag is (document 02, A3): `firmness` refuses exactly under 5, 6, 7, 21, 8 and 9 in this order and changes nothing then; its
--- reply carries the position; its reading agrees with decoding; its margin lies within 262,016 either way; both rooms are left as by decoding.
-use lib.IntN.{natAbs, pos, ℤ}
+-- A3, how firm one flag is: `firmness` gives for one position of a block its reading, fixed with its bit or open with its margin, and the position
+-- beside it. Definitions: decoding/specs/Firmness (`Always`, `Margin`, `Judges`). Bounds are those of A8.
+use lib.IntN.{+ℤ-idl, -ℤ-+ℤ-cancel, _+ℤ_, _-ℤ_, natAbs, pos, ℤ}
 use lib.ListN.{drop, getD, length, replicate}
-use mathlib.Core.Bool.{false}
+use lib.Signed.{_≤ℤ_}
+use mathlib.Core.Bool.{Bool, false, true}
 use mathlib.Core.List.{_++_, List, [], _∷_}
-use mathlib.Core.Path.{ap, refl, subst, _≡_}
+use mathlib.Core.Logic.{inl, inr, _⊎_}
+use mathlib.Core.Path.{ap, refl, subst, sym, _∙_, _≡_}
 use native.Mathlib.Omega.{arith}
 use Prim.Native.Nat.{_<_, ℕ, _≤_}
 use Rattle.decoding.proofs.FirmnessDetermined.{firmness-determined, not-both-readings}
 use Rattle.decoding.proofs.FirmnessMargin.{Agrees, margin-bounds, margin-sign}
+use Rattle.decoding.proofs.IntegerOrder.{≤ℤ-antisym}
 use Rattle.decoding.specs.declared.Answer.{Answer}
 use Rattle.decoding.specs.declared.firmness.Flag.{Flag}
 use Rattle.decoding.specs.declared.firmness.Judged.{Judged}
 use Rattle.decoding.specs.declared.firmness.Judged.the-variants.{Found, Refused}
-use Rattle.decoding.specs.Decode.{Decodes, decisionNeed, metricNeed}
-use Rattle.decoding.specs.Firmness.{Always, Judges, Margin, firmnessConditions, isFixed, value}
-use Rattle.decoding.specs.Metric.{limit}
+use Rattle.decoding.specs.Decode.{Best, Decodes, decisionNeed, metricNeed}
+use Rattle.decoding.specs.Firmness.{Always, BestAmong, FlagOf, Judges, Margin, Means, firmnessConditions, isFixed, value}
+use Rattle.decoding.specs.Metric.{limit, metricOf}
 use Rattle.demands.proofs.Demand1.{its-number}
 use Rattle.demands.specs.Refusing.{Numbered, RefusesExactly}
 use Rattle.plates.proofs.Refusing.{never-both}
@@ -23,6 +26,7 @@ use Rattle.plates.specs.declared.Plate.{Plate}
 use Rattle.plates.specs.declared.Refusal.{Refusal}
 use Rattle.plates.specs.Prepare.{IsPrepared, IsWord}
 use Rattle.plates.specs.Refusals.{Passes, number}
+use Rattle.words.proofs.Word.{bit-cases}
 use Rattle.words.specs.Word.{bit}
 use Rattle.decoding.specs.declared.Decoded.the-variants as D
 
@@ -74,15 +78,27 @@ module _ (plate : Plate) (samples : List ℤ) (position : ℕ) (metrics : List �
     firmness-found-zeroes f e =
         let x = subst (Judges plate samples position metrics decisions metrics′ decisions′) e p in (x .2 .metrics-zero, x .2 .decisions-zero)
 
-    -- the reply carries the position
+    -- the reply carries the position beside the reading
     pub firmness-position : (f : Flag) → r ≡ Found f → f .position ≡ position
     firmness-position f e = subst (Judges plate samples position metrics decisions metrics′ decisions′) e p .1 .position-is
 
-    -- its reading agrees with what decoding gives there: the fixed bit, 0 for a positive margin, 1 for a negative one
-    pub firmness-agrees : (f : Flag) → r ≡ Found f → (a : Answer) (m : List ℤ) (d : List ℕ) → Decodes plate samples metrics decisions m d (D.Found a)
-        → Agrees (f .reading) (bit (a .word) position)
-    firmness-agrees f e a m d x =
-        margin-sign plate samples position a (x .1) f (subst (Judges plate samples position metrics decisions metrics′ decisions′) e p .1)
+    -- it is of this flag
+    flag-of : (f : Flag) → r ≡ Found f → FlagOf (IsWord plate) samples position f
+    flag-of f e = subst (Judges plate samples position metrics decisions metrics′ decisions′) e p .1
+
+    -- fixed means that every word has that bit
+    pub fixed-is-always : (f : Flag) → r ≡ Found f → isFixed (f .reading) ≡ true → (w : ℕ) → IsWord plate w → pos (bit w position) ≡ value (f .reading)
+    fixed-is-always f e o = subst (λ (b : Bool). Means (IsWord plate) samples position b (value (f .reading))) o (flag-of f e .reading)
+
+    -- open comes with the margin: the best metric among words with 0 there minus the best among those with 1
+    pub open-is-margin : (f : Flag) → r ≡ Found f → isFixed (f .reading) ≡ false → Margin (IsWord plate) samples position (value (f .reading))
+    open-is-margin f e o = subst (λ (b : Bool). Means (IsWord plate) samples position b (value (f .reading))) o (flag-of f e .reading)
+
+    -- a fixed reading has the decoded bit; of an open one a positive margin means that decoding gives 0 there, a negative one 1. Decoding may
+    -- have any rooms that are long enough
+    pub firmness-agrees : (f : Flag) → r ≡ Found f → (a : Answer) (room room′ : List ℤ) (words words′ : List ℕ)
+        → Decodes plate samples room words room′ words′ (D.Found a) → Agrees (f .reading) (bit (a .word) position)
+    firmness-agrees f e a room room′ words words′ x = margin-sign plate samples position a (x .1) f (flag-of f e)
 
     -- an open margin lies within 262,016 either way
     pub firmness-margin : (f : Flag) → r ≡ Found f → isFixed (f .reading) ≡ false → natAbs (value (f .reading)) ≤ 262016
@@ -93,3 +109,41 @@ module _ (plate : Plate) (samples : List ℤ) (position : ℕ) (metrics : List �
   -- no position is both fixed and open
   pub fixed-or-open : (b m : ℤ) → Always (IsWord plate) position b → Margin (IsWord plate) samples position m → ⊥
   fixed-or-open = not-both-readings plate samples position
+
+-- ---- zero decides nothing
+
+-- what is no difference
+no-difference : (a b : ℤ) → a -ℤ b ≡ pos 0 → a ≡ b
+no-difference a b e = sym (-ℤ-+ℤ-cancel a b) ∙ ap (λ (x : ℤ). x +ℤ b) e ∙ +ℤ-idl b
+
+-- a word with bit b at the position that scores as much as the answer
+pub record AsGood (plate : Plate) (samples : List ℤ) (a : Answer) (position b : ℕ) : Type 0 where
+  pub word : ℕ
+  pub codeword : IsWord plate word
+  pub has : bit word position ≡ b
+  pub metric : metricOf samples word ≡ a .metric
+
+module _ (plate : Plate) (samples : List ℤ) (position : ℕ) (a : Answer) (best : Best plate samples a) where
+  -- the best with the answer's own bit scores as the answer does
+  own-best : (b : ℕ) (m : ℤ) → BestAmong (IsWord plate) samples position b m → bit (a .word) position ≡ b → m ≡ a .metric
+  own-best b m x e =
+      ≤ℤ-antisym (subst (λ (z : ℤ). z ≤ℤ a .metric) (x .metric) (best .greatest (x .word) (x .codeword)))
+      (subst (λ (z : ℤ). z ≤ℤ m) (sym (best .metric)) (x .greatest (a .word) (best .codeword) e))
+
+  as-good : (b : ℕ) (m : ℤ) → BestAmong (IsWord plate) samples position b m → m ≡ a .metric → AsGood plate samples a position b
+  as-good b m x e = record { word = x .word; codeword = x .codeword; has = x .has; metric = x .metric ∙ e }
+
+  -- with a margin of zero a word with 0 and a word with 1 there both score as much as the word that decoding picks
+  pub zero-decides-nothing : Margin (IsWord plate) samples position (pos 0) → AsGood plate samples a position 0 × AsGood plate samples a position 1
+  zero-decides-nothing o = go (bit-cases (a .word) position)
+    where
+      same : o .with-zero ≡ o .with-one
+      same = no-difference (o .with-zero) (o .with-one) (sym (o .is))
+
+      go : (bit (a .word) position ≡ 0) ⊎ (bit (a .word) position ≡ 1) → AsGood plate samples a position 0 × AsGood plate samples a position 1
+      go (inl e) =
+          let z = own-best 0 (o .with-zero) (o .zero-best) e in
+          (as-good 0 (o .with-zero) (o .zero-best) z, as-good 1 (o .with-one) (o .one-best) (sym same ∙ z))
+      go (inr e) =
+          let z = own-best 1 (o .with-one) (o .one-best) e in
+          (as-good 0 (o .with-zero) (o .zero-best) (same ∙ z), as-good 1 (o .with-one) (o .one-best) z)

@@ -1,9 +1,12 @@
--- Masked plates (document 02, A11), but for what a zero mask gives (ZeroMasks) and for the `mask` line of a sheet with its 17 (crate sheets). The
--- words of a plate are codewords plus mask modulo 2 (plates/specs/Prepare: `IsWord`); the promises of all calls but the weights speak of those, and
--- demands 2 and 3 are stated over them. 23 stands after 3 and before 4 (Demand1: `prepare-numbers`).
+-- A11, masked plates: the words of a plate are codewords plus mask modulo 2 (plates/specs/Code: `Masked`, Prepare: `IsWord`), and the promises of all
+-- calls but the weights (A9: `weights-of-matrix`) speak of those; demands 2 and 3 are stated over them. Here: the words, profile and counts, 23, refusal 5,
+-- the mask line of a sheet and its 17, and a masked decode against a plain one. What a zero mask gives: ZeroMasks. 23 stands after 3 and before 4 by
+-- Demand1: `prepare-numbers`; the mask is reversed with the rows in A4's statement, by sheets/specs/Turned: `restTurned`.
 use lib.Bits.{bitXor, xor-comm}
 use lib.IntN.{ℤ}
+use lib.ListN.{length}
 use lib.Pow.{pow-pos}
+use mathlib.Core.Bool.{false, true}
 use mathlib.Core.List.{List, [], _∷_}
 use mathlib.Core.Logic.{Iff·symm, Iff·trans, inl, inr, _↔_}
 use mathlib.Core.Path.{ap, refl, subst, sym, _∙_, _≡_}
@@ -33,6 +36,15 @@ use Rattle.plates.specs.declared.Verdict.the-variants.{Accepted, Refused}
 use Rattle.plates.specs.Prepare.{IsPrepared, IsWord, PlateOf, Prepares, PreparesAs, RowOver, badLength, prepareConditions, rowsOf, tooManyRows}
 use Rattle.plates.specs.Refusals.{Passes, Refuses, number, place}
 use Rattle.plates.specs.Replying.{refusedWith}
+use Rattle.sheets.proofs.ZeroMasks.{no-mask-is-zero, zero-mask}
+use Rattle.sheets.specs.declared.Order.{Order}
+use Rattle.sheets.specs.declared.word.Word.{Word}
+use Rattle.sheets.specs.declared.word.Word.the-variants.{Block, Cover, End, Heard, Mask, Other, Row}
+use Rattle.sheets.specs.Faults.{Part, Wrong, after, firstWord, inTurn, onBlocks, onCover, onHeard, onMask, onNothing, onRows, outOfTurn}
+use Rattle.sheets.specs.Lines.{rowRest}
+use Rattle.sheets.specs.Masks.{maskBy, maskIs}
+use Rattle.sheets.specs.Sheet.{Contents, masksOf, reading, says}
+use Rattle.sheets.specs.ZeroMasks.{AlikeButLine, ZeroMasked}
 use Rattle.trellises.proofs.AcceptedIsPrepared.{accepted, accepted-mask}
 use Rattle.trellises.proofs.MaskedGraph.{masked-branches}
 use Rattle.trellises.proofs.PlateGenerates.{code-closed, code-zero}
@@ -232,3 +244,41 @@ module _ (n : ℕ) (kind : Kind) (rows : List ℕ) (mask : ℕ) (h : mask < 2 ^ 
       metric-masked (r .plate) samples a b x
       (subst (λ (m : ℕ). Best (withMask 0 (r .plate)) (turnedBy m samples) b) (sym (accepted-mask n kind rows mask r p e))
       (subst (λ (z : Plate). Best z (turnedBy mask samples) b) plain y))
+
+-- ---- the mask line of a sheet
+
+-- after the cover a mask line may stand; in every other part, so after a mask, a row, a block or a heard line, before the cover and after end, it is 17
+pub mask-after-cover : inTurn onMask Mask ≡ true
+mask-after-cover = refl
+
+pub mask-elsewhere-is-seventeen : (n : ℕ) (part : Part) (fs : List (List ℕ)) → firstWord fs ≡ Mask → (part ≡ onMask → ⊥) → Wrong n part fs 17 1
+mask-elsewhere-is-seventeen n part fs e other = outOfTurn (ap (inTurn part) e ∙ out part other) refl refl
+  where
+    out : (p : Part) → (p ≡ onMask → ⊥) → inTurn p Mask ≡ false
+    out onCover o = refl
+    out onMask o = absurd (o refl)
+    out onRows o = refl
+    out onBlocks o = refl
+    out onHeard o = refl
+    out onNothing o = refl
+
+-- only the line after the cover is in that part
+pub mask-part-is-after-cover : (w : Word) → after w ≡ onMask → w ≡ Cover
+mask-part-is-after-cover Cover e = refl
+mask-part-is-after-cover Mask e = let z : _≡_ {A = ℕ} 0 1 = cc in absurd (omega arith)
+mask-part-is-after-cover Row e = let z : _≡_ {A = ℕ} 0 1 = cc in absurd (omega arith)
+mask-part-is-after-cover Block e = let z : _≡_ {A = ℕ} 0 1 = cc in absurd (omega arith)
+mask-part-is-after-cover Heard e = let z : _≡_ {A = ℕ} 0 1 = cc in absurd (omega arith)
+mask-part-is-after-cover End e = let z : _≡_ {A = ℕ} 0 1 = cc in absurd (omega arith)
+mask-part-is-after-cover Other e = let z : _≡_ {A = ℕ} 0 1 = cc in absurd (omega arith)
+
+-- it is written and turned like a row: its field's characters in the cover's order
+pub mask-is-read-as-row : (n : ℕ) (order : Order) (fs : List (List ℕ)) → maskBy n order Mask fs ≡ maskIs (rowRest n order fs)
+mask-is-read-as-row n order fs = refl
+
+-- it is optional: a sheet without one has the mask 0, and one of zeros says the same, its lines counted one later
+pub no-mask-line-is-zero : (s : List ℕ) (c : Contents) → reading s ≡ says c → masksOf s c ≡ 0 → c .mask ≡ 0
+no-mask-line-is-zero = no-mask-is-zero
+
+pub mask-line-of-zeros : (s t : List ℕ) → ZeroMasked s t → length s ≤ 32768 → length t ≤ 32768 → AlikeButLine (reading s) (reading t)
+mask-line-of-zeros = zero-mask
