@@ -1,5 +1,6 @@
 // Judges the listings of branches on its standard input against the plate of n=3, H 111, whose words are 000, 110, 011 and 101, and
-// prints a line for each. A listing begins with # and a line of words; seven numbers are lent where that line begins with 7, else 64.
+// prints a line for each. A listing begins with # and a line of words; seven numbers are lent where that line begins with 7, else 64. Where it
+// begins with 5 the plate has a mask beyond its length, so that it is not prepared.
 ghost use Prim.Native.Nat.{_≤_};
 ghost use lib.ListN.{length};
 use judging::Judged;
@@ -93,6 +94,15 @@ fn judge_in_seven(listing: &[u8]) {
     show(judging::judge(prepared.plate, listing, &mut room));
 }
 
+// Judges a listing against a plate that is not prepared.
+fn judge_unprepared(listing: &[u8]) {
+    let prepared = even_words();
+    let mut plate = prepared.plate;
+    plate.mask = 8;
+    let mut room = [0; 64];
+    show(judging::judge(plate, listing, &mut room));
+}
+
 // A listing with its line of words: prints its line.
 fn example(words: &[u8], listing: &[u8]) {
     if words.len() == 0 {
@@ -101,6 +111,8 @@ fn example(words: &[u8], listing: &[u8]) {
     io::write_all(STDOUT_FILENO, words);
     if words[0] == b'7' {
         judge_in_seven(listing);
+    } else if words[0] == b'5' {
+        judge_unprepared(listing);
     } else {
         judge(listing);
     }
