@@ -20,11 +20,12 @@ use Rattle.plates.specs.declared.Refusal.the-variants.{NotPrepared}
 use Rattle.plates.specs.Prepare.{IsPrepared, Tests}
 
 -- a plate that is not prepared
-pub plate-refused : {plate : Plate} {line room : List ℕ} → (IsPrepared plate → ⊥) → WritesOf plate line room (Refused NotPrepared) room
+plate-refused : {plate : Plate} {line room : List ℕ} → (IsPrepared plate → ⊥) → WritesOf plate line room (Refused NotPrepared) room
 plate-refused h = refused-first (h, refl)
 
 -- a prepared plate
-pub plate-passed : {plate : Plate} {line room room′ : List ℕ} {r : Written} → IsPrepared plate → WritesLine line room r room′ → WritesOf plate line room r room′
+pub plate-passed : {plate : Plate} {line room room′ : List ℕ} {r : Written} → IsPrepared plate → WritesLine line room r room′
+    → WritesOf plate line room r room′
 plate-passed h w = passed-first (λ p f. f .0 h) w
 
 module _ (plate : Plate) (p : IsPrepared plate) where

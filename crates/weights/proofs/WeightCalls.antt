@@ -35,7 +35,9 @@ use Rattle.words.specs.Sum.{IsSum}
 
 -- a word with no ones is 0
 pub ones-none : (x : ℕ) → ones x ≡ 0 → x ≡ 0
-ones-none = bin-ind (λ (x : ℕ). ones x ≡ 0 → x ≡ 0) (λ e. refl) (λ x ih e. let z : x / 2 ≡ 0 = ih (omega (arith, e, ones-step x)) in omega (arith, e, ones-step x))
+ones-none =
+    bin-ind (λ (x : ℕ). ones x ≡ 0 → x ≡ 0) (λ e. refl)
+    (λ x ih e. let z : x / 2 ≡ 0 = ih (omega (arith, e, ones-step x)) in omega (arith, e, ones-step x))
 
 -- the room that the profile asks for
 pub half-is : (plate : Plate) → IsPrepared plate → 2 ^ widestEntry (plate .profile) (plate .n) * 65 ≡ 2 ^ widest plate * 65
@@ -84,7 +86,8 @@ module _ (plate : Plate) (counts working : List ℕ) where
               go (yes p) = let x = number-some (numbers w h) p in absurd (omega (arith, l, weight-most plate given (x .2)))
               go (no p) = omega arith
 
-          filled : (need : ℕ) → need ≡ workingNeed plate → (working′ : List ℕ) → working′ ≡ replicate need 0 ++ drop need working → Filled plate counts working counts′ working′
+          filled : (need : ℕ) → need ≡ workingNeed plate → (working′ : List ℕ) → working′ ≡ replicate need 0 ++ drop need working
+              → Filled plate counts working counts′ working′
           filled need e working′ z = record {
             size = k .size;
             here = numbers;
@@ -119,7 +122,9 @@ module _ (plate : Plate) (counts working : List ℕ) where
                 first = record { codeword = row; weight = refl }
 
                 some : 0 < plate .k → 0 < getD (rowsOf plate) 0 0
-                some l = some-pos (getD (rowsOf plate) 0 0) (firsts (rowsOf plate) 0) (plate-spans plate given .first 0 (omega (arith, l, used-rows plate (sound given .few) (sound given .table))) .one)
+                some l =
+                    some-pos (getD (rowsOf plate) 0 0) (firsts (rowsOf plate) 0)
+                    (plate-spans plate given .first 0 (omega (arith, l, used-rows plate (sound given .few) (sound given .table))) .one)
 
                 weighs : 0 < plate .k → Dec (0 < ones (getD (rowsOf plate) 0 0)) → ⊥
                 weighs l (yes a) = none-below _ _ first a (omega (arith, h, weight-most plate given first, sound given .short))

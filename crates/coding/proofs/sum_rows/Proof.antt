@@ -29,8 +29,8 @@ loop-again c =
     let j : ℕ = l .loop .j in (
       omega arith,
       c .with-row .ensures ∙ ap (λ (d : ℕ). bitXor (taken d (getD (s .args .rows .now) (j - 1) 0)) (l .loop .sum)) (c .before .bit-at .ensures)
-          ∙ sum-down (s .args .rows .now) (s .args .k) (s .args .information) (s .pre .0) (s .pre .1) j (l .loop .sum) (c .before .before .before .loop-test .taken)
-          (l .loop .inv .0) (l .loop .inv .1),
+          ∙ sum-down (s .args .rows .now) (s .args .k) (s .args .information) (s .pre .0) (s .pre .1) j (l .loop .sum)
+          (c .before .before .before .loop-test .taken) (l .loop .inv .0) (l .loop .inv .1),
     )
 
 returns : tie.Need-returns Inv-loop μ-loop

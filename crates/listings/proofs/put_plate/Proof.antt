@@ -33,7 +33,8 @@ abbrev start : tie.After-prepend-name → tie.Start
 start c = c .before .before .before .before .before .before .before .before .before .before .before .before .before .before
 
 -- the whole line stands at the end of the array
-built : (c : tie.After-prepend-name) → Built (plateLine (start c .args .n) (start c .args .k) (start c .args .entries .now)) (c .prepend-name .last .0) (c .prepend-name .result)
+built : (c : tie.After-prepend-name)
+    → Built (plateLine (start c .args .n) (start c .args .k) (start c .args .entries .now)) (c .prepend-name .last .0) (c .prepend-name .result)
 unfolding plateLine
 built c =
     let a = start c .args in

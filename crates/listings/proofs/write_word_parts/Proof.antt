@@ -9,7 +9,8 @@ returns : tie.Need-returns
 returns c =
     let line = c .before .before in
     let test = line .before .before in
-    tested (test .before .parts-prepared .ensures) (test .if1 .taken) (rw (toZ-ofZ (test .before .before .before .before .before .fits .metric)) at (line .put-word .ensures))
+    tested (test .before .parts-prepared .ensures) (test .if1 .taken)
+    (rw (toZ-ofZ (test .before .before .before .before .before .fits .metric)) at (line .put-word .ensures))
 
 pub write-word-parts-spec : {M : Type 1} → statement M
 write-word-parts-spec =

@@ -10,8 +10,8 @@ returns-5 c =
     let weighed = c .before .before .before in
     let ranged = weighed .before .before .before in
     let test = ranged .before .before in
-    answered (test .before .parts-prepared .ensures) (test .if1 .left) (ranged .before .if2 .left) (weighed .before .section-of .ensures) (weighed .weight-of .ensures)
-    (c .before .before .if4 .left) (ranged .if3 .left) (c .before .bit-at .ensures) (c .next-of .ensures)
+    answered (test .before .parts-prepared .ensures) (test .if1 .left) (ranged .before .if2 .left) (weighed .before .section-of .ensures)
+    (weighed .weight-of .ensures) (c .before .before .if4 .left) (ranged .if3 .left) (c .before .bit-at .ensures) (c .next-of .ensures)
 
 pub branch-parts-spec : {M : Type 1} → statement M
 branch-parts-spec =

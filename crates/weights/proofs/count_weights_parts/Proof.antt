@@ -2,7 +2,8 @@
 use borrow.Author.Needs.{needs}
 use native.Mathlib.Omega.{arith}
 use Rattle.plates.specs.Prepare.{ofParts}
-use Rattle.weights.proofs.WeightCalls.{Ready, counts-still, entries-small, least-found, made-ready, need-fits, none-found, profile-long, rooms-refused, rows-count, tally-asks, unprepared, whole-space, working-count}
+use Rattle.weights.proofs.WeightCalls.{Ready, counts-still, least-found, made-ready, none-found, tally-asks, working-count}
+use Rattle.weights.proofs.WeightCalls.{entries-small, need-fits, profile-long, rooms-refused, rows-count, unprepared, whole-space}
 use Rattle.weights.proofs.count_weights_parts.Statement.{statement}
 use Rattle.weights.proofs.count_weights_parts.Tie as tie
 
@@ -15,7 +16,8 @@ ready : (c : tie.Else3) → let a = start c .args in
 ready c =
     let tested = c .before .before in
     let given = tested .before .before in
-    made-ready (given .before .parts-prepared .ensures) (given .if1 .left) (tested .before .half-of .ensures) _ _ (tested .are-short .ensures) (c .before .if2 .left) (c .if3 .left)
+    made-ready (given .before .parts-prepared .ensures) (given .if1 .left) (tested .before .half-of .ensures) _ _ (tested .are-short .ensures)
+    (c .before .if2 .left) (c .if3 .left)
 
 half-of-requires : tie.Need-half-of-requires
 half-of-requires c κs =
@@ -25,7 +27,8 @@ returns-3 : tie.Need-returns-3
 returns-3 c =
     let tested = c .before .before in
     let given = tested .before .before in
-    rooms-refused (given .before .parts-prepared .ensures) (given .if1 .left) (tested .before .half-of .ensures) _ _ (tested .are-short .ensures) (c .before .if2 .left) (c .if3 .taken)
+    rooms-refused (given .before .parts-prepared .ensures) (given .if1 .left) (tested .before .half-of .ensures) _ _ (tested .are-short .ensures)
+    (c .before .if2 .left) (c .if3 .taken)
 
 slice-aggregate-tally : tie.Need-slice-aggregate-tally
 slice-aggregate-tally c =
@@ -43,12 +46,14 @@ find-least-requires c κs =
 returns-4 : tie.Need-returns-4
 returns-4 c =
     let tally = c .before .before .before .before .before .before .before in
-    least-found (ready (tally .before .before .before .before)) (tally .tally .ensures .0) (tally .tally .ensures .1) (c .before .find-least .ensures) (omega (arith, c .if4 .taken))
+    least-found (ready (tally .before .before .before .before)) (tally .tally .ensures .0) (tally .tally .ensures .1)
+    (c .before .find-least .ensures) (omega (arith, c .if4 .taken))
 
 returns-5 : tie.Need-returns-5
 returns-5 c =
     let tally = c .before .before .before .before .before .before .before in
-    none-found (ready (tally .before .before .before .before)) (tally .tally .ensures .0) (tally .tally .ensures .1) (c .before .find-least .ensures) (omega (arith, c .if4 .left))
+    none-found (ready (tally .before .before .before .before)) (tally .tally .ensures .0) (tally .tally .ensures .1)
+    (c .before .find-least .ensures) (omega (arith, c .if4 .left))
 
 pub count-weights-parts-spec : {M : Type 1} → statement M
 count-weights-parts-spec =

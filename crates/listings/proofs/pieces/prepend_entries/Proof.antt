@@ -15,7 +15,8 @@ use Rattle.listings.proofs.pieces.prepend_entries.Tie as tie
 
 abbrev Inv-loop : tie.InvT-loop
 Inv-loop line₀ entries at₀ i₀ line at i =
-    (i ≤ length entries) × ((d : List ℕ) (end : ℕ) → Prepends d end (10 ∷ []) line₀ at₀ → Prepends d end (following (map decimal (drop i entries))) line at)
+    (i ≤ length entries)
+    × ((d : List ℕ) (end : ℕ) → Prepends d end (10 ∷ []) line₀ at₀ → Prepends d end (following (map decimal (drop i entries))) line at)
 
 abbrev μ-loop : tie.MeasureT-loop
 μ-loop line₀ entries at₀ i₀ line at i = i

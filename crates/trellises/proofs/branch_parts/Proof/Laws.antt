@@ -60,8 +60,8 @@ module _ {plate : Plate} {p : Bool} (t : Tests plate p) where
         state-there l = omega (arith, w, l)
 
         -- the branch of the section with the code's bit is the plate's with the bit that was asked for
-        pub answered : {asked digit : ℕ} {r : Next} → state < weight → asked ≤ 1 → digit ≡ bit (plate .mask) depth → r ≡ nextOf c state (bitXor asked digit)
-            → Branches plate depth state asked r
+        pub answered : {asked digit : ℕ} {r : Next} → state < weight → asked ≤ 1 → digit ≡ bit (plate .mask) depth
+            → r ≡ nextOf c state (bitXor asked digit) → Branches plate depth state asked r
         answered {asked} l small d e =
             subst (Branches plate depth state asked)
             (sym (e ∙ ap₂ (λ (z : Section) (b : ℕ). nextOf z state (bitXor asked b)) (found s depth h c is) d))
