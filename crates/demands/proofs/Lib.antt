@@ -16,4 +16,5 @@ pub mod WordsChecked
 pub mod BlocksChecked
 pub mod QuestionsChecked
 pub mod LinesChecked
+pub mod SheetsChecked
 pub mod ExamplesRight
