@@ -8,6 +8,8 @@ pub mod Apart
 pub mod WhyNot
 pub mod Masks
 pub mod ZeroMasks
+pub mod ParityChecks
+pub mod AcceptedPlates
 pub mod Checking
 pub mod CodeWords
 pub mod PlatesChecked

@@ -2,4 +2,5 @@ pub mod Refusing
 pub mod Greatest
 pub mod Masks
 pub mod Unmasked
+pub mod Accepted
 pub mod Examples
