@@ -8,13 +8,13 @@ use mathlib.Core.Path.{ap, refl, subst, _≡_}
 use native.Mathlib.Omega.{arith}
 use Prim.Native.Nat.{_<_, ℕ, _≤_}
 use Rattle.decoding.proofs.FirmnessDetermined.{firmness-determined, not-both-readings}
-use Rattle.decoding.proofs.FirmnessMargin.{Agrees, margin-bounds, margin-sign}
+use Rattle.decoding.proofs.FirmnessMargin.{margin-bounds, margin-sign}
 use Rattle.decoding.specs.declared.Answer.{Answer}
 use Rattle.decoding.specs.declared.firmness.Flag.{Flag}
 use Rattle.decoding.specs.declared.firmness.Judged.{Judged}
 use Rattle.decoding.specs.declared.firmness.Judged.the-variants.{Found, Refused}
 use Rattle.decoding.specs.Decode.{Decodes, decisionNeed, metricNeed}
-use Rattle.decoding.specs.Firmness.{Always, Judges, Margin, firmnessConditions, isFixed, value}
+use Rattle.decoding.specs.Firmness.{Agrees, Always, Judges, Margin, firmnessConditions, isFixed, value}
 use Rattle.decoding.specs.Metric.{limit}
 use Rattle.demands.proofs.Demand1.{its-number}
 use Rattle.demands.specs.Refusing.{Numbered, RefusesExactly}
