@@ -20,7 +20,7 @@ use Rattle.decoding.specs.declared.firmness.Judged.the-variants.{Found}
 use Rattle.decoding.specs.declared.firmness.Reading.{Reading}
 use Rattle.decoding.specs.declared.firmness.Reading.the-variants.{Fixed, Open}
 use Rattle.decoding.specs.Decode.{Best}
-use Rattle.decoding.specs.Firmness.{Always, BestAmong, FlagOf, Judges, Margin, Means, isFixed, value}
+use Rattle.decoding.specs.Firmness.{Agrees, Always, BestAmong, FlagOf, Judges, Margin, Means, isFixed, value}
 use Rattle.decoding.specs.Metric.{limit}
 use Rattle.plates.proofs.SoundIsPrepared.{sound}
 use Rattle.plates.specs.declared.Plate.{Plate}
@@ -31,11 +31,6 @@ use Rattle.words.proofs.Word.{bit-cases}
 use Rattle.words.specs.Word.{bit}
 
 -- ---- the sign
-
--- what a reading says of the bit that decoding gives: the fixed one, 0 for a positive margin, 1 for a negative one, and nothing for zero
-abbrev pub Agrees : Reading → ℕ → Type 0
-Agrees (Fixed b) d = d ≡ b
-Agrees (Open margin) d = (pos 0 <ℤ margin → d ≡ 0) × (margin <ℤ pos 0 → d ≡ 1)
 
 -- a difference of what is not less, and of what is not greater
 difference-below : (a b : ℤ) → a ≤ℤ b → (a -ℤ b) ≤ℤ pos 0

@@ -1,7 +1,7 @@
 -- How firmly one position was received: the values of a reading, what each of them means, and what judging a position replies.
 use Prim.Native.Nat.{ℕ, _≤_}
 use lib.IntN.{ℤ, pos, _-ℤ_}
-use lib.Signed.{_≤ℤ_}
+use lib.Signed.{_<ℤ_, _≤ℤ_}
 use mathlib.Core.Bool.{Bool, true, false}
 use mathlib.Core.List.{List, [], _∷_}
 use mathlib.Core.Path.{_≡_}
@@ -30,6 +30,11 @@ isFixed (Open margin) = false
 abbrev pub value : Reading → ℤ
 value (Fixed b) = pos b
 value (Open margin) = margin
+
+-- what a reading says of the bit that decoding gives: the fixed one, 0 for a positive margin, 1 for a negative one, and nothing for zero
+abbrev pub Agrees : Reading → ℕ → Type 0
+Agrees (Fixed b) d = d ≡ b
+Agrees (Open margin) d = (pos 0 <ℤ margin → d ≡ 0) × (margin <ℤ pos 0 → d ≡ 1)
 
 -- ---- what they mean among the words C
 

@@ -10,14 +10,14 @@ use mathlib.Core.Path.{ap, refl, subst, sym, _∙_, _≡_}
 use native.Mathlib.Omega.{arith}
 use Prim.Native.Nat.{_<_, ℕ, _≤_}
 use Rattle.decoding.proofs.FirmnessDetermined.{firmness-determined, not-both-readings}
-use Rattle.decoding.proofs.FirmnessMargin.{Agrees, margin-bounds, margin-sign}
+use Rattle.decoding.proofs.FirmnessMargin.{margin-bounds, margin-sign}
 use Rattle.decoding.proofs.IntegerOrder.{≤ℤ-antisym}
 use Rattle.decoding.specs.declared.Answer.{Answer}
 use Rattle.decoding.specs.declared.firmness.Flag.{Flag}
 use Rattle.decoding.specs.declared.firmness.Judged.{Judged}
 use Rattle.decoding.specs.declared.firmness.Judged.the-variants.{Found, Refused}
 use Rattle.decoding.specs.Decode.{Best, Decodes, decisionNeed, metricNeed}
-use Rattle.decoding.specs.Firmness.{Always, BestAmong, FlagOf, Judges, Margin, Means, firmnessConditions, isFixed, value}
+use Rattle.decoding.specs.Firmness.{Agrees, Always, BestAmong, FlagOf, Judges, Margin, Means, firmnessConditions, isFixed, value}
 use Rattle.decoding.specs.Metric.{limit, metricOf}
 use Rattle.demands.proofs.Demand1.{its-number}
 use Rattle.demands.specs.Refusing.{Numbered, RefusesExactly}

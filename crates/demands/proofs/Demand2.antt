@@ -26,9 +26,9 @@ use Rattle.plates.specs.declared.Refusal.the-variants.{NoCodeword}
 use Rattle.plates.specs.declared.Verdict.the-variants.{Accepted}
 use Rattle.plates.specs.Prepare.{Prepares}
 use Rattle.trellises.proofs.AcceptedIsPrepared.{accepted-length, accepted-prepared}
-use Rattle.trellises.proofs.WolfMassey.{SameContinuations, matrix-massey, matrix-wolf}
+use Rattle.trellises.proofs.WolfMassey.{matrix-massey, matrix-wolf}
 use Rattle.trellises.proofs.WordsTrellis.{accepted-words, matrix-smallest, matrix-spells, words-proper}
-use Rattle.trellises.specs.Beginnings.{SameSyndrome}
+use Rattle.trellises.specs.Beginnings.{SameContinuations, SameSyndrome}
 use Rattle.trellises.specs.Branching.{trellisOf}
 use Rattle.trellises.specs.Graph.{Path}
 use Rattle.trellises.specs.Smallest.{Proper, SamePath}

@@ -11,14 +11,18 @@ use Rattle.demands.proofs.LinesChecked.{lineIs, plateLineIs}
 use Rattle.demands.proofs.PlatesChecked.{accepted}
 use Rattle.demands.proofs.QuestionsChecked.{explained, judged}
 use Rattle.demands.proofs.RefusalsChecked.{refused}
+use Rattle.demands.proofs.SheetsChecked.{sheetListed, sheetRead}
 use Rattle.demands.proofs.WordsChecked.{answered, encoded, readBack}
 use Rattle.demands.specs.Examples.{AllRight, Exactly, Example, Right, examples}
-use Rattle.demands.specs.Examples.{accepts, asks, decodes, encodes, end-line, explains, judges, plate-line, profile-line, reads, refuses, word-line}
+use Rattle.demands.specs.Examples.{accepts, asks, decodes, encodes, end-line, explains, judges, lists, plate-line}
+use Rattle.demands.specs.Examples.{profile-line, reads, reads-sheet, refuses, word-line}
 use Rattle.listings.specs.Decimal.{decimal, signed}
 use Rattle.listings.specs.Lines.{endLine, plateLine, profileLine, wordLine}
 use Rattle.listings.specs.Writing.{entriesOf}
 use Rattle.plates.proofs.PrepareDetermined.{prepare-determined}
 use Rattle.plates.specs.Prepare.{Prepares}
+use Rattle.sheets.specs.Covers.{coverFields as covers}
+use Rattle.sheets.specs.Sheet.{contents, verdict}
 use Rattle.trellises.proofs.BranchDetermined.{branch-determined}
 use Rattle.trellises.specs.Branching.{Branches}
 use Rattle.trellises.specs.SectionOf.{withActive, withRow}
@@ -44,6 +48,8 @@ entry (profile-line plate line) = plateLineIs plate (profileLine (entriesOf plat
 entry (word-line plate a line) =
     plateLineIs plate (wordLine (plate .n) (a .word) (a .metric) (a .counts .additions) (a .counts .comparisons)) line
 entry (end-line blocks line) = lineIs (endLine blocks) line
+entry (reads-sheet input s rows) = sheetRead input s rows
+entry (lists input plate answers listing) = sheetListed input plate answers listing
 
 -- the tests of all
 abbrev pub entries : (es : List Example) → Check (AllRight es)
@@ -52,5 +58,5 @@ entries (e ∷ es) = both (entry e) (entries es)
 
 -- every example that the paper marks P, and those of the masked sheet
 pub examples-right : AllRight examples
-unfolding first last trailingZeros leadingZeros withRow withActive plateLine profileLine wordLine endLine decimal signed ones onesIn
+unfolding first last trailingZeros leadingZeros withRow withActive plateLine profileLine wordLine endLine decimal signed ones onesIn verdict contents covers
 examples-right = entries examples .law tt

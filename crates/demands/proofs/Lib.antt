@@ -25,6 +25,8 @@ pub mod ZeroMasks
 pub mod A12
 pub mod A13
 pub mod A14
+pub mod ParityChecks
+pub mod AcceptedPlates
 pub mod Checking
 pub mod CodeWords
 pub mod PlatesChecked
@@ -33,5 +35,6 @@ pub mod WordsChecked
 pub mod BlocksChecked
 pub mod QuestionsChecked
 pub mod LinesChecked
+pub mod SheetsChecked
 pub mod ExamplesRight
 pub mod HeardSheet

@@ -1,8 +1,10 @@
 -- The examples that the paper marks P, and those of its sheet with a mask (document 02, A11), as one table: each entry names a call, its
 -- inputs and the reply. One statement says of every entry that a reply meets the promise of its call exactly if it is the one in the table.
+-- Words stand as their characters, position 0 at the left, and lines as their text.
 use lib.IntN.{negℤ, pos, ℤ}
 use lib.ListN.{drop, length, replicate}
-use mathlib.Core.List.{_++_, List, [], _∷_}
+use mathlib.Core.Bool.{false}
+use mathlib.Core.List.{_++_, List, [], map, _∷_}
 use mathlib.Core.Logic.{_↔_}
 use mathlib.Core.Path.{_≡_}
 use Prim.Native.Nat.{_-_, ℕ, _≤_}
@@ -19,17 +21,27 @@ use Rattle.decoding.specs.declared.firmness.Flag.{Flag}
 use Rattle.decoding.specs.declared.firmness.Reading.the-variants.{Open}
 use Rattle.decoding.specs.Decode.{Decodes, decisionNeed, metricNeed}
 use Rattle.decoding.specs.Firmness.{Judges}
+use Rattle.words.specs.Letters.{bytes, word}
 use Rattle.demands.specs.Masks.{withMask}
 use Rattle.listings.specs.declared.Written.{Written}
 use Rattle.listings.specs.Writing.{WritesEnd, WritesPlate, WritesProfile, WritesWord}
 use Rattle.plates.specs.declared.Kind.{Kind}
 use Rattle.plates.specs.declared.Kind.the-variants.{G, H}
 use Rattle.plates.specs.declared.Plate.{Plate}
+use Rattle.plates.specs.declared.Prepared.{Prepared}
 use Rattle.plates.specs.declared.Refusal.{Refusal}
 use Rattle.plates.specs.declared.Refusal.the-variants.{Information, Length, MaskBeyond, NoCodeword, NoSuchBranch, RowBeyond}
 use Rattle.plates.specs.declared.Verdict.the-variants.{Accepted}
 use Rattle.plates.specs.Prepare.{Prepares}
 use Rattle.plates.specs.Replying.{refusedWith}
+use Rattle.reports.specs.Answers.{Answers}
+use Rattle.reports.specs.Report.{Lists}
+use Rattle.sheets.specs.declared.Order.the-variants.{First}
+use Rattle.sheets.specs.declared.Sheet.{Sheet}
+use Rattle.sheets.specs.declared.SheetReply.{SheetReply}
+use Rattle.sheets.specs.declared.SheetReply.the-variants.{Read}
+use Rattle.sheets.specs.Room.{laid}
+use Rattle.sheets.specs.Sheet.{ReadsSheet}
 use Rattle.trellises.specs.Branching.{Branches}
 use Rattle.trellises.specs.declared.Next.{Next}
 use Rattle.asking.specs.declared.Reason.the-variants as Y
@@ -64,6 +76,10 @@ pub data Example : Type 0 where
   profile-line : Plate → List ℕ → Example
   word-line : Plate → Answer → List ℕ → Example
   end-line : ℕ → List ℕ → Example
+  -- read a sheet, into any table: the input; what it says, and the words of its rows
+  reads-sheet : List ℕ → Sheet → List ℕ → Example
+  -- the listing of an input that is accepted: the input, its plate and the answers for its blocks; the bytes
+  lists : List ℕ → Plate → List Answer → List ℕ → Example
 
 -- ---- the statement
 
@@ -82,9 +98,13 @@ InRooms {R} plate Promise reply = (metrics : List ℤ) (decisions : List ℕ) �
     → Exactly (λ (x : R × List ℤ × List ℕ). Promise metrics decisions (x .1) (x .2) (x .0))
     (reply, replicate (metricNeed plate) (pos 0) ++ drop (metricNeed plate) metrics, replicate (decisionNeed plate) 0 ++ drop (decisionNeed plate) decisions)
 
+-- preparing accepts, with this plate
+abbrev pub acceptedWith : Plate → Prepared
+acceptedWith plate = record { verdict = Accepted; plate = plate }
+
 -- what an entry says
 abbrev pub Right : Example → Type 0
-Right (accepts n kind rows mask plate) = Exactly (Prepares n kind rows mask) (record { verdict = Accepted; plate = plate })
+Right (accepts n kind rows mask plate) = Exactly (Prepares n kind rows mask) (acceptedWith plate)
 Right (refuses n kind rows mask q) = Exactly (Prepares n kind rows mask) (refusedWith q)
 Right (asks plate depth state bit reply) = Exactly (Branches plate depth state bit) reply
 Right (encodes plate information reply) = Exactly (Encodes plate information) reply
@@ -96,6 +116,9 @@ Right (plate-line plate line) = Writing (WritesPlate plate) line
 Right (profile-line plate line) = Writing (WritesProfile plate) line
 Right (word-line plate a line) = Writing (WritesWord plate (a .word) (a .metric) (a .counts .additions) (a .counts .comparisons)) line
 Right (end-line blocks line) = Writing (WritesEnd blocks) line
+Right (reads-sheet input s rows) =
+    (table : List ℕ) → Exactly (λ (x : SheetReply × List ℕ). ReadsSheet input table (x .0) (x .1)) (Read s, laid rows table)
+Right (lists input plate answers listing) = Answers input (acceptedWith plate) (map Found answers) × Exactly (Lists input) listing
 
 -- every entry is right
 abbrev pub AllRight : List Example → Type 0
@@ -116,7 +139,7 @@ plateWith n rows profile = record {
 
 -- a word, its metric, additions and comparisons
 abbrev pub answer : ℕ → ℤ → ℕ → ℕ → Answer
-answer word metric additions comparisons = record { word = word; metric = metric; counts = record { additions = additions; comparisons = comparisons } }
+answer w metric additions comparisons = record { word = w; metric = metric; counts = record { additions = additions; comparisons = comparisons } }
 
 -- a number below zero
 abbrev pub minus : ℕ → ℤ
@@ -128,19 +151,19 @@ zeroPlate1 = plateWith 1 [] (0 ∷ 0 ∷ [])
 
 -- n=1, H, no rows: every word
 abbrev pub fullPlate1 : Plate
-fullPlate1 = plateWith 1 (1 ∷ []) (0 ∷ 0 ∷ [])
+fullPlate1 = plateWith 1 (word "1" ∷ []) (0 ∷ 0 ∷ [])
 
--- n=3, H 111: rows 110 and 011
+-- n=3, H 111
 abbrev pub evenPlate3 : Plate
-evenPlate3 = plateWith 3 (3 ∷ 6 ∷ []) (0 ∷ 1 ∷ 1 ∷ 0 ∷ [])
+evenPlate3 = plateWith 3 (word "110" ∷ word "011" ∷ []) (0 ∷ 1 ∷ 1 ∷ 0 ∷ [])
 
 -- n=3, G 111
 abbrev pub repeatPlate3 : Plate
-repeatPlate3 = plateWith 3 (7 ∷ []) (0 ∷ 1 ∷ 1 ∷ 0 ∷ [])
+repeatPlate3 = plateWith 3 (word "111" ∷ []) (0 ∷ 1 ∷ 1 ∷ 0 ∷ [])
 
--- the sheet's rows 11110000, 01011010, 00111100, 00001111
+-- the sheet's rows
 abbrev pub sheetRows : List ℕ
-sheetRows = 15 ∷ 90 ∷ 60 ∷ 240 ∷ []
+sheetRows = word "11110000" ∷ word "01011010" ∷ word "00111100" ∷ word "00001111" ∷ []
 
 -- its plate
 abbrev pub sheetPlate : Plate
@@ -150,35 +173,58 @@ sheetPlate = plateWith 8 sheetRows (0 ∷ 1 ∷ 2 ∷ 3 ∷ 2 ∷ 3 ∷ 2 ∷ 1 
 abbrev pub sheetBlock : List ℤ
 sheetBlock = minus 3 ∷ minus 2 ∷ pos 4 ∷ minus 1 ∷ pos 5 ∷ pos 6 ∷ minus 1 ∷ pos 7 ∷ []
 
--- word 11110000, 19, 44, 11
+-- its word, metric, additions and comparisons
 abbrev pub sheetAnswer : Answer
-sheetAnswer = answer 15 (pos 19) 44 11
+sheetAnswer = answer (word "11110000") (pos 19) 44 11
+
+-- its text
+abbrev pub sheetText : List ℕ
+sheetText =
+    bytes "cover\t8\tG\tfirst\n"
+    ++ bytes "row\t11110000\n"
+    ++ bytes "row\t01011010\n"
+    ++ bytes "row\t00111100\n"
+    ++ bytes "row\t00001111\n"
+    ++ bytes "block\t-3\t-2\t4\t-1\t5\t6\t-1\t7\n"
+    ++ bytes "end\n"
+
+-- what it says: its block begins at byte 68
+abbrev pub sheetRead : Sheet
+sheetRead = record { n = 8; kind = G; order = First; mask = 0; rows = 4; start = 68; heard = false; blocks = 1 }
+
+-- its listing
+abbrev pub sheetListing : List ℕ
+sheetListing =
+    bytes "plate\t8\t4\t3\n"
+    ++ bytes "profile\t0\t1\t2\t3\t2\t3\t2\t1\t0\n"
+    ++ bytes "word\t11110000\t19\t44\t11\n"
+    ++ bytes "end\t1\n"
 
 -- the codes and their decoded blocks
 abbrev pub codes : List Example
 codes =
     accepts 1 G [] 0 zeroPlate1
-    ∷ decodes zeroPlate1 (minus 5 ∷ []) (answer 0 (minus 5) 1 0)
+    ∷ decodes zeroPlate1 (minus 5 ∷ []) (answer (word "0") (minus 5) 1 0)
     ∷ accepts 1 H [] 0 fullPlate1
-    ∷ decodes fullPlate1 (minus 5 ∷ []) (answer 1 (pos 5) 2 1)
-    ∷ accepts 3 H (7 ∷ []) 0 evenPlate3
-    ∷ decodes evenPlate3 (minus 1 ∷ minus 1 ∷ minus 1 ∷ []) (answer 6 (pos 1) 8 3)
-    ∷ accepts 3 G (7 ∷ []) 0 repeatPlate3
-    ∷ decodes repeatPlate3 (pos 2 ∷ minus 1 ∷ minus 1 ∷ []) (answer 0 (pos 0) 6 1)
+    ∷ decodes fullPlate1 (minus 5 ∷ []) (answer (word "1") (pos 5) 2 1)
+    ∷ accepts 3 H (word "111" ∷ []) 0 evenPlate3
+    ∷ decodes evenPlate3 (minus 1 ∷ minus 1 ∷ minus 1 ∷ []) (answer (word "011") (pos 1) 8 3)
+    ∷ accepts 3 G (word "111" ∷ []) 0 repeatPlate3
+    ∷ decodes repeatPlate3 (pos 2 ∷ minus 1 ∷ minus 1 ∷ []) (answer (word "000") (pos 0) 6 1)
     ∷ []
 
--- the sheet, its plate as G and as H, and its listing: plate 8 4 3, profile 0 1 2 3 2 3 2 1 0, word 11110000 19 44 11, end 1
+-- the sheet, read and listed; its plate as G and as H; its block; and each line of its listing as its own call writes it
 abbrev pub sheet : List Example
 sheet =
-    accepts 8 G sheetRows 0 sheetPlate
+    reads-sheet sheetText sheetRead sheetRows
+    ∷ lists sheetText sheetPlate (sheetAnswer ∷ []) sheetListing
+    ∷ accepts 8 G sheetRows 0 sheetPlate
     ∷ accepts 8 H sheetRows 0 sheetPlate
     ∷ decodes sheetPlate sheetBlock sheetAnswer
-    ∷ plate-line sheetPlate (112 ∷ 108 ∷ 97 ∷ 116 ∷ 101 ∷ 9 ∷ 56 ∷ 9 ∷ 52 ∷ 9 ∷ 51 ∷ 10 ∷ [])
-    ∷ profile-line sheetPlate
-    (112 ∷ 114 ∷ 111 ∷ 102 ∷ 105 ∷ 108 ∷ 101 ∷ 9 ∷ 48 ∷ 9 ∷ 49 ∷ 9 ∷ 50 ∷ 9 ∷ 51 ∷ 9 ∷ 50 ∷ 9 ∷ 51 ∷ 9 ∷ 50 ∷ 9 ∷ 49 ∷ 9 ∷ 48 ∷ 10 ∷ [])
-    ∷ word-line sheetPlate sheetAnswer
-    (119 ∷ 111 ∷ 114 ∷ 100 ∷ 9 ∷ 49 ∷ 49 ∷ 49 ∷ 49 ∷ 48 ∷ 48 ∷ 48 ∷ 48 ∷ 9 ∷ 49 ∷ 57 ∷ 9 ∷ 52 ∷ 52 ∷ 9 ∷ 49 ∷ 49 ∷ 10 ∷ [])
-    ∷ end-line 1 (101 ∷ 110 ∷ 100 ∷ 9 ∷ 49 ∷ 10 ∷ [])
+    ∷ plate-line sheetPlate (bytes "plate\t8\t4\t3\n")
+    ∷ profile-line sheetPlate (bytes "profile\t0\t1\t2\t3\t2\t3\t2\t1\t0\n")
+    ∷ word-line sheetPlate sheetAnswer (bytes "word\t11110000\t19\t44\t11\n")
+    ∷ end-line 1 (bytes "end\t1\n")
     ∷ []
 
 -- its branches
@@ -190,29 +236,41 @@ branches =
     ∷ asks sheetPlate 3 1 0 N.NoBranch
     ∷ asks sheetPlate 3 6 0 (N.State 3)
     ∷ asks sheetPlate 4 4 0 (N.Refused NoSuchBranch)
+    ∷ asks sheetPlate 4 4 1 (N.Refused NoSuchBranch)
     ∷ []
 
 -- information 9 encodes to 11111111, 16 is refusal 13, and 11010010 read back is 14
 abbrev pub words : List Example
 words =
-    encodes sheetPlate 9 (E.Word 255)
+    encodes sheetPlate 9 (E.Word (word "11111111"))
     ∷ encodes sheetPlate 16 (E.Refused Information)
-    ∷ reads sheetPlate 75 (R.Refused NoCodeword)
+    ∷ reads sheetPlate (word "11010010") (R.Refused NoCodeword)
     ∷ []
 
 -- n=8, a row of 256: refusal 3, place 0; n=0 and n=65: 1
 abbrev pub refusals : List Example
-refusals = refuses 8 G (256 ∷ []) 0 (RowBeyond 0) ∷ refuses 0 G [] 0 Length ∷ refuses 65 G [] 0 Length ∷ []
+refusals =
+    refuses 8 G (256 ∷ []) 0 (RowBeyond 0)
+    ∷ refuses 8 H (256 ∷ []) 0 (RowBeyond 0)
+    ∷ refuses 0 G [] 0 Length
+    ∷ refuses 0 H [] 0 Length
+    ∷ refuses 65 G [] 0 Length
+    ∷ refuses 65 H [] 0 Length
+    ∷ []
 
 -- ---- the sheet with the mask 10000001 (document 02, A11)
 
+-- the mask
+abbrev pub sheetMask : ℕ
+sheetMask = word "10000001"
+
 -- its plate: that of the sheet but for the mask
 abbrev pub maskedPlate : Plate
-maskedPlate = withMask 129 sheetPlate
+maskedPlate = withMask sheetMask sheetPlate
 
--- word 01000010, 21, 44, 11
+-- its word, metric, additions and comparisons
 abbrev pub maskedAnswer : Answer
-maskedAnswer = answer 66 (pos 21) 44 11
+maskedAnswer = answer (word "01000010") (pos 21) 44 11
 
 -- eight samples of zero: every word has the metric 0
 abbrev pub zeroBlock : List ℤ
@@ -222,16 +280,14 @@ zeroBlock = replicate 8 (pos 0)
 abbrev pub openFlag : ℕ → ℤ → Flag
 openFlag position margin = record { position = position; reading = Open margin }
 
--- the plate, as G and as H; the block; of the zero samples the earliest word, 00010111, which is not the earliest codeword plus mask; the listing's
--- line word 01000010 21 44 11
+-- the plate, as G and as H; the block; of the zero samples the earliest word, which is not the earliest codeword plus mask; the listing's line
 abbrev pub maskedSheet : List Example
 maskedSheet =
-    accepts 8 G sheetRows 129 maskedPlate
-    ∷ accepts 8 H sheetRows 129 maskedPlate
+    accepts 8 G sheetRows sheetMask maskedPlate
+    ∷ accepts 8 H sheetRows sheetMask maskedPlate
     ∷ decodes maskedPlate sheetBlock maskedAnswer
-    ∷ decodes maskedPlate zeroBlock (answer 232 (pos 0) 44 11)
-    ∷ word-line maskedPlate maskedAnswer
-    (119 ∷ 111 ∷ 114 ∷ 100 ∷ 9 ∷ 48 ∷ 49 ∷ 48 ∷ 48 ∷ 48 ∷ 48 ∷ 49 ∷ 48 ∷ 9 ∷ 50 ∷ 49 ∷ 9 ∷ 52 ∷ 52 ∷ 9 ∷ 49 ∷ 49 ∷ 10 ∷ [])
+    ∷ decodes maskedPlate zeroBlock (answer (word "00010111") (pos 0) 44 11)
+    ∷ word-line maskedPlate maskedAnswer (bytes "word\t01000010\t21\t44\t11\n")
     ∷ []
 
 -- its branches at depths 0 and 7, where the mask has ones, have the other bit than without it; one at depth 4 has the same
@@ -246,19 +302,23 @@ maskedBranches =
     ∷ asks maskedPlate 4 1 0 (N.State 5)
     ∷ []
 
--- information 9 encodes to 01111110, which is read back as 9; 11111111 read back is 14
+-- information 9 encodes to a word that is read back as 9; the word of the plate without the mask read back is 14
 abbrev pub maskedWords : List Example
-maskedWords = encodes maskedPlate 9 (E.Word 126) ∷ reads maskedPlate 126 (R.Information 9) ∷ reads maskedPlate 255 (R.Refused NoCodeword) ∷ []
+maskedWords =
+    encodes maskedPlate 9 (E.Word (word "01111110"))
+    ∷ reads maskedPlate (word "01111110") (R.Information 9)
+    ∷ reads maskedPlate (word "11111111") (R.Refused NoCodeword)
+    ∷ []
 
--- 11110000: no word of the plate begins so at position 3; 01000010 was chosen, and with a one at position 8 besides is no word at 8; 10110010
--- scores less by 4; of the zero samples 10000001 ties and loses at position 0. Positions 0 and 1 are open, with the margins 4 and -4
+-- no word of the plate begins so at position 3; the word chosen, and the same with a one at position 8 besides; one that scores less by 4; of the
+-- zero samples one that ties and loses at position 0. Positions 0 and 1 are open, with the margins 4 and -4
 abbrev pub maskedQuestions : List Example
 maskedQuestions =
-    explains maskedPlate sheetBlock 15 (Y.NoCodeword 3)
-    ∷ explains maskedPlate sheetBlock 66 Chosen
-    ∷ explains maskedPlate sheetBlock 322 (Y.NoCodeword 8)
-    ∷ explains maskedPlate sheetBlock 77 (ScoresLess (pos 4))
-    ∷ explains maskedPlate zeroBlock 129 (TiesAndLoses 0)
+    explains maskedPlate sheetBlock (word "11110000") (Y.NoCodeword 3)
+    ∷ explains maskedPlate sheetBlock (word "01000010") Chosen
+    ∷ explains maskedPlate sheetBlock (word "010000101") (Y.NoCodeword 8)
+    ∷ explains maskedPlate sheetBlock (word "10110010") (ScoresLess (pos 4))
+    ∷ explains maskedPlate zeroBlock (word "10000001") (TiesAndLoses 0)
     ∷ judges maskedPlate sheetBlock 0 (openFlag 0 (pos 4))
     ∷ judges maskedPlate sheetBlock 1 (openFlag 1 (minus 4))
     ∷ []

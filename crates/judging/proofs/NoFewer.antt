@@ -10,8 +10,9 @@ use Rattle.plates.proofs.Live.{live-is}
 use Rattle.plates.specs.Code.{Masked}
 use Rattle.plates.specs.Profile.{live}
 use Rattle.trellises.proofs.Active.{active-is}
-use Rattle.trellises.proofs.Gluing.{splice, splice-below, splice-high, splice-low, spliced}
+use Rattle.trellises.proofs.Gluing.{splice-below, splice-high, splice-low, spliced}
 use Rattle.trellises.proofs.MaskedGraph.{xor-twice}
+use Rattle.trellises.specs.Beginnings.{splice}
 use Rattle.trellises.specs.Graph.{Graph, Path, Spells}
 use Rattle.trellises.specs.States.{active}
 use Rattle.words.proofs.Choice.{spread-injective}

@@ -75,9 +75,6 @@ suffix-way g n w p e (suc d) t q =
 
 module _ (rows : List ℕ) (mask n : ℕ) (room : List ℕ) (lines : ℕ) (o : OfPlate rows mask n) (holds : Holds n lines room)
     (told : ToldFrom (theirs n lines room) rows mask n lines room 0) (right : Same (theirs n lines room) (ours rows mask) n 0 1 1) where
-  abbrev A : Graph
-  A = theirs n lines room
-
   -- a state that is reached has the ways of a number of ours
   abbrev Known : ℕ → ℕ → Type 0
   Known t v = (y : ℕ) × (y ≤ ours rows mask .states t) × Same (theirs n lines room) (ours rows mask) (n - t) t (suc v) y

@@ -6,6 +6,7 @@ use mathlib.Core.List.{_++_, List, [], map, _∷_}
 use Prim.Native.Nat.{_+_, _-_, max, suc, zero, ℕ}
 use Rattle.listings.specs.Decimal.{decimal, signed}
 use Rattle.listings.specs.declared.Tally.{Tally}
+use Rattle.words.specs.Letters.{bytes}
 use Rattle.words.specs.Word.{bit}
 
 -- ---- fields
@@ -31,25 +32,20 @@ largest (entry ∷ entries) = max entry (largest entries)
 
 -- ---- lines: the first field of each kind is its name
 
--- the letters plate
 abbrev pub plateName : List ℕ
-plateName = 112 ∷ 108 ∷ 97 ∷ 116 ∷ 101 ∷ []
+plateName = bytes "plate"
 
--- the letters profile
 abbrev pub profileName : List ℕ
-profileName = 112 ∷ 114 ∷ 111 ∷ 102 ∷ 105 ∷ 108 ∷ 101 ∷ []
+profileName = bytes "profile"
 
--- the letters word
 abbrev pub wordName : List ℕ
-wordName = 119 ∷ 111 ∷ 114 ∷ 100 ∷ []
+wordName = bytes "word"
 
--- the letters refused
 abbrev pub refusedName : List ℕ
-refusedName = 114 ∷ 101 ∷ 102 ∷ 117 ∷ 115 ∷ 101 ∷ 100 ∷ []
+refusedName = bytes "refused"
 
--- the letters end
 abbrev pub endName : List ℕ
-endName = 101 ∷ 110 ∷ 100 ∷ []
+endName = bytes "end"
 
 -- plate: n, k, m, where m is the largest entry
 unfoldable pub plateLine : ℕ → ℕ → List ℕ → List ℕ
@@ -78,17 +74,14 @@ endLine blocks = line endName (decimal blocks ∷ [])
 
 -- ---- the lines of a plate's weights
 
--- the letters weight
 abbrev pub weightName : List ℕ
-weightName = 119 ∷ 101 ∷ 105 ∷ 103 ∷ 104 ∷ 116 ∷ []
+weightName = bytes "weight"
 
--- the letters least
 abbrev pub leastName : List ℕ
-leastName = 108 ∷ 101 ∷ 97 ∷ 115 ∷ 116 ∷ []
+leastName = bytes "least"
 
--- the letters none
 abbrev pub noneField : List ℕ
-noneField = 110 ∷ 111 ∷ 110 ∷ 101 ∷ []
+noneField = bytes "none"
 
 -- weight: a weight, and how many codewords have it
 unfoldable pub weightLine : ℕ → ℕ → List ℕ
@@ -104,9 +97,8 @@ noLeastLine = line leastName (noneField ∷ [])
 
 -- ---- the line of a shift's tally
 
--- the letters tally
 abbrev pub tallyName : List ℕ
-tallyName = 116 ∷ 97 ∷ 108 ∷ 108 ∷ 121 ∷ []
+tallyName = bytes "tally"
 
 -- one number less another, with a minus exactly when that is below 0
 unfoldable pub less : ℕ → ℕ → List ℕ

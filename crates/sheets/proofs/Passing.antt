@@ -15,10 +15,6 @@ pub at-end : (s : List ℕ) (at : ℕ) → at ≡ length s → linesFrom s at �
 at-end s at e = rw (e, le-leb (length s) (length s) (omega arith), drop-length s)
 
 module _ {s : List ℕ} {at next : ℕ} (e : Ended s at next) where
-  -- the line at a place
-  abbrev line-there : List ℕ
-  line-there = take (next - 1 - at) (drop at s)
-
   inside : at ≤ length s
   inside = omega arith
 

@@ -32,11 +32,6 @@ module _ (f g : List ℕ) (i : ℕ) (h : i < length f) (k : i < length g) where
   same-not e = rw (here f i h, here g i k, ne-eqb (getD f i 0) (getD g i 0) e)
 
 -- a text by its letters
-pub listed1 : (f : List ℕ) → length f ≡ 1 → f ≡ getD f 0 0 ∷ []
-listed1 [] h = absurd (omega arith)
-listed1 (a ∷ []) h = refl
-listed1 (a ∷ b ∷ f) h = absurd (omega arith)
-
 pub listed3 : (f : List ℕ) → length f ≡ 3 → f ≡ getD f 0 0 ∷ getD f 1 0 ∷ getD f 2 0 ∷ []
 listed3 [] h = absurd (omega arith)
 listed3 (a ∷ []) h = absurd (omega arith)

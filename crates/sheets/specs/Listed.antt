@@ -3,6 +3,7 @@ use Prim.Native.Nat.{ℕ}
 use lib.Dec.{ltb}
 use mathlib.Core.Bool.{cond}
 use mathlib.Core.List.{List, [], _∷_}
+use Rattle.words.specs.Letters.{bytes}
 use Rattle.sheets.specs.Blocks.{nextLine}
 use Rattle.sheets.specs.Numbers.{numberOf}
 use Rattle.sheets.specs.Text.{fields, lines, linesFrom}
@@ -14,9 +15,9 @@ use Rattle.sheets.specs.declared.listed.Entry.{Entry}
 use Rattle.sheets.specs.declared.listed.BranchLine.{BranchLine}
 use Rattle.sheets.specs.declared.listed.BranchLine.the-variants.{Is, Bad}
 
--- b r a n c h
+-- the first field of such a line
 abbrev pub branch : List ℕ
-branch = 98 ∷ 114 ∷ 97 ∷ 110 ∷ 99 ∷ 104 ∷ []
+branch = bytes "branch"
 
 -- four numbers make a branch where the depth is below n, the states are 0 to 1023 and the bit is 0 or 1
 abbrev pub branchIn : ℕ → Branch → BranchLine

@@ -3,6 +3,7 @@ use mathlib.Core.Path.{ap, refl, sym, _∙_, _≡_}
 use native.Mathlib.Decide.{decLt}
 use native.Mathlib.Omega.{arith}
 use Prim.Native.Nat.{_%_, _*_, _+_, _/_, _<_, _^_, suc, zero, ℕ, _≤_}
+use Rattle.trellises.specs.Beginnings.{splice}
 use Rattle.trellises.specs.Graph.{Graph, Has, Path}
 use Rattle.words.proofs.Word.{below-bits, bits-below, half}
 use Rattle.words.specs.Word.{bit}
@@ -26,11 +27,6 @@ unfolding glue
 glue-high zero f g i h = refl
 glue-high (suc t) f g zero h = absurd (omega arith)
 glue-high (suc t) f g (suc i) h = glue-high t (λ j. f (suc j)) (λ j. g (suc j)) i (omega arith)
-
--- the bits of a below t, and those of b from t on
-unfoldable pub splice : ℕ → ℕ → ℕ → ℕ
-splice zero a b = b
-splice (suc t) a b = splice t (a / 2) (b / 2) * 2 + a % 2
 
 pub splice-low : (t a b i : ℕ) → i < t → bit (splice t a b) i ≡ bit a i
 unfolding splice

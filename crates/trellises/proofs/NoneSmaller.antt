@@ -9,7 +9,8 @@ use Prim.Native.Nat.{_<_, _^_, suc, suc-le-suc, ℕ, _≤_}
 use Rattle.plates.proofs.Live.{live-is}
 use Rattle.plates.specs.Profile.{live}
 use Rattle.trellises.proofs.Active.{active-is}
-use Rattle.trellises.proofs.Gluing.{splice, splice-below, splice-high, splice-low, spliced}
+use Rattle.trellises.proofs.Gluing.{splice-below, splice-high, splice-low, spliced}
+use Rattle.trellises.specs.Beginnings.{splice}
 use Rattle.trellises.specs.Graph.{Branch, Graph, Has, Path, Spells, branchAt, noBranch}
 use Rattle.trellises.specs.States.{active}
 use Rattle.words.proofs.Choice.{spread-injective}

@@ -133,11 +133,6 @@ module _ (rows : List ℕ) (f l : ℕ → ℕ) (s : Kept rows f l) where
     pub paths-once : SamePath (trellis rows f l) n w p q
     paths-once = record { branches = λ t h. same-place t h (same-state t (omega arith)); states = same-state }
 
-  -- each codeword is spelled by exactly one path
-  pub spelled-once : (n : ℕ) → ((j : ℕ) → j < length rows → l j < n) → (w : ℕ) → IsSum rows w
-      → (p : Path (trellis rows f l) n w) × ((q : Path (trellis rows f l) n w) → SamePath (trellis rows f l) n w p q)
-  spelled-once n fit w c = let p = trellis-spells n rows f l s fit .exact w .0 c .1 in (p, paths-once n w p)
-
   -- a branch from the state of the live rows that a codeword takes, with its bit, leads to the next such state
   pub follows : (t u a c : ℕ) → Has (trellis rows f l) t a (bit (sumOf rows u) t) c → a ≡ stateOf rows f l t u → c ≡ stateOf rows f l (suc t) u
   follows t u a c b e = sym (b .leads) ∙ ap (λ (b : Branch). b .to) mine ∙ gather-same (length rows) (live f l (suc t)) x u alike

@@ -13,7 +13,7 @@ use Rattle.plates.specs.Prepare.{IsPrepared, rowsOf}
 use Rattle.plates.specs.Profile.{liveAt}
 use Rattle.trellises.proofs.ActiveNumber.{active-more, active-same}
 use Rattle.trellises.proofs.NoneSmaller.{branches-bound, states-bound}
-use Rattle.trellises.proofs.PathsOnce.{branches-differ, paths-once, spelled-once}
+use Rattle.trellises.proofs.PathsOnce.{branches-differ, paths-once}
 use Rattle.trellises.proofs.TrellisSpells.{Kept, own-branches, trellis-spells}
 use Rattle.trellises.specs.Branching.{codeTrellis, keptTo}
 use Rattle.trellises.specs.Graph.{Branch, Graph, Path, Spells}
@@ -59,11 +59,6 @@ module _ (plate : Plate) (given : IsPrepared plate) where
   -- full paths spell exactly the codewords
   pub plate-spells : Spells (codeTrellis plate) (plate .n) (IsSum (rowsOf plate))
   plate-spells = trellis-spells (plate .n) (rowsOf plate) _ _ plate-kept plate-within
-
-  -- each by exactly one path
-  pub plate-spelled-once : (w : ℕ) → IsSum (rowsOf plate) w
-      → (p : Path (codeTrellis plate) (plate .n) w) × ((q : Path (codeTrellis plate) (plate .n) w) → SamePath (codeTrellis plate) (plate .n) w p q)
-  plate-spelled-once = spelled-once (rowsOf plate) _ _ plate-kept (plate .n) plate-within
 
   -- which begins and ends in state 0
   pub plate-path-ends : (w : ℕ) (p : Path (codeTrellis plate) (plate .n) w) → (p .state 0 ≡ 0) × (p .state (plate .n) ≡ 0)

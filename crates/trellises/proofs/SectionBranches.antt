@@ -61,9 +61,6 @@ module _ (rows : List ℕ) (t : ℕ) (c : Section) (g : Agrees rows t c) where
         leads = ap (λ (x : Branch). x .to) e ∙ sym (g .to-state (m .number) l) ∙ m .leads;
       }
 
-  pub section-branches : (a b to : ℕ) → Has (trellis rows (firsts rows) (lasts rows)) t a b to ↔ Numbered c a b to
-  section-branches a b to = (has-number a b to, number-has a b to)
-
 -- ---- the branches that leave a state: its own number and, where a row begins, the one that takes that row too
 
 module _ (c : Section) (a : ℕ) (h : a < 2 ^ c .live) where

@@ -20,12 +20,12 @@ use Rattle.plates.specs.declared.Verdict.the-variants.{Accepted}
 use Rattle.plates.specs.Prepare.{IsPrepared, IsWord, Prepares, rowsOf}
 use Rattle.plates.specs.Profile.{live}
 use Rattle.trellises.proofs.AcceptedIsPrepared.{accepted-code, accepted-length, accepted-prepared}
-use Rattle.trellises.proofs.Gluing.{splice, splice-below, splice-high, splice-low}
+use Rattle.trellises.proofs.Gluing.{splice-below, splice-high, splice-low}
 use Rattle.trellises.proofs.MaskedGraph.{path-off, xor-twice}
 use Rattle.trellises.proofs.PathsOnce.{kept-state}
 use Rattle.trellises.proofs.PlateTrellis.{plate-kept, plate-spans}
 use Rattle.trellises.proofs.WordsTrellis.{accepted-words}
-use Rattle.trellises.specs.Beginnings.{SameSyndrome, beginning, syndrome}
+use Rattle.trellises.specs.Beginnings.{SameContinuations, SameSyndrome, beginning, splice, syndrome}
 use Rattle.trellises.specs.Branching.{codeTrellis, keptTo, trellisOf}
 use Rattle.trellises.specs.Graph.{Path}
 use Rattle.trellises.specs.States.{stateOf}
@@ -40,10 +40,6 @@ use Rattle.words.specs.Parity.{parity}
 use Rattle.words.specs.Span.{Spans}
 use Rattle.words.specs.Sum.{IsSum, sumOf}
 use Rattle.words.specs.Word.{bit}
-
--- the beginnings of a and b at depth t have the same continuations: what makes the one a codeword makes the other one too
-abbrev pub SameContinuations : (ℕ → Type 0) → ℕ → ℕ → ℕ → Type 0
-SameContinuations C t a b = (c : ℕ) → C (splice t a c) ↔ C (splice t b c)
 
 -- ---- sums of spliced words
 

@@ -39,9 +39,6 @@ one-before n w p h e = go (decLt p n)
     go (yes b) = b
     go (no b) = absurd (zero-one (bits-below n w h p (omega arith)) e)
 
-pub trailing-first : (k w p : ℕ) → w < 2 ^ k → First w p → trailingZeros k w ≡ p
-trailing-first k w p h f = first-unique (first-trailing k w (some-pos w p (f .one)) h) f
-
 pub last-leading : (k w : ℕ) → 0 < w → w < 2 ^ k → Last w (k - suc (leadingZeros k w))
 last-leading k w p h =
     let t = leading-top k w p h in
@@ -55,9 +52,6 @@ last-leading k w p h =
         above i (inl b) m = bits-below (suc j) w l i b
         above i (inr (inl q)) m = subst (λ (x : ℕ). bit w x ≡ 0) q e
         above i (inr (inr b)) m = absurd (omega arith)
-
-pub leading-last : (k w p : ℕ) → w < 2 ^ k → Last w p → k - suc (leadingZeros k w) ≡ p
-leading-last k w p h f = last-unique (last-leading k w (some-pos w p (f .one)) h) f
 
 -- ---- the same of 64-bit words, by the names of specs/Ends
 

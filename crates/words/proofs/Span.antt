@@ -139,9 +139,6 @@ last-unique = lead-unique After (λ a h. omega arith) (λ a b c g h. omega arith
 pub least : (rows : List ℕ) (f : ℕ → ℕ) → Leads Before rows f → Apart (length rows) f → (u : ℕ) → (Nothing (length rows) u × (sumOf rows u ≡ 0)) ⊎ Top Before rows f u
 least = top Before (λ a h. omega arith) (λ a b c g h. omega arith) lt-tri
 
-pub greatest : (rows : List ℕ) (f : ℕ → ℕ) → Leads After rows f → Apart (length rows) f → (u : ℕ) → (Nothing (length rows) u × (sumOf rows u ≡ 0)) ⊎ Top After rows f u
-greatest = top After (λ a h. omega arith) (λ a b c g h. omega arith) gt-tri
-
 pub rising-apart : (k : ℕ) (f : ℕ → ℕ) → ((i j : ℕ) → i < j → j < k → f i < f j) → Apart k f
 rising-apart k f r i j hi hj e = go (lt-tri i j)
   where

@@ -16,15 +16,7 @@ keeps-first = lead-xor Before (λ a h. omega arith) (λ a b c g h. omega arith) 
 pub keeps-last : {a b p q : ℕ} → Last a p → Last b q → q < p → Last (bitXor a b) p
 keeps-last = lead-xor After (λ a h. omega arith) (λ a b c g h. omega arith) gt-tri
 
--- two rows with the same first one: the sum begins later; with the same last one: it ends sooner
-pub first-rises : (a b p q : ℕ) → First a p → First b p → First (bitXor a b) q → p < q
-first-rises a b p q ha hb h = go (lt-tri q p)
-  where
-    go : (q < p) ⊎ ((q ≡ p) ⊎ (p < q)) → p < q
-    go (inl c) = absurd (zero-one (bit-xor q a b ∙ ap₂ differ (ha .zeros q c) (hb .zeros q c)) (h .one))
-    go (inr (inl e)) = absurd (zero-one (bit-xor p a b ∙ ap₂ differ (ha .one) (hb .one)) (subst (λ (x : ℕ). bit (bitXor a b) x ≡ 1) e (h .one)))
-    go (inr (inr c)) = c
-
+-- two rows with the same last one: the sum ends sooner
 pub last-falls : (a b p q : ℕ) → Last a p → Last b p → Last (bitXor a b) q → q < p
 last-falls a b p q ha hb h = go (lt-tri q p)
   where

@@ -17,10 +17,6 @@ taken-differ (suc zero) (suc zero) r hd he = sym (xor-self r)
 taken-differ (suc zero) (suc (suc e)) r hd he = absurd (omega arith)
 taken-differ (suc (suc d)) e r hd he = absurd (omega arith)
 
-taken-xor : (d a b : ℕ) → taken d (bitXor a b) ≡ bitXor (taken d a) (taken d b)
-taken-xor zero a b = refl
-taken-xor (suc d) a b = refl
-
 pub sum-zero : (rows : List ℕ) → sumOf rows 0 ≡ 0
 sum-zero [] = refl
 sum-zero (r ∷ rs) = sum-zero rs

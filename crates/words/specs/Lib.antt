@@ -4,3 +4,4 @@ pub mod Parity
 pub mod Span
 pub mod Ends
 pub mod Choice
+pub mod Letters
