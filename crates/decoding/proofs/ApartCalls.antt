@@ -1,4 +1,4 @@
--- The replies of `best_metric` and `best_word`, case by case.
+-- The replies of `best_metric_parts` and `best_word_parts`, case by case.
 use lib.Bits.{bitXor}
 use lib.IntN.{natAbs, pos, ℤ}
 use lib.ListN.{drop, getD, length, replicate}

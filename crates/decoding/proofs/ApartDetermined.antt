@@ -1,4 +1,4 @@
--- Determined: two replies of `best_metric`, and two of `best_word`, with the rooms, that meet their promise are equal.
+-- Determined: two replies of `best_metric_parts`, and two of `best_word_parts`, with the rooms, that meet their promise are equal.
 use lib.IntN.{ℤ}
 use lib.Signed.{_≤ℤ_}
 use mathlib.Core.List.{List, []}

@@ -34,18 +34,29 @@ use Rattle.plates.specs.Refusals.{Passes}
 module _ (plate : Plate) (given : IsPrepared plate) {samples : List ℤ} {words : List ℕ} {scores metrics : List ℤ} {decisions : List ℕ}
     (fit : BlocksFit (plateSizes plate given) samples words scores metrics decisions)
     {words′ : List ℕ} {scores′ metrics′ : List ℤ} {decisions′ : List ℕ} {counts : Counts}
-    (done : BlocksPut (plate .rows) (plateSizes plate given) samples words scores metrics decisions (length words) words′ scores′ metrics′ decisions′ counts) where
+    (done : BlocksPut (plate .rows) (plateSizes plate given) samples words scores metrics decisions (length words) words′ scores′ metrics′ decisions′
+    counts) where
   best-last : (j : ℕ) → length words ≡ suc j → Best plate (blockAt (plate .n) samples j) (answerAt words′ scores′ counts j)
   best-last j e =
       let h : j < length words = omega (arith, e) in
-      best-word plate given (blockAt (plate .n) samples j) (block-size (fit .blocks) j h) (answerAt words′ scores′ counts j) (done .each j h .word-is) (done .each j h .metric-is) (done .last j e)
+      best-word plate given (blockAt (plate .n) samples j) (block-size (fit .blocks) j h) (answerAt words′ scores′ counts j) (done .each j h .word-is)
+      (done .each j h .metric-is) (done .last j e)
 
   best-each : (b : ℕ) → b < length words → Best plate (blockAt (plate .n) samples b) (answerAt words′ scores′ counts b)
   best-each b h =
       let e : length words ≡ suc (length words - 1) = omega (arith, h) in
       let last = best-last (length words - 1) e in
-      let own = best-word plate given (blockAt (plate .n) samples b) (block-size (fit .blocks) b h) (record { word = getD words′ b 0; metric = getD scores′ b (pos 0); counts = _ }) (done .each b h .word-is) (done .each b h .metric-is) refl in
-      record { codeword = own .codeword; metric = own .metric; greatest = own .greatest; earliest = own .earliest; additions = last .additions; comparisons = last .comparisons }
+      let own =
+      best-word plate given (blockAt (plate .n) samples b) (block-size (fit .blocks) b h) (answerAt words′ scores′ _ b) (done .each b h .word-is)
+      (done .each b h .metric-is) refl in
+      record {
+        codeword = own .codeword;
+        metric = own .metric;
+        greatest = own .greatest;
+        earliest = own .earliest;
+        additions = last .additions;
+        comparisons = last .comparisons;
+      }
 
   pub each-best : length scores ≡ length words → EachBest plate samples (length words) words′ scores′ counts
   each-best e = record { words-size = done .words-size; scores-size = omega (arith, done .scores-size, e); each = best-each; none = done .none }
@@ -53,19 +64,25 @@ module _ (plate : Plate) (given : IsPrepared plate) {samples : List ℤ} {words 
 -- ---- the replies
 
 module _ (plate : Plate) (samples : List ℤ) (words : List ℕ) (scores metrics : List ℤ) (decisions : List ℕ) where
-  pub refused-5 : (IsPrepared plate → ⊥) → DecodesBlocks plate samples words scores metrics decisions words scores metrics decisions (Refused NotPrepared)
+  -- a refusal, with all that is lent unchanged
+  abbrev Unchanged : Refusal → Type 0
+  Unchanged q = DecodesBlocks plate samples words scores metrics decisions words scores metrics decisions (Refused q)
+
+  pub refused-5 : (IsPrepared plate → ⊥) → Unchanged NotPrepared
   refused-5 n = (inl (n, refl), refl, refl, refl, refl)
 
   module _ (given : IsPrepared plate) where
-    pub refused-6 : (Blocks (plate .n) samples words scores → ⊥) → DecodesBlocks plate samples words scores metrics decisions words scores metrics decisions (Refused SampleCount)
+    pub refused-6 : (Blocks (plate .n) samples words scores → ⊥) → Unchanged SampleCount
     refused-6 n = (inr ((λ q b. b .0 given), inl (n, refl)), refl, refl, refl, refl)
 
     module _ (blocks : Blocks (plate .n) samples words scores) {over : ℕ} (found : FirstOver samples over) where
-      pub refused-7 : over < length samples → DecodesBlocks plate samples words scores metrics decisions words scores metrics decisions (Refused (SampleRange over))
+      pub refused-7 : over < length samples → Unchanged (SampleRange over)
       refused-7 h =
-          (inr ((λ q b. b .0 given), inr ((λ q b. b .0 blocks), inl (record { position = over; there = h; over = found .here h; first = found .before; is = refl }))), refl, refl, refl, refl)
+          let x : SampleOver samples (SampleRange over) = record { position = over; there = h; over = found .here h; first = found .before; is = refl } in
+          (inr ((λ q b. b .0 given), inr ((λ q b. b .0 blocks), inl x)), refl, refl, refl, refl)
 
-      module _ (none : length samples ≤ over) {z : Sizes} (of : SizesOf (plate .n) (plate .k) (plate .mask) (plate .rows) (plate .profile) z) where
+      module _ (none : length samples ≤ over) {z : Sizes}
+          (of : SizesOf (plate .n) (plate .k) (plate .mask) (plate .rows) (plate .profile) z) where
         samples-within : Within limit samples
         samples-within i k = found .before i (omega (arith, k, found .most, none))
 
@@ -82,7 +99,7 @@ module _ (plate : Plate) (samples : List ℤ) (words : List ℕ) (scores metrics
         decisions-needed : plate .n * z .words ≡ decisionNeed plate
         decisions-needed = ap (λ (y : Sizes). plate .n * y .words) same
 
-        pub refused-8 : length metrics < z .half + z .half → DecodesBlocks plate samples words scores metrics decisions words scores metrics decisions (Refused MetricRoom)
+        pub refused-8 : length metrics < z .half + z .half → Unchanged MetricRoom
         refused-8 h =
             (inr ((λ q b. b .0 given), inr ((λ q b. b .0 blocks), inr (no-sample-over, inl (omega (arith, h, metrics-needed), refl)))), refl, refl, refl, refl)
 
@@ -90,9 +107,10 @@ module _ (plate : Plate) (samples : List ℤ) (words : List ℕ) (scores metrics
           enough-metrics : (q : Refusal) → metricRoom plate metrics q → ⊥
           enough-metrics q b = omega (arith, b .0, metric-room, metrics-needed)
 
-          pub refused-9 : length decisions < plate .n * z .words → DecodesBlocks plate samples words scores metrics decisions words scores metrics decisions (Refused DecisionRoom)
+          pub refused-9 : length decisions < plate .n * z .words → Unchanged DecisionRoom
           refused-9 h =
-              (inr ((λ q b. b .0 given), inr ((λ q b. b .0 blocks), inr (no-sample-over, inr (enough-metrics, inl (subst (λ (x : ℕ). length decisions < x) decisions-needed h, refl))))), refl, refl, refl, refl)
+              let x = subst (λ (x : ℕ). length decisions < x) decisions-needed h in
+              (inr ((λ q b. b .0 given), inr ((λ q b. b .0 blocks), inr (no-sample-over, inr (enough-metrics, inl (x, refl))))), refl, refl, refl, refl)
 
           module _ (decision-room : plate .n * z .words ≤ length decisions) where
             fit : BlocksFit (plateSizes plate given) samples words scores metrics decisions
@@ -105,10 +123,13 @@ module _ (plate : Plate) (samples : List ℤ) (words : List ℕ) (scores metrics
             }
 
             pub blocks-fit : SizesFit (plate .rows) z × BlocksFit z samples words scores metrics decisions
-            blocks-fit = subst (λ (y : Sizes). SizesFit (plate .rows) y × BlocksFit y samples words scores metrics decisions) (sym same) (plate-sizes-fit plate given, fit)
+            blocks-fit =
+                subst (λ (y : Sizes). SizesFit (plate .rows) y × BlocksFit y samples words scores metrics decisions) (sym same)
+                (plate-sizes-fit plate given, fit)
 
             passes : Passes (blocksConditions plate samples words scores metrics decisions)
-            passes = ((λ q b. b .0 given), ((λ q b. b .0 blocks), (no-sample-over, (enough-metrics, ((λ q b. omega (arith, b .0, fit .decision-room)), tt)))))
+            passes =
+                ((λ q b. b .0 given), ((λ q b. b .0 blocks), (no-sample-over, (enough-metrics, ((λ q b. omega (arith, b .0, fit .decision-room)), tt)))))
 
             pub batched : {words′ : List ℕ} {scores′ metrics′ : List ℤ} {decisions′ : List ℕ} {counts : Counts}
                 → BlocksPut (plate .rows) z samples words scores metrics decisions (length words) words′ scores′ metrics′ decisions′ counts
@@ -116,7 +137,9 @@ module _ (plate : Plate) (samples : List ℤ) (words : List ℕ) (scores metrics
                 → (decisions″ : List ℕ) → decisions″ ≡ replicate (plate .n * z .words) 0 ++ drop (plate .n * z .words) decisions′
                 → DecodesBlocks plate samples words scores metrics decisions words′ scores′ metrics″ decisions″ (Found counts)
             batched {words′} {scores′} {metrics′} {decisions′} {counts} put metrics″ x decisions″ y =
-                let done = subst (λ (y : Sizes). BlocksPut (plate .rows) y samples words scores metrics decisions (length words) words′ scores′ metrics′ decisions′ counts) same put in (
+                let done =
+                subst (λ (y : Sizes). BlocksPut (plate .rows) y samples words scores metrics decisions (length words) words′ scores′ metrics′ decisions′ counts)
+                same put in (
                   passes,
                   each-best plate given fit done (blocks .scores-are),
                   zeroed plate given metrics decisions metrics′ decisions′ (done .kept) _ _ metrics-needed decisions-needed metrics″ x decisions″ y,

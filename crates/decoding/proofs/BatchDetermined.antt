@@ -10,6 +10,7 @@ use native.Mathlib.Omega.{arith}
 use Prim.Native.Nat.{_*_, _<_, suc, zero, ℕ}
 use Rattle.decoding.proofs.Batched.{block-size, block-within}
 use Rattle.decoding.proofs.DecodeDetermined.{answer-same, counts-same, sample-once}
+use Rattle.decoding.proofs.MetricBounds.{Within}
 use Rattle.decoding.proofs.SampleLimits.{none-over, within-passes}
 use Rattle.decoding.specs.Batch.{Blocks, DecodesBlocks, EachBest, answerAt, blockAt, blockCount, blocksConditions}
 use Rattle.decoding.specs.declared.Answer.{Answer}
@@ -31,7 +32,10 @@ module _ (plate : Plate) (samples : List ℤ) (words : List ℕ) (scores metrics
   conditions = blocksConditions plate samples words scores metrics decisions
 
   single : Single (blocksConditions plate samples words scores metrics decisions)
-  single = ((λ p q x y. x .1 ∙ sym (y .1)), ((λ p q x y. x .1 ∙ sym (y .1)), (sample-once plate samples metrics decisions, ((λ p q x y. x .1 ∙ sym (y .1)), ((λ p q x y. x .1 ∙ sym (y .1)), tt)))))
+  single = (
+    (λ p q x y. x .1 ∙ sym (y .1)),
+    ((λ p q x y. x .1 ∙ sym (y .1)), (sample-once plate samples metrics decisions, ((λ p q x y. x .1 ∙ sym (y .1)), ((λ p q x y. x .1 ∙ sym (y .1)), tt)))),
+  )
 
   module _ {words′ words″ : List ℕ} {scores′ scores″ : List ℤ} {counts′ counts″ : Counts}
       (x : EachBest plate samples (length words) words′ scores′ counts′) (y : EachBest plate samples (length words) words″ scores″ counts″) where
@@ -45,13 +49,17 @@ module _ (plate : Plate) (samples : List ℤ) (words : List ℕ) (scores metrics
     answers-same b h = answer-same plate (blockAt (plate .n) samples b) metrics decisions _ _ (x .each b h) (y .each b h)
 
     batch-words : words′ ≡ words″
-    batch-words = ext-getD 0 words′ words″ (x .words-size ∙ sym (y .words-size)) (λ b h. ap (λ (a : Answer). a .word) (answers-same b (omega (arith, h, x .words-size))))
+    batch-words =
+        ext-getD 0 words′ words″ (x .words-size ∙ sym (y .words-size))
+        (λ b h. ap (λ (a : Answer). a .word) (answers-same b (omega (arith, h, x .words-size))))
 
     batch-scores : scores′ ≡ scores″
     batch-scores =
-        ext-getD (pos 0) scores′ scores″ (x .scores-size ∙ sym (y .scores-size)) (λ b h. ap (λ (a : Answer). a .metric) (answers-same b (omega (arith, h, x .scores-size))))
+        ext-getD (pos 0) scores′ scores″ (x .scores-size ∙ sym (y .scores-size))
+        (λ b h. ap (λ (a : Answer). a .metric) (answers-same b (omega (arith, h, x .scores-size))))
 
-  pub blocks-determined : (r s : Batch) (w x : List ℕ) (v y m n : List ℤ) (d e : List ℕ) → DecodesBlocks plate samples words scores metrics decisions w v m d r
+  pub blocks-determined : (r s : Batch) (w x : List ℕ) (v y m n : List ℤ) (d e : List ℕ)
+      → DecodesBlocks plate samples words scores metrics decisions w v m d r
       → DecodesBlocks plate samples words scores metrics decisions x y n e s → (r ≡ s) × (w ≡ x) × (v ≡ y) × (m ≡ n) × (d ≡ e)
   blocks-determined (Found a) (Found b) w x v y m n d e p q = (
     ap Found (batch-counts (p .1) (q .1) (length words) refl),
@@ -80,13 +88,18 @@ module _ (plate : Plate) (samples : List ℤ) (words : List ℕ) (scores metrics
   block-passes : Passes (blocksConditions plate samples words scores metrics decisions) → (b : ℕ) → b < length words
       → Passes (decodeConditions plate (blockAt (plate .n) samples b) metrics decisions)
   block-passes h b l =
-      (h .0, ((λ q c. c .0 (block-size blocks b l)), (within-passes (blockAt (plate .n) samples b) (block-within blocks limit (none-over samples (h .1 .1 .0)) b l), h .1 .1 .1)))
+      (h .0, ((λ q c. c .0 (block-size blocks b l)), (within-passes (blockAt (plate .n) samples b) within, h .1 .1 .1)))
     where
       blocks : Blocks (plate .n) samples words scores
       blocks = blocks-are (h .1 .0)
 
-  pub each-decoded : (counts : Counts) (w : List ℕ) (v m : List ℤ) (d : List ℕ) → DecodesBlocks plate samples words scores metrics decisions w v m d (Found counts)
-      → (b : ℕ) → b < length words → (r : Decoded) (n : List ℤ) (e : List ℕ) → Decodes plate (blockAt (plate .n) samples b) metrics decisions n e r
+      within : Within limit (blockAt (plate .n) samples b)
+      within = block-within blocks limit (none-over samples (h .1 .1 .0)) b l
+
+  pub each-decoded : (counts : Counts) (w : List ℕ) (v m : List ℤ) (d : List ℕ)
+      → DecodesBlocks plate samples words scores metrics decisions w v m d (Found counts)
+      → (b : ℕ) → b < length words → (r : Decoded) (n : List ℤ) (e : List ℕ)
+      → Decodes plate (blockAt (plate .n) samples b) metrics decisions n e r
       → r ≡ D.Found (answerAt w v counts b)
   each-decoded counts w v m d p b h (D.Found a) n e x =
       ap D.Found (answer-same plate (blockAt (plate .n) samples b) metrics decisions a (answerAt w v counts b) (x .1) (p .1 .each b h))

@@ -58,10 +58,12 @@ module _ {n : ℕ} {samples : List ℤ} {words : List ℕ} {scores : List ℤ} (
   pub block-within : (most : ℕ) → Within most samples → (b : ℕ) → b < length words → Within most (blockAt n samples b)
   block-within most within b h i l =
       let k : i < n = omega (arith, block-size b h) in
-      let e : getD (blockAt n samples b) i (pos 0) ≡ getD samples (b * n + i) (pos 0) = getD-take n (drop (b * n) samples) i (pos 0) k ∙ getD-drop (b * n) samples i (pos 0) in
+      let e : getD (blockAt n samples b) i (pos 0) ≡ getD samples (b * n + i) (pos 0) =
+      getD-take n (drop (b * n) samples) i (pos 0) k ∙ getD-drop (b * n) samples i (pos 0) in
       subst (λ (y : ℤ). natAbs y ≤ most) (sym e) (within (b * n + i) (omega (arith, block-end b h)))
 
-module _ {z : Sizes} {samples : List ℤ} {words : List ℕ} {scores metrics : List ℤ} {decisions : List ℕ} (fit : BlocksFit z samples words scores metrics decisions) where
+module _ {z : Sizes} {samples : List ℤ} {words : List ℕ} {scores metrics : List ℤ} {decisions : List ℕ}
+    (fit : BlocksFit z samples words scores metrics decisions) where
   -- the part that is lent
   part-is : (b : ℕ) → take (b * z .n + z .n - b * z .n) (drop (b * z .n) samples) ≡ blockAt (z .n) samples b
   part-is b = ap (λ (x : ℕ). take x (drop (b * z .n) samples)) (add-sub-cancel-left (b * z .n) (z .n))
@@ -70,6 +72,9 @@ module _ {z : Sizes} {samples : List ℤ} {words : List ℕ} {scores metrics : L
       (done : BlocksPut table z samples words scores metrics decisions b words′ scores′ metrics′ decisions′ counts) (h : b < length words′) where
     pub there : b < length words
     there = omega (arith, done .words-size, h)
+
+    pub block-inside : b * z .n + z .n ≤ length samples
+    block-inside = block-end (fit .blocks) b there
 
     pub block-fits : BlockFits z (take (b * z .n + z .n - b * z .n) (drop (b * z .n) samples)) b words′ scores′ metrics′ decisions′
     block-fits = record {
@@ -88,7 +93,8 @@ module _ {z : Sizes} {samples : List ℤ} {words : List ℕ} {scores metrics : L
         }
 
     module _ {words″ : List ℕ} {scores″ metrics″ : List ℤ} {decisions″ : List ℕ} {counts″ : Counts}
-        (put : BlockPut table z (take (b * z .n + z .n - b * z .n) (drop (b * z .n) samples)) b words′ scores′ metrics′ decisions′ words″ scores″ metrics″ decisions″ counts″) where
+        (put : BlockPut table z (take (b * z .n + z .n - b * z .n) (drop (b * z .n) samples)) b words′ scores′ metrics′ decisions′ words″ scores″ metrics″
+        decisions″ counts″) where
       here : SearchedAs table z (blockAt (z .n) samples b) (getD words″ b 0) (getD scores″ b (pos 0))
       here = subst (λ (ys : List ℤ). SearchedAs table z ys (getD words″ b 0) (getD scores″ b (pos 0))) (part-is b) (record {
         word-is = ap (λ (l : List ℕ). getD l b 0) (put .words-are) ∙ getD-set-same words′ b (put .answer .word) 0 h ∙ put .searched .word;
@@ -100,12 +106,14 @@ module _ {z : Sizes} {samples : List ℤ} {words : List ℕ} {scores metrics : L
       earlier : (i : ℕ) → i < b → SearchedAs table z (blockAt (z .n) samples i) (getD words″ i 0) (getD scores″ i (pos 0))
       earlier i l =
           let other : i ≡ b → ⊥ = λ e. omega (arith, e, l) in
-          let e : getD words″ i 0 ≡ getD words′ i 0 = ap (λ (x : List ℕ). getD x i 0) (put .words-are) ∙ getD-set-other words′ b i (put .answer .word) 0 other in
+          let e : getD words″ i 0 ≡ getD words′ i 0 =
+          ap (λ (x : List ℕ). getD x i 0) (put .words-are) ∙ getD-set-other words′ b i (put .answer .word) 0 other in
           let f : getD scores″ i (pos 0) ≡ getD scores′ i (pos 0) =
           ap (λ (x : List ℤ). getD x i (pos 0)) (put .scores-are) ∙ getD-set-other scores′ b i (put .answer .metric) (pos 0) other in
           record { word-is = e ∙ done .each i l .word-is; metric-is = f ∙ done .each i l .metric-is }
 
-      each-on : (i : ℕ) → (i < b) ⊎ ((i ≡ b) ⊎ (b < i)) → i < b + 1 → SearchedAs table z (blockAt (z .n) samples i) (getD words″ i 0) (getD scores″ i (pos 0))
+      each-on : (i : ℕ) → (i < b) ⊎ ((i ≡ b) ⊎ (b < i)) → i < b + 1
+          → SearchedAs table z (blockAt (z .n) samples i) (getD words″ i 0) (getD scores″ i (pos 0))
       each-on i (inl l) k = earlier i l
       each-on i (inr (inl e)) k =
           subst (λ (x : ℕ). SearchedAs table z (blockAt (z .n) samples x) (getD words″ x 0) (getD scores″ x (pos 0))) (sym e) here
@@ -139,3 +147,11 @@ blocks-start table z samples words scores metrics decisions = record {
   last = λ i e. absurd (omega (arith, e));
   kept = kept-refl z metrics decisions;
 }
+
+-- all of them
+pub all-put : {table : List ℕ} {z : Sizes} {samples : List ℤ} {words : List ℕ} {scores metrics : List ℤ} {decisions : List ℕ} {b : ℕ} {words′ : List ℕ}
+    {scores′ metrics′ : List ℤ} {decisions′ : List ℕ} {counts : Counts} → b ≡ length words
+    → BlocksPut table z samples words scores metrics decisions b words′ scores′ metrics′ decisions′ counts
+    → BlocksPut table z samples words scores metrics decisions (length words) words′ scores′ metrics′ decisions′ counts
+all-put {table} {z} {samples} {words} {scores} {metrics} {decisions} {b} {words′} {scores′} {metrics′} {decisions′} {counts} e =
+    subst (λ (x : ℕ). BlocksPut table z samples words scores metrics decisions x words′ scores′ metrics′ decisions′ counts) e

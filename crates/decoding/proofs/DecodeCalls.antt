@@ -25,11 +25,13 @@ use Rattle.plates.specs.Refusals.{Passes}
 use Rattle.trellises.proofs.NextIsBranch.{found}
 
 -- what a plate's parts are replied is what the plate is, where the profile was widened
-pub by-parts : (plate : Plate) (samples metrics : List ℤ) (decisions : List ℕ) (metrics′ : List ℤ) (decisions′ : List ℕ) (r : Decoded) {profile : List ℕ} → profile ≡ plate .profile
+pub by-parts : (plate : Plate) (samples metrics : List ℤ) (decisions : List ℕ) (metrics′ : List ℤ) (decisions′ : List ℕ) (r : Decoded) {profile : List ℕ}
+    → profile ≡ plate .profile
     → Decodes (ofParts (plate .n) (plate .k) (plate .mask) (plate .rows) profile) samples metrics decisions metrics′ decisions′ r
     → Decodes plate samples metrics decisions metrics′ decisions′ r
 by-parts plate samples metrics decisions metrics′ decisions′ r same d =
-    subst (λ (p : List ℕ). Decodes (ofParts (plate .n) (plate .k) (plate .mask) (plate .rows) p) samples metrics decisions metrics′ decisions′ r) same d
+    subst (λ (p : List ℕ). Decodes (ofParts (plate .n) (plate .k) (plate .mask) (plate .rows) p) samples metrics decisions metrics′ decisions′ r)
+    same d
 
 module _ (plate : Plate) (samples metrics : List ℤ) (decisions : List ℕ) where
   abbrev conditions : List (Refusal → Type 0)

@@ -1,4 +1,4 @@
--- The replies of `firmness`, case by case.
+-- The replies of `firmness_parts`, case by case.
 use lib.IntN.{natAbs, pos, ℤ}
 use lib.ListN.{drop, getD, length, replicate}
 use mathlib.Core.List.{_++_, List}

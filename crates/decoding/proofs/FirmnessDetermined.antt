@@ -1,4 +1,4 @@
--- Determined: two replies of `firmness`, with both rooms, that meet its promise are equal.
+-- Determined: two replies of `firmness_parts`, with both rooms, that meet its promise are equal.
 use lib.IntN.{_-ℤ_, pos, ℤ}
 use lib.Signed.{_≤ℤ_}
 use mathlib.Core.Bool.{Bool, false, false≢true, true, true≢false}

@@ -11,7 +11,7 @@ use Rattle.decoding.specs.declared.sweep.Sizes.{Sizes}
 use Rattle.decoding.specs.declared.sweep.Standing.{Standing}
 use Rattle.decoding.specs.LiveRows.{EndsAre}
 use Rattle.decoding.specs.Searching.{MetricSearched}
-use Rattle.decoding.specs.Sweeping.{RoomsFit, SectionSwept, SizesFit, undecided}
+use Rattle.decoding.specs.Sweeping.{Kept, RoomsFit, SectionSwept, SizesFit, undecided}
 use Rattle.decoding.specs.Turning.{turnedBy}
 use Rattle.trellises.specs.States.{table}
 
@@ -27,6 +27,19 @@ undecided-fits f = record {
   end-state = f .end-state;
   end-live = f .end-live;
   all-begun = f .all-begun;
+}
+
+pub undecided-rooms : {z : Sizes} {samples metrics : List ℤ} {decisions : List ℕ} → RoomsFit z samples metrics decisions → RoomsFit (undecided z) samples metrics decisions
+undecided-rooms r = record { size = r .size; within = r .within; metric-room = r .metric-room; decision-room = omega arith }
+
+-- it keeps all decisions
+pub undecided-keeps : {z : Sizes} {metrics metrics′ : List ℤ} {decisions decisions′ : List ℕ} → Kept (undecided z) metrics decisions metrics′ decisions′
+    → Kept z metrics decisions metrics′ decisions′
+undecided-keeps k = record {
+  metrics-size = k .metrics-size;
+  metrics-rest = k .metrics-rest;
+  decisions-size = k .decisions-size;
+  decisions-rest = λ i h. k .decisions-rest i (omega arith);
 }
 
 module _ (table : List ℕ) (z : Sizes) (samples metrics : List ℤ) (fit : SizesFit table z) (rooms : RoomsFit (undecided z) samples metrics [])

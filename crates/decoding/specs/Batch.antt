@@ -54,5 +54,5 @@ DecodesBlocks plate samples words scores metrics decisions words′ scores′ me
     Refuses (blocksConditions plate samples words scores metrics decisions) q
     × (words′ ≡ words) × (scores′ ≡ scores) × (metrics′ ≡ metrics) × (decisions′ ≡ decisions)
 DecodesBlocks plate samples words scores metrics decisions words′ scores′ metrics′ decisions′ (Found counts) =
-    Passes (blocksConditions plate samples words scores metrics decisions) × EachBest plate samples (length words) words′ scores′ counts
-    × Zeroed plate metrics metrics′ decisions decisions′
+    Passes (blocksConditions plate samples words scores metrics decisions)
+    × EachBest plate samples (length words) words′ scores′ counts × Zeroed plate metrics metrics′ decisions decisions′

@@ -1,5 +1,6 @@
 // Many blocks of one plate in one call: each is decoded for itself, and the plate is tested once.
 use crate::Counts;
+use crate::live::ending_rows;
 use crate::rooms::clear_decisions;
 use crate::rooms::clear_metrics;
 use crate::rooms::sizes_of;
@@ -7,10 +8,11 @@ use crate::samples::first_over;
 use crate::search::search;
 use crate::sweep::Sizes;
 use plates::Refusal;
-ghost use lib.ListN.{length};
+ghost use lib.ListN.{length, take};
 ghost use Prim.Native.Nat.{_<_};
 ghost use Rattle.decoding.specs.Batch.{DecodesBlocks};
 ghost use Rattle.decoding.specs.Batching.{AreBlocks, BlockFits, BlockPut, BlocksFit, BlocksPut};
+ghost use Rattle.decoding.specs.LiveRows.{EndsAre};
 ghost use Rattle.decoding.specs.Sweeping.{SizesFit};
 ghost use Rattle.plates.specs.Prepare.{IsPrepared, ofParts};
 
@@ -38,6 +40,7 @@ fn are_blocks(samples: usize, n: usize, words: usize, scores: usize) -> bool
 fn put_block(
     rows: &[u64],
     sizes: Sizes,
+    ends: &[u8; 64],
     block: &[i16],
     at: usize,
     found: &mut [u64],
@@ -46,17 +49,18 @@ fn put_block(
     decisions: &mut [u64],
 ) -> Counts
     requires { ⌜ SizesFit (now rows) sizes ⌝ }
+    requires { ⌜ EndsAre (take (sizes .k) (now rows)) (now ends) ⌝ }
     requires { ⌜ BlockFits sizes (now block) at (now found) (now scores) (now metrics) (now decisions) ⌝ }
     ensures { λ r. ⌜ BlockPut (now (rows .entry)) sizes (now (block .entry)) at (now (found .entry)) (now (scores .entry)) (now (metrics .entry)) (now (decisions .entry)) (now (found .exit)) (now (scores .exit)) (now (metrics .exit)) (now (decisions .exit)) r ⌝ }
 {
-    let answer = search(rows, sizes, block, &mut *metrics, &mut *decisions);
+    let answer = search(rows, sizes, ends, block, &mut *metrics, &mut *decisions);
     let metric = answer.metric;
     found[at] = answer.word;
     scores[at] = metric;
     answer.counts
 }
 
-// All blocks, from the first to the last.
+// All blocks, from the first to the last; where the rows end is found once.
 fn put_blocks(
     rows: &[u64],
     sizes: Sizes,
@@ -70,6 +74,7 @@ fn put_blocks(
     requires { ⌜ BlocksFit sizes (now samples) (now found) (now scores) (now metrics) (now decisions) ⌝ }
     ensures { λ r. ⌜ BlocksPut (now (rows .entry)) sizes (now (samples .entry)) (now (found .entry)) (now (scores .entry)) (now (metrics .entry)) (now (decisions .entry)) (length (now (found .entry))) (now (found .exit)) (now (scores .exit)) (now (metrics .exit)) (now (decisions .exit)) r ⌝ }
 {
+    let ends = ending_rows(rows, sizes.k);
     let mut counts = Counts {
         additions: 0,
         comparisons: 0,
@@ -81,6 +86,7 @@ fn put_blocks(
         counts = put_block(
             rows,
             sizes,
+            &ends,
             &samples[begin..end],
             at,
             &mut *found,

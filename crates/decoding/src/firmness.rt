@@ -90,7 +90,7 @@ fn best_with(
     (best - FORCING) + own
 }
 
-// The reading of a position, before the rooms are put to zero.
+// The reading of a position, before the rooms are put to zero. Decisions are not wanted, and none are kept.
 fn reading_at(
     rows: &[u64],
     sizes: Sizes,
@@ -109,9 +109,16 @@ fn reading_at(
         return Reading::Fixed(words::bit_at(sizes.rest, position));
     }
     let ends = ending_rows(rows, sizes.k);
+    let undecided = Sizes {
+        n: sizes.n,
+        k: sizes.k,
+        half: sizes.half,
+        words: 0,
+        rest: sizes.rest,
+    };
     let zero = best_with(
         rows,
-        sizes,
+        undecided,
         &ends,
         samples,
         position,
@@ -121,7 +128,7 @@ fn reading_at(
     );
     let one = best_with(
         rows,
-        sizes,
+        undecided,
         &ends,
         samples,
         position,

@@ -1,5 +1,6 @@
 // Decoding of a plate that has been tested.
 use crate::Decoded;
+use crate::live::ending_rows;
 use crate::rooms::clear_decisions;
 use crate::rooms::clear_metrics;
 use crate::rooms::sizes_of;
@@ -39,7 +40,8 @@ pub fn decode_prepared<'a>(
     if decisions.len() < decision_need {
         return Decoded::Refused(Refusal::DecisionRoom);
     }
-    let answer = search(rows, sizes, samples, &mut *metrics, &mut *decisions);
+    let ends = ending_rows(rows, sizes.k);
+    let answer = search(rows, sizes, &ends, samples, &mut *metrics, &mut *decisions);
     clear_metrics(&mut *metrics, metric_need);
     clear_decisions(&mut *decisions, decision_need);
     Decoded::Found(answer)

@@ -6,8 +6,10 @@ use crate::sweep::Forced;
 use crate::sweep::Sizes;
 use crate::sweep::sweep;
 use crate::walk::read_off;
+ghost use lib.ListN.{take};
 ghost use mathlib.Core.List.{[]};
 ghost use Prim.Native.Nat.{_<_};
+ghost use Rattle.decoding.specs.LiveRows.{EndsAre};
 ghost use Rattle.decoding.specs.Searching.{MetricSearched, Searched};
 ghost use Rattle.decoding.specs.Sweeping.{RoomsFit, SizesFit, undecided};
 
@@ -15,16 +17,17 @@ ghost use Rattle.decoding.specs.Sweeping.{RoomsFit, SizesFit, undecided}
 pub fn search(
     rows: &[u64],
     sizes: Sizes,
+    ends: &[u8; 64],
     samples: &[i16],
     metrics: &mut [i32],
     decisions: &mut [u64],
 ) -> Answer
     requires { ⌜ SizesFit (now rows) sizes ⌝ }
+    requires { ⌜ EndsAre (take (sizes .k) (now rows)) (now ends) ⌝ }
     requires { ⌜ RoomsFit sizes (now samples) (now metrics) (now decisions) ⌝ }
     requires { ⌜ 0 < sizes .words ⌝ }
     ensures { λ r. ⌜ Searched (now (rows .entry)) sizes (now (samples .entry)) (now (metrics .entry)) (now (decisions .entry)) (now (metrics .exit)) (now (decisions .exit)) r ⌝ }
 {
-    let ends = ending_rows(rows, sizes.k);
     let none = Forced {
         position: sizes.n,
         gain: 0,
@@ -32,13 +35,13 @@ pub fn search(
     let at = sweep(
         rows,
         sizes,
-        &ends,
+        ends,
         samples,
         none,
         &mut *metrics,
         &mut *decisions,
     );
-    let word = read_off(rows, sizes, &ends, samples, &*decisions);
+    let word = read_off(rows, sizes, ends, samples, &*decisions);
     let from = at.from;
     let metric = metrics[from];
     let counts = at.counts;

@@ -7,8 +7,9 @@ use Rattle.decoding.proofs.decode.Tie as tie
 returns : tie.Need-returns
 returns c =
     let s = c .before .before .before .before .before .before .before .before .before .before .before .before .before in
+    let w = c .before .before .before .before .before .before .before .before .before .before .widened in
     let d = c .before .before .before .decode-parts in
-    by-parts (s .args .t1) (s .args .samples .now) (s .args .metrics .now) (s .args .decisions .now) _ _ (d .result) (c .before .before .before .before .before .before .before .before .before .before .widened .ensures) (d .ensures)
+    by-parts (s .args .t1) (s .args .samples .now) (s .args .metrics .now) (s .args .decisions .now) _ _ (d .result) (w .ensures) (d .ensures)
 
 pub decode-spec : {M : Type 1} → statement M
 decode-spec =

@@ -12,7 +12,8 @@ prepared c κs = c .before .before .before .parts-prepared .ensures .yes-is (c .
 not-prepared : tie.Need-returns-2
 not-prepared c =
     let s = c .before .before .before .before .before in
-    refused-5 (ofParts (s .args .n) (s .args .k) (s .args .mask) (s .args .rows .now) (s .args .profile .now)) (s .args .samples .now) (s .args .metrics .now) (s .args .decisions .now)
+    let plate = ofParts (s .args .n) (s .args .k) (s .args .mask) (s .args .rows .now) (s .args .profile .now) in
+    refused-5 plate (s .args .samples .now) (s .args .metrics .now) (s .args .decisions .now)
     (c .before .parts-prepared .ensures .no-is (c .if1 .left))
 
 pub decode-parts-spec : {M : Type 1} → statement M

@@ -5,7 +5,7 @@ use lib.IntN.{pos}
 use lib.ListN.{length}
 use mathlib.Core.Path.{_∙_}
 use native.Mathlib.Omega.{arith}
-use Prim.Native.Nat.{_+_, _*_, _≤_}
+use Prim.Native.Nat.{_*_, _+_, _≤_}
 use Rattle.plates.proofs.SoundIsPrepared.{sound}
 use Rattle.plates.specs.declared.Plate.{Plate}
 use Rattle.plates.specs.Prepare.{ofParts}
@@ -20,8 +20,15 @@ use Rattle.decoding.proofs.batch.blocks_prepared.Tie as tie
 abbrev plate : tie.Start → Plate
 plate s = ofParts (s .args .n) (s .args .k) (s .args .mask) (s .args .rows .now) (s .args .profile .now)
 
-are-blocks-requires : tie.Need-are-blocks-requires
-are-blocks-requires c κs = let s = c .before .before .before .before in omega (arith, sound (s .pre) .positive)
+-- the samples are whole blocks
+blocks : (c : tie.Else1) → let s = c .before .before .before .before .before .before in
+    Blocks (s .args .n) (s .args .samples .now) (s .args .found .now) (s .args .scores .now)
+blocks c =
+    let e = c .before .are-blocks .ensures .yes-is (not-false _ (c .if1 .left)) in
+    record { samples-are = e .0; scores-are = e .1 }
+
+positive : tie.Need-are-blocks-requires
+positive c κs = let s = c .before .before .before .before in omega (arith, sound (s .pre) .positive)
 
 not-blocks : tie.Need-returns
 not-blocks c =
@@ -29,48 +36,62 @@ not-blocks c =
     refused-6 (plate s) (s .args .samples .now) (s .args .found .now) (s .args .scores .now) (s .args .metrics .now) (s .args .decisions .now) (s .pre)
     (λ b. c .before .are-blocks .ensures .no-is (not-true _ (c .if1 .taken)) (b .samples-are) (b .scores-are))
 
--- the samples are whole blocks
-blocks : (c : tie.Else1) → Blocks (c .before .before .before .before .before .before .args .n) (c .before .before .before .before .before .before .args .samples .now) (c .before .before .before .before .before .before .args .found .now) (c .before .before .before .before .before .before .args .scores .now)
-blocks c = let e = c .before .are-blocks .ensures .yes-is (not-false _ (c .if1 .left)) in record { samples-are = e .0; scores-are = e .1 }
-
 sample-over : tie.Need-returns-2
 sample-over c =
-    let s = c .before .before .before .before .before .before .before .before in
+    let whole = c .before .before in
+    let s = whole .before .before .before .before .before .before in
     refused-7 (plate s) (s .args .samples .now) (s .args .found .now) (s .args .scores .now) (s .args .metrics .now) (s .args .decisions .now) (s .pre)
-    (blocks (c .before .before)) (c .before .first-over .ensures) (c .if2 .taken)
+    (blocks whole) (c .before .first-over .ensures) (c .if2 .taken)
 
-sizes-of-requires : tie.Need-sizes-of-requires
-sizes-of-requires c κs = let s = c .before .before .before .before .before .before .before .before in s .pre
+prepared : tie.Need-sizes-of-requires
+prepared c κs = search needs
 
 metric-need : tie.Need-add-metric-need
-metric-need c = let s = c .before .before .before .before .before .before .before .before .before .before in record { fits = metrics-fit (plate s) (s .pre) (c .before .sizes-of .ensures) }
+metric-need c =
+    let s = c .before .before .before .before .before .before .before .before .before .before in
+    record { fits = metrics-fit (plate s) (s .pre) (c .before .sizes-of .ensures) }
 
 decision-need : tie.Need-mul-decision-need
-decision-need c = let s = c .before .before .before .before .before .before .before .before .before .before .before in record { fits = decisions-fit (plate s) (s .pre) (c .before .before .sizes-of .ensures) }
+decision-need c =
+    let s = c .before .before .before .before .before .before .before .before .before .before .before in
+    record { fits = decisions-fit (plate s) (s .pre) (c .before .before .sizes-of .ensures) }
 
 metric-room : tie.Need-returns-3
 metric-room c =
-    let s = c .before .before .before .before .before .before .before .before .before .before .before .before in
+    let sized = c .before .before .before in
+    let whole = sized .before .before .before in
+    let s = whole .before .before .before .before .before .before in
     refused-8 (plate s) (s .args .samples .now) (s .args .found .now) (s .args .scores .now) (s .args .metrics .now) (s .args .decisions .now) (s .pre)
-    (blocks (c .before .before .before .before .before .before)) (c .before .before .before .before .before .first-over .ensures) (c .before .before .before .before .if2 .left) (c .before .before .before .sizes-of .ensures) (c .if3 .taken)
+    (blocks whole) (sized .before .before .first-over .ensures) (sized .before .if2 .left) (sized .sizes-of .ensures) (c .if3 .taken)
 
 decision-room : tie.Need-returns-4
 decision-room c =
-    let s = c .before .before .before .before .before .before .before .before .before .before .before .before .before in
+    let sized = c .before .before .before .before in
+    let whole = sized .before .before .before in
+    let s = whole .before .before .before .before .before .before in
     refused-9 (plate s) (s .args .samples .now) (s .args .found .now) (s .args .scores .now) (s .args .metrics .now) (s .args .decisions .now) (s .pre)
-    (blocks (c .before .before .before .before .before .before .before)) (c .before .before .before .before .before .before .first-over .ensures) (c .before .before .before .before .before .if2 .left) (c .before .before .before .before .sizes-of .ensures) (omega (arith, c .before .if3 .left)) (c .if4 .taken)
+    (blocks whole) (sized .before .before .first-over .ensures) (sized .before .if2 .left) (sized .sizes-of .ensures)
+    (omega (arith, c .before .if3 .left)) (c .if4 .taken)
 
 put-blocks-requires : tie.Need-put-blocks-requires
 put-blocks-requires c κs =
-    let s = c .before .before .before .before .before .before .before .before .before .before .before .before .before .before .before .before .before in
+    let rooms = c .before .before .before .before in
+    let sized = rooms .before .before .before .before in
+    let whole = sized .before .before .before in
+    let s = whole .before .before .before .before .before .before in
     blocks-fit (plate s) (s .args .samples .now) (s .args .found .now) (s .args .scores .now) (s .args .metrics .now) (s .args .decisions .now) (s .pre)
-    (blocks (c .before .before .before .before .before .before .before .before .before .before .before)) (c .before .before .before .before .before .before .before .before .before .before .first-over .ensures) (c .before .before .before .before .before .before .before .before .before .if2 .left) (c .before .before .before .before .before .before .before .before .sizes-of .ensures) (omega (arith, c .before .before .before .before .before .if3 .left)) (omega (arith, c .before .before .before .before .if4 .left))
+    (blocks whole) (sized .before .before .first-over .ensures) (sized .before .if2 .left) (sized .sizes-of .ensures)
+    (omega (arith, rooms .before .if3 .left)) (omega (arith, rooms .if4 .left))
 
 clear-metrics-requires : tie.Need-clear-metrics-requires
-clear-metrics-requires c κs = omega (arith, c .before .before .before .before .before .before .before .before .before .before .before .before .before .if3 .left, c .before .before .before .before .before .before .before .put-blocks .ensures .kept .metrics-size)
+clear-metrics-requires c κs =
+    let put = c .before .before .before .before .before .before .before in
+    omega (arith, put .before .before .before .before .before .before .if3 .left, put .put-blocks .ensures .kept .metrics-size)
 
 clear-decisions-requires : tie.Need-clear-decisions-requires
-clear-decisions-requires c κs = omega (arith, c .before .before .before .before .before .before .before .before .before .before .before .before .before .before .before .if4 .left, c .before .before .before .before .before .before .before .before .before .before .put-blocks .ensures .kept .decisions-size)
+clear-decisions-requires c κs =
+    let put = c .before .before .before .before .before .before .before .before .before .before in
+    omega (arith, put .before .before .before .before .before .if4 .left, put .put-blocks .ensures .kept .decisions-size)
 
 same-length : tie.Need-same-length
 same-length c = c .before .before .before .before .before .before .before .before .before .before .before .before .before .put-blocks .ensures .words-size
@@ -80,35 +101,45 @@ same-length-2 c = c .before .before .before .before .before .before .before .bef
 
 same-length-3 : tie.Need-same-length-3
 same-length-3 c =
-    let z = c .before .before .before .before .before .before .before .before .before .before .before .before .before .before .before .before .before .before .before .before .before .before .sizes-of .result in
-    let kept = c .before .before .before .before .before .before .before .before .before .before .before .before .before .put-blocks .ensures .kept in
-    let h : z .half + z .half ≤ length (c .before .before .before .before .before .before .before .before .before .before .before .before .before .put-blocks .last .1 .1 .1 .1 .1 .0) = omega (arith, c .before .before .before .before .before .before .before .before .before .before .before .before .before .before .before .before .before .before .before .if3 .left, kept .metrics-size) in
-    length-filled (pos 0) (c .before .before .before .before .before .before .before .before .before .before .before .before .before .put-blocks .last .1 .1 .1 .1 .1 .0) _ (z .half + z .half) (c .before .before .before .before .before .clear-metrics .ensures) h ∙ kept .metrics-size
+    let put = c .before .before .before .before .before .before .before .before .before .before .before .before .before in
+    let kept = put .put-blocks .ensures .kept in
+    let z = put .before .before .before .before .before .before .before .before .before .sizes-of .result in
+    let left = put .put-blocks .last .1 .1 .1 .1 .1 .0 in
+    let h : z .half + z .half ≤ length left = omega (arith, put .before .before .before .before .before .before .if3 .left, kept .metrics-size) in
+    length-filled (pos 0) left _ (z .half + z .half) (c .before .before .before .before .before .clear-metrics .ensures) h ∙ kept .metrics-size
 
 same-length-4 : tie.Need-same-length-4
 same-length-4 c =
-    let s = c .before .before .before .before .before .before .before .before .before .before .before .before .before .before .before .before .before .before .before .before .before .before .before .before .before .before .before .before .before .before .before in
-    let z = c .before .before .before .before .before .before .before .before .before .before .before .before .before .before .before .before .before .before .before .before .before .before .sizes-of .result in
-    let kept = c .before .before .before .before .before .before .before .before .before .before .before .before .before .put-blocks .ensures .kept in
-    let h : s .args .n * z .words ≤ length (c .before .before .before .before .before .before .before .before .before .before .before .before .before .put-blocks .last .1 .1 .1 .1 .1 .1 .0) = omega (arith, c .before .before .before .before .before .before .before .before .before .before .before .before .before .before .before .before .before .before .if4 .left, kept .decisions-size) in
-    length-filled 0 (c .before .before .before .before .before .before .before .before .before .before .before .before .before .put-blocks .last .1 .1 .1 .1 .1 .1 .0) _ (s .args .n * z .words) (c .before .before .clear-decisions .ensures) h ∙ kept .decisions-size
+    let put = c .before .before .before .before .before .before .before .before .before .before .before .before .before in
+    let kept = put .put-blocks .ensures .kept in
+    let z = put .before .before .before .before .before .before .before .before .before .sizes-of .result in
+    let start = put .before .before .before .before .before .before .before .before .before .before .before .before in
+    let n = start .before .before .before .before .before .before .args .n in
+    let left = put .put-blocks .last .1 .1 .1 .1 .1 .1 .0 in
+    let h : n * z .words ≤ length left = omega (arith, put .before .before .before .before .before .if4 .left, kept .decisions-size) in
+    length-filled 0 left _ (n * z .words) (c .before .before .clear-decisions .ensures) h ∙ kept .decisions-size
 
 returns : tie.Need-returns-5
 returns c =
-    let s = c .before .before .before .before .before .before .before .before .before .before .before .before .before .before .before .before .before .before .before .before .before .before .before .before .before .before .before .before .before .before .before in
+    let put = c .before .before .before .before .before .before .before .before .before .before .before .before .before in
+    let rooms = put .before .before .before .before .before in
+    let sized = rooms .before .before .before .before in
+    let whole = sized .before .before .before in
+    let s = whole .before .before .before .before .before .before in
     batched (plate s) (s .args .samples .now) (s .args .found .now) (s .args .scores .now) (s .args .metrics .now) (s .args .decisions .now) (s .pre)
-    (blocks (c .before .before .before .before .before .before .before .before .before .before .before .before .before .before .before .before .before .before .before .before .before .before .before .before .before)) (c .before .before .before .before .before .before .before .before .before .before .before .before .before .before .before .before .before .before .before .before .before .before .before .before .first-over .ensures) (c .before .before .before .before .before .before .before .before .before .before .before .before .before .before .before .before .before .before .before .before .before .before .before .if2 .left) (c .before .before .before .before .before .before .before .before .before .before .before .before .before .before .before .before .before .before .before .before .before .before .sizes-of .ensures) (omega (arith, c .before .before .before .before .before .before .before .before .before .before .before .before .before .before .before .before .before .before .before .if3 .left)) (omega (arith, c .before .before .before .before .before .before .before .before .before .before .before .before .before .before .before .before .before .before .if4 .left))
-    (c .before .before .before .before .before .before .before .before .before .before .before .before .before .put-blocks .ensures) _ (c .before .before .before .before .before .clear-metrics .ensures) _ (c .before .before .clear-decisions .ensures)
+    (blocks whole) (sized .before .before .first-over .ensures) (sized .before .if2 .left) (sized .sizes-of .ensures)
+    (omega (arith, rooms .before .if3 .left)) (omega (arith, rooms .if4 .left))
+    (put .put-blocks .ensures) _ (c .before .before .before .before .before .clear-metrics .ensures) _ (c .before .before .clear-decisions .ensures)
 
 pub blocks-prepared-spec : {M : Type 1} → statement M
 blocks-prepared-spec =
     tie.close
     (tie.spec
-    are-blocks-requires
+    positive
     not-blocks
     (λ c κs. search needs)  -- first_over
     sample-over
-    sizes-of-requires
+    prepared
     metric-need
     decision-need
     metric-room
