@@ -31,6 +31,7 @@ mod sheets;
 mod small;
 mod tally;
 mod trellis;
+mod verbs;
 mod words;
 mod worked;
 
@@ -47,6 +48,7 @@ const USAGE: &str =
   --sheets FOLDER   also every NAME.sheet of a folder against its NAME.listing
   --times N         N times as many random inputs; with 0 neither these nor every small matrix
   --seed N          other random inputs
+  --verb VERB INTO FILE ..   (alone) what the model says that a verb of yendrufal prints of each file, into a folder
   --through ..      ask the library through a bridge that this command starts (last on the line)";
 
 struct Wanted {
@@ -116,6 +118,11 @@ fn compare(library: Library, sheets: Option<&Path>, times: usize, seed: u64) {
 }
 
 fn main() {
+    // --verb VERB INTO FILE ..: what the model says that the verb prints of each file
+    let words: Vec<String> = std::env::args().skip(1).collect();
+    if words.len() > 3 && words[0] == "--verb" {
+        return verbs::run(&words[1], &words[3..], &words[2]);
+    }
     let wanted = wanted();
     let macros = wanted.macros.unwrap_or_else(|| usage());
     header::load(&std::fs::read_to_string(macros).expect("the macros are there"));

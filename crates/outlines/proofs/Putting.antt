@@ -126,8 +126,9 @@ pub line-put : {name text a b c d e : List ℕ} {at r s t u : ℕ} → Puts a at
 line-put p q r s = puts-then p (puts-then q (puts-then r s))
 
 -- the cover: its word and n, the letter, and first
-pub cover-put : (kind : Kind) (n : ℕ) {x at r s t u v : ℕ} {a b c d e f : List ℕ} → Puts a at (99 ∷ 111 ∷ 118 ∷ 101 ∷ 114 ∷ 9 ∷ []) b r → Puts b r (decimal n) c s
-    → Puts c s (9 ∷ []) d t → x ≡ letterOf kind → Puts d t (x ∷ []) e u → Puts e u (9 ∷ 102 ∷ 105 ∷ 114 ∷ 115 ∷ 116 ∷ 10 ∷ []) f v → Puts a at (coverLine kind n) f v
+pub cover-put : (kind : Kind) (n : ℕ) {x at r s t u v : ℕ} {a b c d e f : List ℕ} → Puts a at (99 ∷ 111 ∷ 118 ∷ 101 ∷ 114 ∷ 9 ∷ []) b r
+    → Puts b r (decimal n) c s → Puts c s (9 ∷ []) d t → x ≡ letterOf kind → Puts d t (x ∷ []) e u
+    → Puts e u (9 ∷ 102 ∷ 105 ∷ 114 ∷ 115 ∷ 116 ∷ 10 ∷ []) f v → Puts a at (coverLine kind n) f v
 unfolding coverLine
 cover-put kind n p q r l s t = puts-then p (puts-then q (puts-then r (puts-then (rw l at s) t)))
 
@@ -142,8 +143,8 @@ unfolding maskLines
 mask-put n word h p = rw (ne-eqb word 0 h) p
 
 -- the lines of a sheet
-pub text-put : (kind : Kind) (n word : ℕ) (rows : List ℕ) {at r s t u : ℕ} {a b c d e : List ℕ} → Puts a at (coverLine kind n) b r → Puts b r (maskLines n word) c s
-    → Puts c s (rowLines n rows) d t → Puts d t (101 ∷ 110 ∷ 100 ∷ 10 ∷ []) e u → Puts a at (sheetText kind n word rows) e u
+pub text-put : (kind : Kind) (n word : ℕ) (rows : List ℕ) {at r s t u : ℕ} {a b c d e : List ℕ} → Puts a at (coverLine kind n) b r
+    → Puts b r (maskLines n word) c s → Puts c s (rowLines n rows) d t → Puts d t (101 ∷ 110 ∷ 100 ∷ 10 ∷ []) e u → Puts a at (sheetText kind n word rows) e u
 unfolding sheetText
 text-put kind n word rows p q r s = puts-then p (puts-then q (puts-then r s))
 

@@ -89,5 +89,6 @@ module _ (plate : Plate) (p : IsPrepared plate) where
   pub rested-words : (w : ℕ) → (IsWord plate w → IsWord restedPlate w) × (IsWord restedPlate w → IsWord plate w)
   rested-words w = (
     word-code plate w,
-    λ g. subst (IsWord plate) (xor-assoc w (restOf plate) (restOf plate) ∙ ap (bitXor w) (xor-self (restOf plate)) ∙ xor-zero-r w) (code-word plate (bitXor w (restOf plate)) g),
+    λ g. subst (IsWord plate) (xor-assoc w (restOf plate) (restOf plate) ∙ ap (bitXor w) (xor-self (restOf plate)) ∙ xor-zero-r w)
+        (code-word plate (bitXor w (restOf plate)) g),
   )

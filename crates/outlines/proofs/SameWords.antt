@@ -35,7 +35,8 @@ use Rattle.words.specs.Sum.{IsSum}
 pub sheet-read : (plate : Plate) → IsPrepared plate → reading (sheetOf plate) ≡ says (canonical G (plate .n) (restOf plate) (rowsOf plate))
 sheet-read plate p =
     let s = sound p in
-    read-back G (plate .n) (restOf plate) (rowsOf plate) (s .positive) (s .short) (rows-few p) (rest-below plate p (plate .mask) (s .masked)) (rows-below plate p)
+    read-back G (plate .n) (restOf plate) (rowsOf plate) (s .positive) (s .short) (rows-few p) (rest-below plate p (plate .mask) (s .masked))
+    (rows-below plate p)
 
 -- whose preparing gives the plate again, with that mask
 pub sheet-prepares : (plate : Plate) (p : IsPrepared plate)

@@ -1,3 +1,4 @@
 pub mod Inputs
 pub mod LinesPrinted
 pub mod RunEnds
+pub mod TextsSaid
