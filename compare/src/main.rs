@@ -29,6 +29,7 @@ mod sheets;
 mod small;
 mod tally;
 mod trellis;
+mod verbs;
 mod words;
 mod worked;
 #[cfg(linked)]
@@ -50,6 +51,7 @@ const USAGE: &str =
   --times N         N times as many random inputs; with 0 neither these nor every small matrix
   --calls N         go on with more random inputs until N calls agree
   --seed N          other random inputs
+  --verb VERB INTO FILE ..   (alone) what the model says that a verb of yendrufal prints of each file, into a folder
   --through ..      ask the library through a bridge that this command starts (last on the line)";
 
 struct Wanted {
@@ -150,6 +152,11 @@ fn compare(library: Library, wanted: &Wanted) {
 }
 
 fn main() {
+    // --verb VERB INTO FILE ..: what the model says that the verb prints of each file
+    let words: Vec<String> = std::env::args().skip(1).collect();
+    if words.len() > 3 && words[0] == "--verb" {
+        return verbs::run(&words[1], &words[3..], &words[2]);
+    }
     let wanted = wanted();
     let macros = wanted.macros.as_ref().unwrap_or_else(|| usage());
     header::load(&std::fs::read_to_string(macros).expect("the macros are there"));

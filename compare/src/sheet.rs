@@ -31,9 +31,11 @@ struct Block {
     samples: Vec<i16>,
 }
 
-struct Sheet {
+pub struct Sheet {
     first: bool,
-    plate: Plate,
+    pub kind: Kind,
+    pub rows: Vec<u64>,
+    pub plate: Plate,
     blocks: Vec<Block>,
 }
 
@@ -173,7 +175,7 @@ fn body(lines: &[&str], unended: bool, cover: &Cover) -> Result<Body, Refusal> {
     Ok(Body { mask, rows, blocks })
 }
 
-fn read(bytes: &[u8]) -> Result<Sheet, Refusal> {
+pub fn read(bytes: &[u8]) -> Result<Sheet, Refusal> {
     if bytes.len() > SHEET_MOST {
         return refuse(15, 0);
     }
@@ -187,7 +189,7 @@ fn read(bytes: &[u8]) -> Result<Sheet, Refusal> {
     }
     let Body { mask, rows, blocks } = body(&lines, unended, &cover)?;
     let plate = prepare_masked(cover.n as u64, cover.kind, &rows, mask)?;
-    Ok(Sheet { first: cover.first, plate, blocks })
+    Ok(Sheet { first: cover.first, kind: cover.kind, rows, plate, blocks })
 }
 
 /// The word as it is handed to the listing line, which prints position 0 at the left: under `last` position n-1 is to stand there.

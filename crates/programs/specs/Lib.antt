@@ -1,3 +1,4 @@
 pub mod Input
 pub mod Printing
 pub mod Ending
+pub mod Verbs

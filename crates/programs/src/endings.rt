@@ -102,6 +102,14 @@ pub fn fault(what: &[u8]) -> i32
     2
 }
 
+// The exit status where a file cannot be read, whose name and reason are said.
+pub fn file_fault(name: &[u8], file: &[u8]) -> i32
+    ensures { λ r. ⌜ r ≡ pos 2 ⌝ }
+{
+    say(name);
+    fault(file)
+}
+
 // The exit status where the program was not started as it is to be.
 pub fn usage(words: &[u8]) -> i32
     ensures { λ r. ⌜ r ≡ pos 2 ⌝ }

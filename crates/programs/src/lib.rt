@@ -1,9 +1,12 @@
-// The programs trellis and plate_weights. Each is an exported function that the linker makes C's main: what it returns is the exit status.
+// The programs trellis, plate_weights and yendrufal. Each is an exported function that the linker makes C's main: what it returns is the exit status.
 ghost use Rattle.programs.specs.Ending.{IsStatus};
 
 mod endings;
 mod listing;
+mod outlining;
+mod refusing;
 mod streams;
+mod verbs;
 mod weighing;
 mod writer;
 
@@ -47,4 +50,12 @@ pub extern "C" fn plate_weights_main() -> i32
         b"plate_weights: ",
         b"plate_weights: standard output",
     )
+}
+
+// Prints what a verb says of a file, which its arguments name.
+#[no_mangle]
+pub extern "C" fn yendrufal_main() -> i32
+    ensures { λ r. ⌜ IsStatus r ⌝ }
+{
+    verbs::run()
 }

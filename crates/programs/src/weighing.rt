@@ -1,5 +1,6 @@
 // The weights of an input's plate, line by line to standard output.
 use crate::endings::Ending;
+use crate::refusing;
 use crate::writer;
 use crate::writer::Handed;
 use crate::writer::Sent;
@@ -46,16 +47,8 @@ fn make_last(counted: Counted, room: &mut [u8]) -> Written {
     match counted {
         Counted::Least(weight) => listings::write_least(weight as u64, room),
         Counted::OnlyZero => listings::write_no_least(room),
-        Counted::Refused(refusal) => make_refused(refusal, room),
+        Counted::Refused(refusal) => refusing::make_refused(refusal, room),
     }
-}
-
-// Makes the line of a refusal.
-fn make_refused(refusal: Refusal, room: &mut [u8]) -> Written {
-    let number = plates::refusal_number(refusal);
-    let place = plates::refusal_place(refusal) as u64;
-    let field = plates::refusal_field(refusal) as u64;
-    listings::write_refused(number, place, field, room)
 }
 
 // Prints the weights and the last line.
@@ -82,15 +75,6 @@ fn ending_of(counted: Counted, handed: Handed) -> Ending {
     }
 }
 
-// Prints a refusal, which has no weights.
-fn print_refused(refusal: Refusal) -> Ending {
-    let mut room = [0; 256];
-    let counted = Counted::Refused(refusal);
-    let written = make_last(counted, &mut room);
-    let handed = hand_made(writer::none(), written, &room);
-    ending_of(counted, handed)
-}
-
 // Counts the weights of a plate and prints them. The working room is enough for profile entries up to 5.
 fn print_plate(plate: Plate) -> Ending {
     let mut working = [0; 4160];
@@ -99,8 +83,41 @@ fn print_plate(plate: Plate) -> Ending {
     match counted {
         Counted::Least(_) => print_counts(counted, &counts),
         Counted::OnlyZero => print_counts(counted, &counts),
-        Counted::Refused(refusal) => print_refused(refusal),
+        Counted::Refused(refusal) => refusing::print_refused(refusal),
     }
+}
+
+// Counts the weights of a plate that has more than 5 live rows somewhere, and prints them. The working room is enough for every plate.
+fn print_wide_plate(plate: Plate) -> Ending {
+    let mut working = [0; 532480];
+    let mut counts = [0; 65];
+    let counted = weights::count_weights(plate, &mut counts, &mut working);
+    match counted {
+        Counted::Least(_) => print_counts(counted, &counts),
+        Counted::OnlyZero => print_counts(counted, &counts),
+        Counted::Refused(refusal) => refusing::print_refused(refusal),
+    }
+}
+
+// As `print_plate`, with the larger room where the small one is too short: it takes 4 MiB of stack, which few plates ask for.
+fn print_any_plate(plate: Plate) -> Ending {
+    let mut working = [0; 4160];
+    let mut counts = [0; 65];
+    let counted = weights::count_weights(plate, &mut counts, &mut working);
+    match counted {
+        Counted::Least(_) => print_counts(counted, &counts),
+        Counted::OnlyZero => print_counts(counted, &counts),
+        Counted::Refused(refusal) => print_again(plate, refusal),
+    }
+}
+
+// Counts once more where the room was too short.
+fn print_again(plate: Plate, refusal: Refusal) -> Ending {
+    let number = plates::refusal_number(refusal);
+    if number == 8 {
+        return print_wide_plate(plate);
+    }
+    refusing::print_refused(refusal)
 }
 
 // Prints what was counted.
@@ -115,8 +132,22 @@ pub fn print_input(input: &[u8]) -> Ending {
     let report = reports::open(input);
     let stage = report.stage;
     match stage {
-        Stage::Refused(refusal) => print_refused(refusal),
+        Stage::Refused(refusal) => refusing::print_refused(refusal),
         Stage::PlateLine => print_plate(report.plate),
+        Stage::ProfileLine => Ending::Unwritten,
+        Stage::BlockLines => Ending::Unwritten,
+        Stage::EndLine => Ending::Unwritten,
+        Stage::Done => Ending::Unwritten,
+    }
+}
+
+// As `print_input`, with room for every plate.
+pub fn print_every(input: &[u8]) -> Ending {
+    let report = reports::open(input);
+    let stage = report.stage;
+    match stage {
+        Stage::Refused(refusal) => refusing::print_refused(refusal),
+        Stage::PlateLine => print_any_plate(report.plate),
         Stage::ProfileLine => Ending::Unwritten,
         Stage::BlockLines => Ending::Unwritten,
         Stage::EndLine => Ending::Unwritten,

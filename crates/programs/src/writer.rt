@@ -2,7 +2,16 @@
 ghost use lib.ListN.{take};
 ghost use mathlib.Core.Path.{_≡_};
 ghost use Rattle.programs.specs.Printing.{Hands, IsLine};
+ghost use Rattle.programs.specs.Verbs.{IsText};
+ghost use Rattle.reports.specs.Report.{lineOfRefusal};
 use libc::STDOUT_FILENO;
+use plates::Refusal;
+
+// What a text that is handed over whole says of an input: its plate as a sheet, or the dual's.
+pub enum Text {
+    Sheet,
+    Dual,
+}
 
 // How many lines standard output has taken.
 pub struct Sent {
@@ -52,6 +61,22 @@ pub fn hand_line(sent: Sent, input: &[u8], room: &[u8], size: usize) -> Handed
 
 // Hands over a line of the weights.
 pub fn hand_weighed(sent: Sent, room: &[u8], size: usize) -> Handed
+    ensures { λ r. ⌜ Hands sent r ⌝ }
+{
+    hand(sent, room, size)
+}
+
+// Hands over a text whole: it asks for what the input is to print.
+pub fn hand_text(sent: Sent, what: Text, input: &[u8], room: &[u8], size: usize) -> Handed
+    requires { ⌜ IsText what (now input) (take size (now room)) ⌝ }
+    ensures { λ r. ⌜ Hands sent r ⌝ }
+{
+    hand(sent, room, size)
+}
+
+// Hands over the line of a refusal.
+pub fn hand_refusal(sent: Sent, refusal: Refusal, room: &[u8], size: usize) -> Handed
+    requires { ⌜ take size (now room) ≡ lineOfRefusal refusal ⌝ }
     ensures { λ r. ⌜ Hands sent r ⌝ }
 {
     hand(sent, room, size)

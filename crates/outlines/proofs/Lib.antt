@@ -1,0 +1,9 @@
+pub mod Putting
+pub mod Openings
+pub mod Fitting
+pub mod Replying
+pub mod ReadBack
+pub mod RestTells
+pub mod SameWords
+pub mod Determined
+pub mod Enough
