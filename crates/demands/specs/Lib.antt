@@ -4,3 +4,4 @@ pub mod Masks
 pub mod Unmasked
 pub mod Examples
 pub mod AlistFaults
+pub mod Requests
