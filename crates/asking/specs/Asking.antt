@@ -1,6 +1,6 @@
 -- Why not this word: the four reasons, and what the call replies.
 use Prim.Native.Nat.{ℕ, _≤_, _<_}
-use lib.IntN.{ℤ, _-ℤ_}
+use lib.IntN.{_-ℤ_, pos, ℤ}
 use lib.Signed.{_<ℤ_}
 use mathlib.Core.List.{List}
 use mathlib.Core.Path.{_≡_}
@@ -47,14 +47,47 @@ pub record LosesIn (C : ℕ → Type 0) (samples : List ℤ) (a : Answer) (w p :
   pub loses : Earlier (a .word) w
   pub at : p ≡ loses .place
 
+-- ---- the values of a reason
+
+-- which of the four it is
+pub data Which : Type 0 where
+  itself : Which
+  outside : Which
+  lower : Which
+  later : Which
+
+abbrev pub which : Reason → Which
+which Chosen = itself
+which (NoCodeword p) = outside
+which (ScoresLess difference) = lower
+which (TiesAndLoses p) = later
+
+-- the position that it tells: of a word that is no codeword the first at which none continues it, of a tie the first of difference; else 0
+abbrev pub position : Reason → ℕ
+position Chosen = 0
+position (NoCodeword p) = p
+position (ScoresLess difference) = 0
+position (TiesAndLoses p) = p
+
+-- the difference that it tells: of a word that scores less; else 0
+abbrev pub difference : Reason → ℤ
+difference Chosen = pos 0
+difference (NoCodeword p) = pos 0
+difference (ScoresLess d) = d
+difference (TiesAndLoses p) = pos 0
+
 -- ---- the reply
 
--- what each reason says of a word, where a is the answer of decoding
+-- what each of the four says of a word with its position or difference, where a is the answer of decoding
+abbrev pub HoldsIn : (ℕ → Type 0) → ℕ → List ℤ → Answer → ℕ → Which → ℕ → ℤ → Type 0
+HoldsIn C n samples a w itself p d = w ≡ a .word
+HoldsIn C n samples a w outside p d = NoCodewordIn C n w p
+HoldsIn C n samples a w lower p d = LessIn C samples a w d
+HoldsIn C n samples a w later p d = LosesIn C samples a w p
+
+-- the same of a reason, by its values
 abbrev pub ExplainsIn : (ℕ → Type 0) → ℕ → List ℤ → Answer → ℕ → Reason → Type 0
-ExplainsIn C n samples a w Chosen = w ≡ a .word
-ExplainsIn C n samples a w (NoCodeword p) = NoCodewordIn C n w p
-ExplainsIn C n samples a w (ScoresLess difference) = LessIn C samples a w difference
-ExplainsIn C n samples a w (TiesAndLoses p) = LosesIn C samples a w p
+ExplainsIn C n samples a w reason = HoldsIn C n samples a w (which reason) (position reason) (difference reason)
 
 -- the reason holds against the answer of decoding
 pub record ReasonedIn (C : ℕ → Type 0) (plate : Plate) (samples : List ℤ) (w : ℕ) (reason : Reason) : Type 0 where

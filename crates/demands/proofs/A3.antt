@@ -18,9 +18,10 @@ use Rattle.decoding.specs.declared.firmness.Judged.{Judged}
 use Rattle.decoding.specs.declared.firmness.Judged.the-variants.{Found, Refused}
 use Rattle.decoding.specs.Decode.{Best, Decodes, decisionNeed, metricNeed}
 use Rattle.decoding.specs.Firmness.{Agrees, Always, BestAmong, FlagOf, Judges, Margin, Means, firmnessConditions, isFixed, value}
-use Rattle.decoding.specs.Metric.{limit, metricOf}
+use Rattle.decoding.specs.Metric.{limit}
 use Rattle.demands.proofs.Demand1.{its-number}
 use Rattle.demands.specs.Refusing.{Numbered, RefusesExactly}
+use Rattle.demands.specs.Requests.{AsGood}
 use Rattle.plates.proofs.Refusing.{never-both}
 use Rattle.plates.specs.declared.Plate.{Plate}
 use Rattle.plates.specs.declared.Refusal.{Refusal}
@@ -115,13 +116,6 @@ module _ (plate : Plate) (samples : List ℤ) (position : ℕ) (metrics : List �
 -- what is no difference
 no-difference : (a b : ℤ) → a -ℤ b ≡ pos 0 → a ≡ b
 no-difference a b e = sym (-ℤ-+ℤ-cancel a b) ∙ ap (λ (x : ℤ). x +ℤ b) e ∙ +ℤ-idl b
-
--- a word with bit b at the position that scores as much as the answer
-pub record AsGood (plate : Plate) (samples : List ℤ) (a : Answer) (position b : ℕ) : Type 0 where
-  pub word : ℕ
-  pub codeword : IsWord plate word
-  pub has : bit word position ≡ b
-  pub metric : metricOf samples word ≡ a .metric
 
 module _ (plate : Plate) (samples : List ℤ) (position : ℕ) (a : Answer) (best : Best plate samples a) where
   -- the best with the answer's own bit scores as the answer does

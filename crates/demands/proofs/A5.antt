@@ -12,9 +12,10 @@ use native.Mathlib.Omega.{arith}
 use Prim.Native.Nat.{_+_, _-_, _<_, suc, zero, zero-le, ℕ, _≤_}
 use Rattle.decoding.specs.declared.Answer.{Answer}
 use Rattle.decoding.specs.declared.Decoded.{Decoded}
+use Rattle.demands.specs.Requests.{TallyTold}
 use Rattle.listings.specs.declared.Tally.{Tally}
 use Rattle.listings.specs.Decimal.{decimal, signed}
-use Rattle.listings.specs.Lines.{endLine, less, line, tallyLine, tallyName}
+use Rattle.listings.specs.Lines.{less, line, tallyLine, tallyName}
 use Rattle.plates.proofs.PrepareDetermined.{prepare-determined}
 use Rattle.plates.specs.declared.Plate.{Plate}
 use Rattle.plates.specs.declared.Prepared.{Prepared}
@@ -225,15 +226,6 @@ lines-before order plate reference (h ∷ hs) rest =
     ap (λ (ls : List (List ℕ)). lineOfHeard order plate reference (h .counter) (h .reply) ∷ ls)
     (lines-before order plate (referenceOf reference (h .counter) (h .reply)) hs rest)
 
--- what a listing of heard lines ends with: the tally of its lines, and the number that `end` prints
-pub record TallyTold (sheet : Contents) (plate : Plate) (lines : List (List ℕ)) : Type 0 where
-  pub replies : List Decoded
-  pub answered : BlockAnswers plate (sheet .blocks) replies
-  pub before : List (List ℕ)
-  pub are : let heards = heardsOf (sheet .counters) (sheet .blocks) replies in
-      lines ≡ before ++ (tallyLine (tallyOf heards) ∷ endLine (length (sheet .blocks)) ∷ [])
-  pub together : let t = tallyOf (heardsOf (sheet .counters) (sheet .blocks) replies) in t .decoded + t .refused + t .repeated ≡ length (sheet .blocks)
-
 module _ (sheet : Contents) (plate : Plate) (as-many : length (sheet .counters) ≡ length (sheet .blocks)) where
   told-by : (lines : List (List ℕ)) → HeardsReport (sheet .order) plate (length (sheet .blocks)) atFirst (sheet .counters) (sheet .blocks) lines
       → TallyTold sheet plate lines
@@ -249,19 +241,24 @@ module _ (sheet : Contents) (plate : Plate) (as-many : length (sheet .counters) 
       }
 
   -- past the plate's and the profile's line
-  told-after : (lines : List (List ℕ)) → sheet .heard ≡ true → PreparedReports J.Accepted plate sheet lines
-      → (rest : List (List ℕ)) × TallyTold sheet plate rest
+  told-after : (lines : List (List ℕ)) → sheet .heard ≡ true → PreparedReports J.Accepted plate sheet lines → TallyTold sheet plate lines
   told-after [] e x = absurd x
   told-after (k ∷ []) e x = absurd (x .1)
   told-after (k ∷ l ∷ ls) e x =
       let h = subst (λ (b : Bool). LinesReport b (sheet .order) plate (length (sheet .blocks)) atFirst (sheet .counters) (sheet .blocks) ls) e (x .1 .1) in
-      (ls, told-by ls h)
+      let t = told-by ls h in record {
+        replies = t .replies;
+        answered = t .answered;
+        before = k ∷ l ∷ t .before;
+        are = ap (λ (r : List (List ℕ)). k ∷ l ∷ r) (t .are);
+        together = t .together;
+      }
 
 -- the listing of an input that is a sheet of heard lines whose matrix is accepted: decoded, refused and repeated lines together are the number
 -- that `end` prints
 pub tally-of-bytes : (input : List ℕ) (lines : List (List ℕ)) → Reports input lines → (sheet : Contents) → reading input ≡ says sheet → sheet .heard ≡ true
     → (prepared : Prepared) → Prepares (sheet .n) (sheet .kind) (sheet .rows) (sheet .mask) prepared → prepared .verdict ≡ J.Accepted
-    → (rest : List (List ℕ)) × TallyTold sheet (prepared .plate) rest
+    → TallyTold sheet (prepared .plate) lines
 tally-of-bytes input lines r sheet e heard prepared p a =
     let x : SheetReports sheet lines = subst (λ (found : Reading). ReportsAs found lines) e (r .is) in
     let d = prepare-determined (sheet .n) (sheet .kind) (sheet .rows) (sheet .mask) (x .prepared) prepared (x .prepares) p in

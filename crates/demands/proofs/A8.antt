@@ -13,7 +13,7 @@ use Prim.Native.Nat.{_*_, _<_, ℕ, _≤_}
 use Rattle.decoding.proofs.FirmnessMargin.{margin-bounds}
 use Rattle.decoding.proofs.MetricBounds.{metric-within}
 use Rattle.decoding.proofs.SampleLimits.{none-over, samples-are-n}
-use Rattle.decoding.specs.Apart.{Chooses, Measures}
+use Rattle.decoding.specs.Apart.{Measures}
 use Rattle.decoding.specs.declared.Answer.{Answer}
 use Rattle.decoding.specs.declared.apart.Measure.{Measure}
 use Rattle.decoding.specs.declared.firmness.Flag.{Flag}
@@ -24,8 +24,9 @@ use Rattle.plates.proofs.SoundIsPrepared.{sound}
 use Rattle.plates.specs.declared.Plate.{Plate}
 use Rattle.plates.specs.declared.Refusal.{Refusal}
 use Rattle.plates.specs.declared.Refusal.the-variants.{NotPrepared, SampleRange}
-use Rattle.plates.specs.Prepare.{notPrepared}
+use Rattle.plates.specs.Prepare.{IsPrepared, notPrepared}
 use Rattle.plates.specs.Refusals.{number, place}
+use Rattle.reports.specs.Report.{BlockAnswer}
 use Rattle.decoding.specs.declared.apart.Measured.the-variants as M
 use Rattle.decoding.specs.declared.Decoded.the-variants as D
 use Rattle.decoding.specs.declared.firmness.Judged.the-variants as J
@@ -75,6 +76,12 @@ pub measured-metric-bound : (plate : Plate) (samples metrics metrics′ : List �
     → natAbs (m .metric) ≤ 131008
 measured-metric-bound plate samples metrics metrics′ m d =
     omega (arith, ap natAbs (d .1 .metric), metric-bound plate samples (d .0 .0) (d .0 .1 .0) (d .0 .1 .1 .0) (d .1 .word))
+
+-- what a listing prints of a block or heard line, over a prepared plate
+pub listed-metric-bound : (plate : Plate) → IsPrepared plate → (samples : List ℤ) (a : Answer) → BlockAnswer plate samples (D.Found a)
+    → natAbs (a .metric) ≤ 131008
+listed-metric-bound plate given samples a x =
+    omega (arith, ap natAbs (x .1 .metric), metric-bound plate samples (λ q c. c .0 given) (x .0 .0) (x .0 .1 .0) (a .word))
 
 -- ---- A3's margins
 

@@ -6,3 +6,4 @@ pub mod Unmasked
 pub mod Accepted
 pub mod Examples
 pub mod AlistFaults
+pub mod Requests

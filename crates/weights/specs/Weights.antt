@@ -1,6 +1,7 @@
 -- The weights of a plate, and what counting them replies and leaves in the lent rooms.
 use lib.Count.{ones}
 use lib.ListN.{drop, getD, length, replicate}
+use mathlib.Core.Bool.{Bool, false, true}
 use mathlib.Core.List.{List, [], _++_, _∷_}
 use mathlib.Core.Logic.{_⊎_}
 use mathlib.Core.Path.{_≡_}
@@ -60,12 +61,29 @@ pub record Filled (plate : Plate) (counts working counts′ working′ : List �
   pub behind : (i : ℕ) → 65 ≤ i → getD counts′ i 0 ≡ getD counts i 0
   pub zeroed : working′ ≡ replicate (workingNeed plate) 0 ++ drop (workingNeed plate) working
 
+-- ---- the values of a reply that counted: whether it says that there is no weight above zero, and the smallest one where there is
+
+abbrev pub saysNone : Counted → Bool
+saysNone (Least w) = false
+saysNone OnlyZero = true
+saysNone (Refused q) = true
+
+abbrev pub leastSaid : Counted → ℕ
+leastSaid (Least w) = w
+leastSaid OnlyZero = 0
+leastSaid (Refused q) = 0
+
+-- none is said where k is 0, and else the smallest weight above zero
+abbrev pub LeastIs : Plate → Bool → ℕ → Type 0
+LeastIs plate true w = plate .k ≡ 0
+LeastIs plate false w = LeastWeight plate w
+
 -- What counting replies: the first refusal in order, with both rooms unchanged; or the smallest weight above zero; or, where k is 0,
 -- that there is none
 abbrev pub CountsWeights : Plate → List ℕ → List ℕ → List ℕ → List ℕ → Counted → Type 0
 CountsWeights plate counts working counts′ working′ (Refused q) =
     Refuses (weightConditions plate counts working) q × (counts′ ≡ counts) × (working′ ≡ working)
 CountsWeights plate counts working counts′ working′ (Least w) =
-    Passes (weightConditions plate counts working) × LeastWeight plate w × Filled plate counts working counts′ working′
+    Passes (weightConditions plate counts working) × LeastIs plate (saysNone (Least w)) (leastSaid (Least w)) × Filled plate counts working counts′ working′
 CountsWeights plate counts working counts′ working′ OnlyZero =
-    Passes (weightConditions plate counts working) × (plate .k ≡ 0) × Filled plate counts working counts′ working′
+    Passes (weightConditions plate counts working) × LeastIs plate (saysNone OnlyZero) (leastSaid OnlyZero) × Filled plate counts working counts′ working′
