@@ -4,10 +4,16 @@ use Rattle.coding.proofs.CodingCalls.{encode-refused, encoded, over-ref
 use Rattle.coding.proofs.encode_parts.Statement.{statement}
 use Rattle.coding.proofs.encode_parts.Tie as tie
 
+returns-2 : tie.Need-returns-2
+returns-2 c = search over-refused
+
 sum-rows-requires : tie.Need-sum-rows-requires
 sum-rows-requires c κs =
     let test = c .before .before in
     (rows-long (test .before .parts-prepared .ensures) (test .if1 .left), rows-few (test .before .parts-prepared .ensures) (test .if1 .left))
+
+returns-3 : tie.Need-returns-3
+returns-3 c = search encoded
 
 pub encode-parts-spec : {M : Type 1} → statement M
 encode-parts-spec =
@@ -16,6 +22,6 @@ encode-parts-spec =
     (λ c κs. search needs)  -- parts_prepared
     (λ c. search encode-refused)  -- NotPrepared
     (λ c κs. search needs)  -- reaches
-    (λ c. search over-refused)  -- Information
+    returns-2
     sum-rows-requires
-    (λ c. search encoded))
+    returns-3)
