@@ -3,6 +3,8 @@
 
 mod codes;
 mod contestants;
+#[cfg(liquid)]
+mod liquid;
 #[allow(dead_code)]
 #[path = "../../compare/src/library.rs"]
 mod library;
@@ -17,6 +19,7 @@ use timing::{best, clock};
 
 const ROUNDS: usize = 30;
 const BLOCKS: usize = 16;
+const LARGEST: u64 = 2047; // the largest permitted sample
 const SEARCHED: u64 = 16; // the greatest k for which all codewords are searched
 
 /// The library's plate of a code with a mask, 0 for none.
@@ -45,7 +48,7 @@ fn blocks(n: usize, count: usize, size: u64) -> Vec<Vec<i16>> {
 /// All decoders must give the same answers, ties included, before any is timed.
 fn agree(plate: &[u64], n: usize) {
     let (metrics, decisions) = (&mut vec![0; 8192], &mut vec![0; 4096]);
-    for block in blocks(n, 8, 127).iter().chain(&blocks(n, 8, 1)) {
+    for block in blocks(n, 8, LARGEST).iter().chain(&blocks(n, 8, 1)) {
         let first = by_library(plate, block, metrics, decisions);
         for (name, decoder) in DECODERS {
             assert_eq!(decoder(plate, block, metrics, decisions), first, "{name}");
@@ -97,7 +100,7 @@ fn time_code(code: &Code, clock: f64) {
     println!("{}: k {}, m {widest}, {branches} branches", code.name, plate[1]);
     agree(&plate, code.n);
     agree(&masked, code.n);
-    let blocks = blocks(code.n, BLOCKS, 127);
+    let blocks = blocks(code.n, BLOCKS, LARGEST);
     let times = (20_000 / branches as usize).max(1);
     let (least, with_mask) = (time_decoders(&plate, &blocks, times), time_decoders(&masked, &blocks, times));
     let tested = best(ROUNDS, || (0..100).for_each(|_| plate_test(black_box(&plate)))) / 100.0;
@@ -107,6 +110,10 @@ fn time_code(code: &Code, clock: f64) {
     }
     row("library, with a mask", with_mask[0], least[0], per_branch(with_mask[0]));
     row("library less its plate test", least[0] - tested, least[0], per_branch(least[0] - tested));
+    #[cfg(liquid)]
+    if code.n == 8 {
+        row("liquid-dsp, its (8,4) code", liquid::time(&blocks, times * ROUNDS), least[0], None);
+    }
     if plate[1] <= SEARCHED {
         let search = || _ = black_box(exhaustive(&plate, black_box(&blocks[0])));
         row("exhaustive search, Rust -O", best(3, search), least[0], None);

@@ -1,5 +1,6 @@
 -- A section as the code finds it, row by row: from the counts of zeros at either end of a row, with a 64-bit column.
 use borrow.Author.Tests.{le-leb, lt-leb}
+use lib.Bits.{bitOr, or-shifted}
 use lib.Count.{trailing-of-zero}
 use lib.Dec.{eqb, leb, ltb}
 use lib.ListN.{drop, getD, length}
@@ -49,6 +50,11 @@ held-same c h = ap (withColumn c) (mod-eq-of-lt h)
 doubled-mod : (x d : ℕ) → d < 2 → (x * 2 + d) % 2 ^ 64 ≡ x * 2 % 2 ^ 64 + d
 doubled-mod x d h = omega (arith, mod-digit (x * 2 + d) 63, mod-digit (x * 2) 63)
 
+pub appended : (x d : ℕ) → d < 2 → bitOr (x * 2 % 2 ^ 64) d ≡ (x * 2 + d) % 2 ^ 64
+appended x d h =
+    let even : x * 2 % 2 ^ 64 ≡ x % 2 ^ 63 * 2 ^ 1 = omega (arith, mod-digit (x * 2) 63) in
+    ap (λ (y : ℕ). bitOr y d) even ∙ or-shifted (x % 2 ^ 63) 1 d h ∙ ap (λ (y : ℕ). y + d) (sym even) ∙ sym (doubled-mod x d h)
+
 -- ---- one more row
 
 module _ (t row : ℕ) (c : Section) (room : HasRoom t c) (word : row < 2 ^ 64) (f : ℕ) (is-first : FirstOne row f) where
@@ -68,12 +74,12 @@ module _ (t row : ℕ) (c : Section) (room : HasRoom t c) (word : row < 2 ^ 64) 
         rw (lt-leb t (last row) (omega (arith, last-word)), and-false (leb (first row) t)) (sym (held-same c (room .column)))
 
     -- it is active
-    pub held-active : t ≤ l → {live′ ending′ : ℕ} {begins′ ends′ : Bool} → live′ ≡ cond (ltb f t) (c .live + 1) (c .live)
+    pub held-active : t ≤ l → {digit live′ ending′ : ℕ} {begins′ ends′ : Bool} → digit ≡ bit row t → live′ ≡ cond (ltb f t) (c .live + 1) (c .live)
         → begins′ ≡ (eqb f t || c .begins) → ends′ ≡ (eqb l t || c .ends) → ending′ ≡ cond (eqb l t) 0 (c .ending + 1)
-        → _≡_ {A = Section} (record { live = live′; begins = begins′; ends = ends′; ending = ending′; column = c .column * 2 % 2 ^ 64 + row / 2 ^ t % 2 })
+        → _≡_ {A = Section} (record { live = live′; begins = begins′; ends = ends′; ending = ending′; column = bitOr (c .column * 2 % 2 ^ 64) digit })
         (held (withRow t row c))
     unfolding withRow withActive
-    held-active h {live′ = live′} {ending′ = ending′} a b d e =
+    held-active h {digit = digit} {live′ = live′} {ending′ = ending′} g a b d e =
         rw (le-leb (first row) t (omega (arith, first-word row f word is-first)), le-leb t (last row) (omega (arith, last-word)), ← (first-word row f word is-first), ← last-word)
         (λ i. record { live = lives i; begins = b i; ends = d i; ending = endings i; column = columns i })
       where
@@ -87,8 +93,8 @@ module _ (t row : ℕ) (c : Section) (room : HasRoom t c) (word : row < 2 ^ 64) 
         endings : ending′ ≡ cond (eqb l t) 0 (suc (c .ending))
         endings = e ∙ ap (cond (eqb l t) 0) (add-one (c .ending))
 
-        columns : c .column * 2 % 2 ^ 64 + row / 2 ^ t % 2 ≡ (c .column * 2 + bit row t) % 2 ^ 64
-        columns = ap (λ (d : ℕ). c .column * 2 % 2 ^ 64 + d) (sym (bit-div t row)) ∙ sym (doubled-mod (c .column) (bit row t) (bit-lt t row))
+        columns : bitOr (c .column * 2 % 2 ^ 64) digit ≡ (c .column * 2 + bit row t) % 2 ^ 64
+        columns = ap (bitOr (c .column * 2 % 2 ^ 64)) g ∙ appended (c .column) (bit row t) (bit-lt t row)
 
 -- ---- all rows
 

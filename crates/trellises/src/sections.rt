@@ -31,8 +31,7 @@ fn with_row(section: Section, row: u64, t: usize) -> Section
     if last < t {
         return section;
     }
-    let digit = (row >> t) % 2;
-    let column = (section.column << 1) + digit;
+    let column = (section.column << 1) | words::bit_at(row, t);
     Section {
         live: choose(first < t, section.live + 1, section.live),
         begins: either(first == t, section.begins),

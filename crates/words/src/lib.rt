@@ -9,7 +9,7 @@ pub fn bit_at(word: u64, position: usize) -> u64
     ensures { λ r. ⌜ r ≡ bit word position ⌝ }
 {
     if position < 64 {
-        return (word >> position) % 2;
+        return (word >> position) & 1;
     }
     0
 }

@@ -1,7 +1,8 @@
 -- `words::bit_at` meets its contract.
 use borrow.Author.Needs.{needs}
-use Prim.Native.Nat.{_≤_}
-use mathlib.Core.Path.{sym}
+use Prim.Native.Nat.{_/_, _^_, _≤_}
+use lib.Bits.{and-mask}
+use mathlib.Core.Path.{sym, _∙_}
 use Rattle.words.proofs.Word.{bit-div, bits-below}
 use Rattle.words.proofs.bit_at.Statement.{statement}
 use Rattle.words.proofs.bit_at.Tie as tie
@@ -10,7 +11,7 @@ shr-result : tie.Need-shr-result
 shr-result c = search needs
 
 returns : tie.Need-returns
-returns c = sym (bit-div _ _)
+returns c = let a = c .before .args in and-mask (a .word / 2 ^ a .position) 1 ∙ sym (bit-div (a .position) (a .word))
 
 returns-2 : tie.Need-returns-2
 returns-2 c =

@@ -21,11 +21,8 @@ returns-2 c =
     held-late (s .args .t) (s .args .row) (s .args .section) (s .pre) (s .fits .row .fits) (c .before .before .before .first-one .result)
     (c .before .before .before .first-one .ensures) (c .before .before .if1 .left) (c .before .last-one .result) (c .before .last-one .ensures) (c .if2 .taken)
 
-shr-digit : tie.Need-shr-digit
-shr-digit c = search needs
-
-add-column : tie.Need-add-column
-add-column c = search needs
+bit-at-requires : tie.Need-bit-at-requires
+bit-at-requires c κs = search needs
 
 add-choose : tie.Need-add-choose
 add-choose c = search needs
@@ -47,11 +44,12 @@ choose-requires-2 c κs = search needs
 
 returns-3 : tie.Need-returns-3
 returns-3 c =
-    let n = c .before .before .before .before .before .before .before in
+    let bit = c .before .before .before .before .before .before in
+    let n = bit .before .before in
     let s = n .before .before .before .before in
     held-active (s .args .t) (s .args .row) (s .args .section) (s .pre) (s .fits .row .fits) (n .before .before .before .first-one .result)
     (n .before .before .before .first-one .ensures) (n .before .before .if1 .left) (n .before .last-one .result) (n .before .last-one .ensures) (n .if2 .left)
-    (c .before .before .before .before .choose .ensures) (c .before .before .before .either .ensures) (c .before .before .either2 .ensures) (c .choose2 .ensures)
+    (bit .bit-at .ensures) (c .before .before .before .before .choose .ensures) (c .before .before .before .either .ensures) (c .before .before .either2 .ensures) (c .choose2 .ensures)
 
 pub with-row-spec : {M : Type 1} → statement M
 with-row-spec =
@@ -61,8 +59,7 @@ with-row-spec =
     returns
     last-one-requires
     returns-2
-    shr-digit
-    add-column
+    bit-at-requires
     add-choose
     choose-requires
     either-requires
