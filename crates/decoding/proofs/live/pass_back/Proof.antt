@@ -1,12 +1,12 @@
 -- `decoding::live::pass_back` meets its contract: the row that ends joins the live rows, and the row that begins leaves them.
 use borrow.Author.Needs.{needs}
 use lib.ListN.{take}
-use mathlib.Core.Path.{_≡_, _∙_, sym}
+use mathlib.Core.Path.{_≡_}
 use native.Mathlib.Omega.{arith}
 use Prim.Native.Nat.{suc, _+_}
 use Rattle.decoding.proofs.BegunRows.{begun-few}
-use Rattle.decoding.proofs.PassedBack.{all-active, before-few, last-begins, last-there, passed-back}
-use Rattle.decoding.proofs.PassedRows.{active-fits, counted, ending-few, ending-joins, row-first}
+use Rattle.decoding.proofs.PassedBack.{all-active, before-few, passed-back}
+use Rattle.decoding.proofs.PassedRows.{active-fits, counted, ending-few, ending-joins}
 use Rattle.decoding.specs.LiveRows.{LiveAt, activeMarks}
 use Rattle.decoding.proofs.live.pass_back.Statement.{statement}
 use Rattle.decoding.proofs.live.pass_back.Tie as tie
@@ -32,12 +32,7 @@ rows-before-requires c κs =
     let s = c .before .before .before .before in
     let p = s .pre .0 in
     let b = s .pre .1 .1 .1 .next-is in
-    let e = joined (c .before) in (
-      p .table,
-      omega (arith, b, begun-few (suc (s .args .t)) (take (s .args .k) (s .args .rows .now)), counted p, p .few),
-      λ j f q first h.
-          omega (arith, last-begins p (s .args .t) e b q (sym (row-first p j (last-there p (s .args .t) e b q) first) ∙ h)),
-    )
+    (p .table, omega (arith, b, begun-few (suc (s .args .t)) (take (s .args .k) (s .args .rows .now)), counted p, p .few))
 
 -- those of them that are live before it
 before : (c : tie.After-rows-before)

@@ -6,7 +6,6 @@ use native.Mathlib.Omega.{arith}
 use Prim.Native.Nat.{suc, _-_, ℕ}
 use Rattle.decoding.proofs.PassedBack.{before-all, before-last, last-there}
 use Rattle.decoding.proofs.PassedRows.{row-first}
-use Rattle.trellises.proofs.AmongRows.{shifted-one}
 use Rattle.words.specs.Ends.{firsts}
 use Rattle.decoding.proofs.live.rows_before.Statement.{statement}
 use Rattle.decoding.proofs.live.rows_before.Tie as tie
@@ -32,11 +31,6 @@ one-more c = omega (arith, c .before .before .if1 .left)
 
 shl-t12 : tie.Need-shl-t12
 shl-t12 c = let s = c .before .before .before .before .before in omega (arith, one-more (c .before), s .pre .1)
-
-sub-t13 : tie.Need-sub-t13
-sub-t13 c =
-    let s = c .before .before .before .before .before in
-    omega (arith, s .pre .2 (s .args .next - 1) _ (one-more (c .before)) (c .before .first-one .ensures) (c .if2 .taken), shifted-one (s .args .next - 1) (omega (arith, one-more (c .before), s .pre .1)))
 
 returns-2 : tie.Need-returns-2
 returns-2 c =
@@ -64,6 +58,5 @@ rows-before-spec =
     shared-slice-read-first-one
     first-one-requires
     shl-t12
-    sub-t13
     returns-2
     returns-3)
