@@ -61,12 +61,12 @@ three-and-three i column l =
     ap (λ (x : ℕ). ones (bitAnd x (column / 8))) (sym f) ∙ block-ones 3 0 (i / 8) (column / 8) (omega arith) ∙ omega (arith, ones-none (column / 8 / 2 ^ 3)) in
     omega (arith, s, t)
 
-pub pattern-is : {column a b : ℕ} → LowPattern (column % 8) a → HighPattern (column / 8 % 8) b → Pattern column (bitXor a b)
-pattern-is {column} {a} {b} low high = record { bits = bits }
+pub pattern-is : {column d e a b : ℕ} → d ≡ column % 8 → e ≡ column / 8 % 8 → LowPattern d a → HighPattern e b → Pattern column (bitXor a b)
+pattern-is {column} {d} {e} {a} {b} ed ee low high = record { bits = bits }
   where
     bits : (i : ℕ) → i < 64 → bit (bitXor a b) i ≡ parity i column
     bits i l =
-        bit-xor i a b ∙ ap₂ differ (low .bits i l) (high .bits i l)
+        bit-xor i a b ∙ ap₂ differ (low .bits i l ∙ ap (parity (i % 8)) ed) (high .bits i l ∙ ap (parity (i / 8)) ee)
         ∙ differ-mod (parity (i % 8) (column % 8)) (parity (i / 8) (column / 8 % 8)) (omega arith) (omega arith)
         ∙ sym (three-and-three i column l)
 
