@@ -103,6 +103,9 @@ module _ (M : List ℤ) (from to : ℕ) (D : List ℕ) (c : Section) (y : ℤ) (
       others-all : (j : ℕ) → (j < to) ⊎ (to + 2 ^ c .live ≤ j) → getD M₁ j (pos 0) ≡ getD M j (pos 0)
       others-all j o = u .others j (⊎-elim (λ l. inl l) (λ l. inr (omega (arith, u .within))) o)
 
+      few : a * 64 ≤ 2 ^ 12
+      few = omega (arith, u .within, live-le c (h .section))
+
       -- what the next decision word asks
       pub block-fits : (w n : ℕ) → Pattern (c .column) w → n ≤ 64 → a * 64 + n ≤ 2 ^ c .live → BlockFits M₁ from to c y w a n k₁
       block-fits w n p l g = record {
@@ -110,8 +113,8 @@ module _ (M : List ℤ) (from to : ℕ) (D : List ℕ) (c : Section) (y : ℤ) (
         word = l;
         states = g;
         pattern = p;
-        additions = omega (arith, u .additions, h .additions, u .within, live-le c (h .section), times-le (a * 64) (2 ^ 12) (addsOf c) 2 (omega (arith, u .within, live-le c (h .section))) (adds-le c));
-        comparisons = omega (arith, u .comparisons, h .comparisons, u .within, live-le c (h .section), times-le (a * 64) (2 ^ 12) (comparesOf c) 1 (omega (arith, u .within, live-le c (h .section))) (compares-le c));
+        additions = omega (arith, u .additions, h .additions, times-le (a * 64) (2 ^ 12) (addsOf c) 2 few (adds-le c));
+        comparisons = omega (arith, u .comparisons, h .comparisons, times-le (a * 64) (2 ^ 12) (comparesOf c) 1 few (compares-le c));
       }
 
       -- that word done
@@ -200,8 +203,8 @@ pub record WordsDone (M : List ℤ) (from to : ℕ) (D : List ℕ) (c : Section)
   pub done : Upto M from to D c y k (at * 64) M₁ D₁ k₁
 
 -- the tables are filled
-pub fill-asks : {M : List ℤ} {from to : ℕ} {D : List ℕ} {c : Section} {y : ℤ} {k : Counts} → StepFits M from to D c y k → {signs ties : List ℤ} {weights : List ℕ}
-    → length signs ≡ 64 → length ties ≡ 64 → Weights weights → FillFits signs ties weights (kept y)
+pub fill-asks : {M : List ℤ} {from to : ℕ} {D : List ℕ} {c : Section} {y : ℤ} {k : Counts} → StepFits M from to D c y k
+    → {signs ties : List ℤ} {weights : List ℕ} → length signs ≡ 64 → length ties ≡ 64 → Weights weights → FillFits signs ties weights (kept y)
 fill-asks h s t m = rw (gain-kept h) (record { signs-size = s; ties-size = t; masks = m; gain = h .gain })
 
 module _ {M : List ℤ} {from to : ℕ} {D : List ℕ} {c : Section} {y : ℤ} {k : Counts} (wide : 6 ≤ c .live) (h : StepFits M from to D c y k) where
@@ -209,7 +212,8 @@ module _ {M : List ℤ} {from to : ℕ} {D : List ℕ} {c : Section} {y : ℤ} {
       → WordsDone M from to D c (kept y) words k 0 M D near far k
   words-none {words} e n f = record { count = word-count (c .live) words wide e; near-size = n; far-size = f; done = upto-none M from to D c (kept y) k }
 
-  module _ {words at : ℕ} {M₁ : List ℤ} {D₁ : List ℕ} {near far : List ℤ} {k₁ : Counts} (s : WordsDone M from to D c (kept y) words k at M₁ D₁ near far k₁) where
+  module _ {words at : ℕ} {M₁ : List ℤ} {D₁ : List ℕ} {near far : List ℤ} {k₁ : Counts}
+      (s : WordsDone M from to D c (kept y) words k at M₁ D₁ near far k₁) where
     pub words-all : words ≤ at → Stepped M from to D c y k M₁ D₁ k₁
     words-all l =
         let e : at * 64 ≡ 2 ^ c .live = omega (arith, s .count, s .done .within) in
@@ -224,8 +228,8 @@ module _ {M : List ℤ} {from to : ℕ} {D : List ℕ} {c : Section} {y : ℤ} {
       next-small = omega (arith, next-within, live-le c (h .section))
 
       -- v is the lower half of its pattern, by which the tables are filled
-      pub word-prepared : {w v : ℕ} → Pattern (c .column) w → v ≡ w % 2 ^ 32 → {weights : List ℕ} {signs ties : List ℤ} → Weights weights → Tables v (kept y) signs ties
-          → Prepared c (kept y) weights signs ties near far
+      pub word-prepared : {w v : ℕ} → Pattern (c .column) w → v ≡ w % 2 ^ 32 → {weights : List ℕ} {signs ties : List ℤ} → Weights weights
+          → Tables v (kept y) signs ties → Prepared c (kept y) weights signs ties near far
       word-prepared {w} {v} p e m t = record {
         wide = wide;
         masks = m;

@@ -49,8 +49,8 @@ module _ (M : List ℤ) (from to : ℕ) (c : Section) (y : ℤ) where
   }
 
   -- the states from i on are done, of n from lo on; then the d below them
-  module _ (ready : Ready M from to c y) (lo n : ℕ) (top : lo + n ≤ 2 ^ c .live) (k : Counts) (i d : ℕ) (g : d ≤ i) (l : i ≤ n) (M₁ : List ℤ) (v : ℕ) (k₁ : Counts)
-      (p : Part M from to c y (lo + i) (n - i) k M₁ (record { word = v; counts = k₁ })) where
+  module _ (ready : Ready M from to c y) (lo n : ℕ) (top : lo + n ≤ 2 ^ c .live) (k : Counts) (i d : ℕ) (g : d ≤ i) (l : i ≤ n)
+      (M₁ : List ℤ) (v : ℕ) (k₁ : Counts) (p : Part M from to c y (lo + i) (n - i) k M₁ (record { word = v; counts = k₁ })) where
     pub after-ready : Ready M₁ from to c y
     after-ready = still-ready M from to c y ready M₁ (p .size) (part-others M from to c y ready (lo + i) (n - i) (omega arith) k M₁ _ p)
 
@@ -120,5 +120,6 @@ module _ {M : List ℤ} {from to : ℕ} {c : Section} {y : ℤ} {w lo n : ℕ} {
           → StatesFrom M from to c (kept y) lo n k (i - 1) M₂ (bitOr (v * 2 % 2 ^ 64) (r .word)) (r .counts)
       states-more {M₂} {r} q = record {
         within = omega (arith, s .within);
-        done = lower M from to c (kept y) ready lo n (h .states) k i 1 g (s .within) M₁ v k₁ (s .done) M₂ r _ q (packed-below 1 v (r .word) word-room (q .short));
+        done = lower M from to c (kept y) ready lo n (h .states) k i 1 g (s .within) M₁ v k₁ (s .done) M₂ r _ q
+            (packed-below 1 v (r .word) word-room (q .short));
       }

@@ -90,7 +90,9 @@ module _ {M : List ℤ} {from to : ℕ} {c : Section} {y : ℤ} {weights : List 
       place = from-lt;
       gather = record {
         size = h .prepared .far-size;
-        there = λ i l. rw (far-lands e s i ee es l) (h .ready .place (first + i + 2 ^ c .live) (second-branch c (h .ready .section) (first + i) (state-lt i l) b));
+        there = λ i l.
+            rw (far-lands e s i ee es l)
+            (h .ready .place (first + i + 2 ^ c .live) (second-branch c (h .ready .section) (first + i) (state-lt i l) b));
       };
     }
       where

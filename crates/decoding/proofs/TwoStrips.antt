@@ -116,8 +116,8 @@ module _ {M : List ℤ} {from to : ℕ} {c : Section} {y : ℤ} {w at : ℕ} {k 
   word-gain = back y (omega (arith, h .ready .gain))
 
   -- a pattern turned to its states is their bits
-  pub word-asks : {weights : List ℕ} {signs ties : List ℤ} {v : ℕ} {near far : List ℤ} → Prepared c y weights signs ties near far → Turned (c .column) (at * 64) v
-      → StripFits M from to c (kept y) weights signs ties v (at * 64) 64 near far k
+  pub word-asks : {weights : List ℕ} {signs ties : List ℤ} {v : ℕ} {near far : List ℤ} → Prepared c y weights signs ties near far
+      → Turned (c .column) (at * 64) v → StripFits M from to c (kept y) weights signs ties v (at * 64) 64 near far k
   word-asks p t = rw word-gain (record {
     prepared = p;
     ready = h .ready;

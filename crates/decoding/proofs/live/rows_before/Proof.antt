@@ -36,7 +36,11 @@ returns-2 : tie.Need-returns-2
 returns-2 c =
     let s = c .before .before .before .before .before in
     let q = one-more (c .before) in
-    record { live = λ k p e b. before-last p (s .args .t) e b q (sym (row-first p (s .args .next - 1) (last-there p (s .args .t) e b q) (c .before .first-one .ensures)) ∙ c .if2 .taken) }
+    record {
+      live = λ k p e b.
+          let f = row-first p (s .args .next - 1) (last-there p (s .args .t) e b q) (c .before .first-one .ensures) in
+          before-last p (s .args .t) e b q (sym f ∙ c .if2 .taken);
+    }
 
 returns-3 : tie.Need-returns-3
 returns-3 c =
@@ -45,7 +49,8 @@ returns-3 c =
     record {
       live = λ k p e b. before-all p (s .args .t) e b (λ j r f.
           let i : s .args .next - 1 ≡ j = omega (arith, r) in
-          c .if2 .left (row-first p (s .args .next - 1) (last-there p (s .args .t) e b q) (c .before .first-one .ensures) ∙ ap (firsts (take k (s .args .rows .now))) i ∙ f));
+          let g = row-first p (s .args .next - 1) (last-there p (s .args .t) e b q) (c .before .first-one .ensures) in
+          c .if2 .left (g ∙ ap (firsts (take k (s .args .rows .now))) i ∙ f));
     }
 
 pub rows-before-spec : {M : Type 1} → statement M

@@ -14,10 +14,10 @@ returns : tie.Need-returns
 returns c =
     let chosen = c .before .before .before in
     let signs = chosen .before .before in
-    let far = signs .before .before .before in
-    let start = far .before .before in
-    chosen-part (start .pre .1) (far .before .source .ensures) (start .pre .0) (far .stride .ensures) (signs .sign-of .ensures) (chosen .before .tie-of .ensures)
-    (chosen .choose .ensures)
+    let strode = signs .before .before .before in
+    let start = strode .before .before in
+    chosen-part (start .pre .1) (strode .before .source .ensures) (start .pre .0) (strode .stride .ensures) (signs .sign-of .ensures)
+    (chosen .before .tie-of .ensures) (chosen .choose .ensures)
 
 pub two-branches-spec : {M : Type 1} → statement M
 two-branches-spec =
