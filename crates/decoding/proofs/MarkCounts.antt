@@ -142,7 +142,8 @@ module _ (rows : List ℕ) (s : Spans rows (firsts rows) (lasts rows)) (ends : L
           omega (arith, live-ones rows (suc t), ap ones e)
       go (suc j) q =
           let m = a .some t j h q in
-          let e : liveMarks rows (suc t) + 2 ^ j ≡ activeMarks rows t = ap (λ (n : ℕ). liveMarks rows (suc t) + markOf n) (sym q) ∙ with-ending rows s ends t a h in
+          let e : liveMarks rows (suc t) + 2 ^ j ≡ activeMarks rows t =
+          ap (λ (n : ℕ). liveMarks rows (suc t) + markOf n) (sym q) ∙ with-ending rows s ends t a h in
           omega (arith, live-ones rows (suc t), ones-more j (liveMarks rows (suc t)) (ended-mark j m), ap ones e)
         where
           ended-mark : (j : ℕ) → (j < length rows) × (lasts rows j ≡ t) → bit (liveMarks rows (suc t)) j ≡ 0

@@ -1,16 +1,15 @@
 -- The parities of 64 numbers as one word: by three digits and three, and another block of 64 turns all or none.
-use lib.Arith.{digits-div, digits-mod}
-use lib.Bits.{and-block, and-lt, and-step, and-zero-l, bitAnd, bitXor, differ}
-use lib.Count.{ones, ones-cat, ones-step}
+use lib.Bits.{and-block, and-lt, and-zero-l, bitAnd, bitXor, differ}
+use lib.Count.{ones, ones-cat}
 use lib.Pow.{pow-pos}
 use mathlib.Core.Path.{ap, ap₂, sym, _∙_, _≡_}
 use native.Mathlib.Nat.{add-comm, div-add-mod', mod-lt}
 use native.Mathlib.Omega.{arith}
-use Prim.Native.Nat.{_%_, _*_, _+_, _/_, _<_, _^_, min, ℕ}
+use Prim.Native.Nat.{_%_, _*_, _+_, _/_, _<_, _^_, ℕ}
 use Rattle.decoding.proofs.TablesChecked.{full}
 use Rattle.decoding.specs.Patterns.{HighPattern, LowPattern, Pattern, TurnFits, Turned}
 use Rattle.words.proofs.Parity.{differ-mod}
-use Rattle.words.proofs.Word.{bit-lt, bit-xor, bit-zero}
+use Rattle.words.proofs.Word.{bit-xor}
 use Rattle.words.specs.Ends.{first}
 use Rattle.words.specs.Parity.{parity}
 use Rattle.words.specs.Word.{bit}

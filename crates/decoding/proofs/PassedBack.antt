@@ -12,13 +12,13 @@ use mathlib.Core.Path.{ap, ap₂, refl, subst, sym, _∙_, _≡_}
 use native.Mathlib.Decide.{decLt}
 use native.Mathlib.Nat.{mod-eq-of-lt, mod-lt}
 use native.Mathlib.Omega.{arith}
-use Prim.Native.Nat.{_%_, _*_, _+_, _-_, _/_, _<_, _^_, suc, suc-le-suc, zero, zero-le, ℕ, _≤_}
+use Prim.Native.Nat.{_%_, _*_, _+_, _-_, _/_, _<_, _^_, suc, ℕ, _≤_}
 use Rattle.decoding.proofs.BegunRows.{begun-few, begun-next, begun-row, none-begins}
 use Rattle.decoding.proofs.Digits.{bit-low}
 use Rattle.decoding.proofs.LiveMarks.{last-active, marks-below, marks-bit, with-beginning, without-beginning}
 use Rattle.decoding.proofs.MarkCounts.{ending-by, live-ones}
 use Rattle.decoding.proofs.Packed.{digit-masked, one-off}
-use Rattle.decoding.proofs.PassedRows.{active-below, counted, row-first}
+use Rattle.decoding.proofs.PassedRows.{active-below, counted}
 use Rattle.decoding.specs.declared.live.Live.{Live}
 use Rattle.decoding.specs.LiveRows.{AllActive, EndsAre, LiveAt, PassedTo, PlateRows, activeMarks, begunBefore, endingBy, isLive, liveMarks}
 use Rattle.trellises.proofs.AmongRows.{TakenFrom, all-taken, among-first, none-taken, one-taken, position, row-within, section-of-active}
@@ -27,12 +27,11 @@ use Rattle.trellises.proofs.OneBegins.{section-begins}
 use Rattle.trellises.specs.declared.Section.{Section}
 use Rattle.trellises.specs.RowsAmong.{rowsAmong}
 use Rattle.trellises.specs.SectionOf.{held, isActive, quiet, sectionOf, withActive, withRow}
-use Rattle.trellises.specs.Smallest.{Begins}
-use Rattle.words.proofs.Ends.{one-before, some-pos}
-use Rattle.words.proofs.Span.{last-unique, zero-one}
+use Rattle.words.proofs.Ends.{one-before}
+use Rattle.words.proofs.Span.{zero-one}
 use Rattle.words.proofs.Word.{bit-lt, bits-below}
 use Rattle.words.specs.Choice.{more}
-use Rattle.words.specs.Ends.{FirstOne, LastOne, firsts}
+use Rattle.words.specs.Ends.{LastOne, firsts}
 use Rattle.words.specs.Span.{Last}
 use Rattle.words.specs.Word.{bit}
 
@@ -153,14 +152,18 @@ module _ {rows : List ℕ} {k : ℕ} (p : PlateRows rows k) (t : ℕ) {which : �
 
     pub before-all : ((j : ℕ) → next ≡ suc j → firsts (take k rows) j ≡ t → ⊥) → LiveAt (take k rows) t (record { marks = which; next = next })
     before-all n =
-        by-begins (λ j h f q. absurd (n j (b ∙ begun-next plate (p .spans) t ∙ ap (λ (x : Bool). more x (begunBefore plate t)) q ∙ ap suc (begun-row plate (p .spans) t (record { row = j; there = h; here = f }))) f))
-        (λ m q. record { marks-are = e ∙ sym (without-beginning plate (p .spans) t m); next-is = b ∙ begun-next plate (p .spans) t ∙ ap (λ (x : Bool). more x (begunBefore plate t)) q })
+        by-begins (λ j h f q. absurd (n j (begun q ∙ ap suc (begun-row plate (p .spans) t (record { row = j; there = h; here = f }))) f))
+        (λ m q. record { marks-are = e ∙ sym (without-beginning plate (p .spans) t m); next-is = begun q })
+      where
+        begun : {x : Bool} → sectionOf (take k rows) t .begins ≡ x → next ≡ more x (begunBefore (take k rows) t)
+        begun q = b ∙ begun-next plate (p .spans) t ∙ ap (λ (x : Bool). more x (begunBefore plate t)) q
 
   -- the section passed
   module _ {ends : List ℕ} (a : EndsAre (take k rows) ends) (h : t < 64) {before : Live} (l : LiveAt (take k rows) t before) where
     pub before-few : ones (before .marks) ≤ 64
     before-few =
-        omega (arith, counted p, p .few, ones-le (length plate) (before .marks) (subst (λ (w : ℕ). w < 2 ^ length plate) (sym (l .marks-are)) (marks-below (isLive t) plate)))
+        let m : before .marks < 2 ^ length plate = subst (λ (w : ℕ). w < 2 ^ length plate) (sym (l .marks-are)) (marks-below (isLive t) plate) in
+        omega (arith, counted p, p .few, ones-le (length plate) (before .marks) m)
 
     begins-is : ltb (before .marks) which ≡ sectionOf (take k rows) t .begins
     begins-is =
@@ -169,7 +172,16 @@ module _ {rows : List ℕ} {k : ℕ} (p : PlateRows rows k) (t : ℕ) {which : �
 
     pub passed-back : {ending column : ℕ} → ending ≡ endingBy which (getD ends t 0) → column ≡ held (sectionOf (rowsAmong rows which) t) .column
         → PassedTo (take k rows) t
-        (record { section = record { live = ones (before .marks); begins = ltb (before .marks) which; ends = ltb 0 (getD ends t 0); ending = ending; column = column }; live = before })
+        (record {
+          section = record {
+            live = ones (before .marks);
+            begins = ltb (before .marks) which;
+            ends = ltb 0 (getD ends t 0);
+            ending = ending;
+            column = column;
+          };
+          live = before;
+        })
     passed-back {ending} {column} n m = record {
       section = λ i. record { live = lives i; begins = begins-is i; ends = ends-is i; ending = ending-is i; column = column-is i };
       live = l;

@@ -161,15 +161,20 @@ module _ (M : List ℤ) (from to : ℕ) (D : List ℕ) (c : Section) (y : ℤ) (
           comparisons = omega (arith, b .part .comparisons, u .comparisons);
         }
 
--- ---- a section that has one decision word
+-- ---- a section taken with a gain as the machine keeps it
 
 module _ {M : List ℤ} {from to : ℕ} {D : List ℕ} {c : Section} {y : ℤ} {k : Counts} (h : StepFits M from to D c y k) where
   gain-kept : kept y ≡ y
   gain-kept = back y (omega (arith, h .gain))
 
-  asked : StepFits M from to D c (kept y) k
+  -- the gain as the machine keeps it is the gain
+  pub asked : StepFits M from to D c (kept y) k
   asked = rw gain-kept h
 
+  pub stepped : {M₁ : List ℤ} {D₁ : List ℕ} {k₁ : Counts} → Stepped M from to D c (kept y) k M₁ D₁ k₁ → Stepped M from to D c y k M₁ D₁ k₁
+  stepped s = rw gain-kept at s
+
+  -- it has one decision word
   module _ (l : c .live < 6) {n : ℕ} (e : n ≡ 2 ^ c .live) where
     count-le : n ≤ 64
     count-le = omega (arith, pow-mono {i = c .live} {j = 6} (omega arith))
@@ -192,7 +197,7 @@ module _ {M : List ℤ} {from to : ℕ} {D : List ℕ} {c : Section} {y : ℤ} {
         upto-all M from to D c y k h M₁ D₁ (r .counts)
         (rw f at (upto-more M from to D c y k h 0 M D k (upto-none M from to D c y k) n count-le (omega arith) M₁ D₁ (r .counts) b))
 
--- ---- a section that has more
+-- ---- a section that has more than one decision word
 
 -- the first `at` of its decision words are done, and the rooms for old metrics are there
 pub record WordsDone (M : List ℤ) (from to : ℕ) (D : List ℕ) (c : Section) (y : ℤ) (words : ℕ) (k : Counts) (at : ℕ) (M₁ : List ℤ) (D₁ : List ℕ)

@@ -1,6 +1,6 @@
 -- `blocks::strip` meets its contract.
 use borrow.Author.Needs.{needs}
-use Rattle.decoding.proofs.StripParts.{far-asks, first-lt, lones-asks, lones-done, near-asks, picks-asks, picks-done}
+use Rattle.decoding.proofs.StripParts.{far-asks, lones-asks, lones-done, near-asks, picks-asks, picks-done}
 use Rattle.decoding.proofs.blocks.strip.Statement.{statement}
 use Rattle.decoding.proofs.blocks.strip.Tie as tie
 

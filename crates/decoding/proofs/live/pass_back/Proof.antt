@@ -19,7 +19,7 @@ mark-of-requires c κs = let s = c .before .before in ending-few (s .pre .0) (s 
 
 -- the rows that are active in section t
 joined : (c : tie.After-mark-of)
-    → c .before .before .before .args .live .marks + c .mark-of .result ≡ activeMarks (take (c .before .before .before .args .k) (c .before .before .before .args .rows .now)) (c .before .before .before .args .t)
+    → let a = c .before .before .before .args in a .live .marks + c .mark-of .result ≡ activeMarks (take (a .k) (a .rows .now)) (a .t)
 joined c =
     let s = c .before .before .before in
     ending-joins (s .pre .0) (s .args .t) (s .pre .1 .0) (s .pre .1 .1 .0) (s .pre .1 .1 .1 .marks-are) (c .mark-of .ensures)
@@ -36,7 +36,7 @@ rows-before-requires c κs =
 
 -- those of them that are live before it
 before : (c : tie.After-rows-before)
-    → LiveAt (take (c .before .before .before .before .before .args .k) (c .before .before .before .before .before .args .rows .now)) (c .before .before .before .before .before .args .t) (c .rows-before .result)
+    → let a = c .before .before .before .before .before .args in LiveAt (take (a .k) (a .rows .now)) (a .t) (c .rows-before .result)
 before c =
     let s = c .before .before .before .before .before in
     c .rows-before .ensures .live (s .args .k) (s .pre .0) (joined (c .before .before)) (s .pre .1 .1 .1 .next-is)
@@ -60,7 +60,8 @@ returns : tie.Need-returns
 returns c =
     let b = c .before .before in
     let s = b .before .before .before .before .before in
-    passed-back (s .pre .0) (s .args .t) (joined (b .before .before)) (s .pre .1 .0) (s .pre .1 .1 .0) (before b) (c .rows-below .ensures) (c .before .column-of .ensures)
+    passed-back (s .pre .0) (s .args .t) (joined (b .before .before)) (s .pre .1 .0) (s .pre .1 .1 .0) (before b) (c .rows-below .ensures)
+    (c .before .column-of .ensures)
 
 pub pass-back-spec : {M : Type 1} → statement M
 pass-back-spec =

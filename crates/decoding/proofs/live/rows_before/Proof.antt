@@ -3,7 +3,7 @@ use borrow.Author.Needs.{needs}
 use lib.ListN.{take}
 use mathlib.Core.Path.{_∙_, _≡_, ap, sym}
 use native.Mathlib.Omega.{arith}
-use Prim.Native.Nat.{suc, _-_, ℕ}
+use Prim.Native.Nat.{suc, _-_}
 use Rattle.decoding.proofs.PassedBack.{before-all, before-last, last-there}
 use Rattle.decoding.proofs.PassedRows.{row-first}
 use Rattle.words.specs.Ends.{firsts}
