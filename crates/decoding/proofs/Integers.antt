@@ -41,6 +41,10 @@ mag-abs (negsuc a) = omega arith
 pub small-fits : (z : ℤ) → natAbs z ≤ 2 ^ 30 → SFits w32 z
 small-fits z h = record { sfits = omega (arith, mag-abs z) }
 
+-- a number as the machine keeps it, in 32 bits
+abbrev pub kept : ℤ → ℤ
+kept z = toZ w32 (ofZ w32 z)
+
 -- a small number is what is read back from its bits
 pub back : (z : ℤ) → natAbs z ≤ 2 ^ 30 → toZ w32 (ofZ w32 z) ≡ z
 back z h = toZ-ofZ (small-fits z h)

@@ -20,6 +20,7 @@ pub mod Without
 pub mod Targets
 pub mod Branches
 pub mod Digits
+pub mod Packed
 pub mod Singles
 pub mod Runs
 pub mod TablesChecked

@@ -1,5 +1,6 @@
 -- How many rows are live, and where a section's branches lead, by the rows' marks.
 use borrow.Author.Tests.{le-leb, le-ltb, lt-leb, lt-ltb, ltb-false}
+use lib.Bits.{and-mask, bitAnd}
 use lib.Count.{ones, ones-le, ones-step}
 use lib.Dec.{leb, ltb}
 use lib.ListN.{getD, length}
@@ -141,7 +142,8 @@ module _ (rows : List ℕ) (s : Spans rows (firsts rows) (lasts rows)) (ends : L
           omega (arith, live-ones rows (suc t), ap ones e)
       go (suc j) q =
           let m = a .some t j h q in
-          let e : liveMarks rows (suc t) + 2 ^ j ≡ activeMarks rows t = ap (λ (n : ℕ). liveMarks rows (suc t) + markOf n) (sym q) ∙ with-ending rows s ends t a h in
+          let e : liveMarks rows (suc t) + 2 ^ j ≡ activeMarks rows t =
+          ap (λ (n : ℕ). liveMarks rows (suc t) + markOf n) (sym q) ∙ with-ending rows s ends t a h in
           omega (arith, live-ones rows (suc t), ones-more j (liveMarks rows (suc t)) (ended-mark j m), ap ones e)
         where
           ended-mark : (j : ℕ) → (j < length rows) × (lasts rows j ≡ t) → bit (liveMarks rows (suc t)) j ≡ 0
@@ -175,12 +177,12 @@ module _ (active n : ℕ) (z : n ≡ 0 → ⊥) where
       go zero z h = absurd (z refl)
       go (suc j) z h = omega (arith, ones-le j (active % 2 ^ j) (mod-lt active (pow-pos j)))
 
-  pub below-is : n ≤ 64 → ones (active % (1 * 2 ^ (n - 1) % 2 ^ 64)) ≡ endingBy active n
+  pub below-is : n ≤ 64 → ones (bitAnd active (1 * 2 ^ (n - 1) % 2 ^ 64 - 1)) ≡ endingBy active n
   below-is h = go n z h
     where
-      go : (n : ℕ) → (n ≡ 0 → ⊥) → n ≤ 64 → ones (active % (1 * 2 ^ (n - 1) % 2 ^ 64)) ≡ endingBy active n
+      go : (n : ℕ) → (n ≡ 0 → ⊥) → n ≤ 64 → ones (bitAnd active (1 * 2 ^ (n - 1) % 2 ^ 64 - 1)) ≡ endingBy active n
       go zero z h = absurd (z refl)
-      go (suc j) z h = ap (λ (y : ℕ). ones (active % y)) (mark-is (suc j) z h)
+      go (suc j) z h = ap (λ (y : ℕ). ones (bitAnd active (y - 1))) (mark-is (suc j) z h) ∙ ap ones (and-mask active j)
 
   pub leads-is : (x : ℕ) → without (endingBy active n) x ≡ leadsBy active n x
   leads-is x = go n z

@@ -1,16 +1,15 @@
 -- The parities of 64 numbers as one word: by three digits and three, and another block of 64 turns all or none.
-use lib.Arith.{digits-div, digits-mod}
-use lib.Bits.{and-block, and-lt, and-step, and-zero-l, bitAnd, bitXor, differ}
-use lib.Count.{ones, ones-cat, ones-step}
+use lib.Bits.{and-block, and-lt, and-zero-l, bitAnd, bitXor, differ}
+use lib.Count.{ones, ones-cat}
 use lib.Pow.{pow-pos}
 use mathlib.Core.Path.{ap, ap₂, sym, _∙_, _≡_}
 use native.Mathlib.Nat.{add-comm, div-add-mod', mod-lt}
 use native.Mathlib.Omega.{arith}
-use Prim.Native.Nat.{_%_, _*_, _+_, _/_, _<_, _^_, min, ℕ}
+use Prim.Native.Nat.{_%_, _*_, _+_, _/_, _<_, _^_, ℕ}
 use Rattle.decoding.proofs.TablesChecked.{full}
 use Rattle.decoding.specs.Patterns.{HighPattern, LowPattern, Pattern, TurnFits, Turned}
 use Rattle.words.proofs.Parity.{differ-mod}
-use Rattle.words.proofs.Word.{bit-lt, bit-xor, bit-zero}
+use Rattle.words.proofs.Word.{bit-xor}
 use Rattle.words.specs.Ends.{first}
 use Rattle.words.specs.Parity.{parity}
 use Rattle.words.specs.Word.{bit}
@@ -61,12 +60,12 @@ three-and-three i column l =
     ap (λ (x : ℕ). ones (bitAnd x (column / 8))) (sym f) ∙ block-ones 3 0 (i / 8) (column / 8) (omega arith) ∙ omega (arith, ones-none (column / 8 / 2 ^ 3)) in
     omega (arith, s, t)
 
-pub pattern-is : {column a b : ℕ} → LowPattern (column % 8) a → HighPattern (column / 8 % 8) b → Pattern column (bitXor a b)
-pattern-is {column} {a} {b} low high = record { bits = bits }
+pub pattern-is : {column d e a b : ℕ} → d ≡ column % 8 → e ≡ column / 8 % 8 → LowPattern d a → HighPattern e b → Pattern column (bitXor a b)
+pattern-is {column} {d} {e} {a} {b} ed ee low high = record { bits = bits }
   where
     bits : (i : ℕ) → i < 64 → bit (bitXor a b) i ≡ parity i column
     bits i l =
-        bit-xor i a b ∙ ap₂ differ (low .bits i l) (high .bits i l)
+        bit-xor i a b ∙ ap₂ differ (low .bits i l ∙ ap (parity (i % 8)) ed) (high .bits i l ∙ ap (parity (i / 8)) ee)
         ∙ differ-mod (parity (i % 8) (column % 8)) (parity (i / 8) (column / 8 % 8)) (omega arith) (omega arith)
         ∙ sym (three-and-three i column l)
 

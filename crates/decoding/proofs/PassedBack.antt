@@ -1,5 +1,6 @@
 -- A section passed from its far side: its numbers by the marks of its active rows, and a column gathered over them.
 use borrow.Author.Tests.{le-ltb, lt-ltb}
+use lib.Bits.{bitAnd, bitOr, bitXor}
 use lib.Count.{ones, ones-le}
 use lib.Dec.{ltb}
 use lib.ListN.{getD, length, take}
@@ -11,26 +12,26 @@ use mathlib.Core.Path.{ap, ap₂, refl, subst, sym, _∙_, _≡_}
 use native.Mathlib.Decide.{decLt}
 use native.Mathlib.Nat.{mod-eq-of-lt, mod-lt}
 use native.Mathlib.Omega.{arith}
-use Prim.Native.Nat.{_%_, _*_, _+_, _-_, _/_, _<_, _^_, suc, suc-le-suc, zero, zero-le, ℕ, _≤_}
+use Prim.Native.Nat.{_%_, _*_, _+_, _-_, _/_, _<_, _^_, suc, ℕ, _≤_}
 use Rattle.decoding.proofs.BegunRows.{begun-few, begun-next, begun-row, none-begins}
 use Rattle.decoding.proofs.Digits.{bit-low}
-use Rattle.decoding.proofs.LiveMarks.{marks-below, marks-bit, with-beginning, without-beginning}
+use Rattle.decoding.proofs.LiveMarks.{last-active, marks-below, marks-bit, with-beginning, without-beginning}
 use Rattle.decoding.proofs.MarkCounts.{ending-by, live-ones}
-use Rattle.decoding.proofs.PassedRows.{active-below, counted, row-first}
+use Rattle.decoding.proofs.Packed.{digit-masked, one-off}
+use Rattle.decoding.proofs.PassedRows.{active-below, counted}
 use Rattle.decoding.specs.declared.live.Live.{Live}
 use Rattle.decoding.specs.LiveRows.{AllActive, EndsAre, LiveAt, PassedTo, PlateRows, activeMarks, begunBefore, endingBy, isLive, liveMarks}
-use Rattle.trellises.proofs.AmongRows.{TakenFrom, all-taken, among-first, at-least, none-taken, one-taken, section-of-active, shifted-one}
-use Rattle.trellises.proofs.Digits.{mod-digit}
+use Rattle.trellises.proofs.AmongRows.{TakenFrom, all-taken, among-first, none-taken, one-taken, position, row-within, section-of-active}
+use Rattle.trellises.proofs.HeldSection.{appended}
 use Rattle.trellises.proofs.OneBegins.{section-begins}
 use Rattle.trellises.specs.declared.Section.{Section}
 use Rattle.trellises.specs.RowsAmong.{rowsAmong}
 use Rattle.trellises.specs.SectionOf.{held, isActive, quiet, sectionOf, withActive, withRow}
-use Rattle.trellises.specs.Smallest.{Begins}
-use Rattle.words.proofs.Ends.{one-before, some-pos}
-use Rattle.words.proofs.Span.{last-unique, zero-one}
-use Rattle.words.proofs.Word.{bit-div, bit-lt, bits-below}
+use Rattle.words.proofs.Ends.{one-before}
+use Rattle.words.proofs.Span.{zero-one}
+use Rattle.words.proofs.Word.{bit-lt, bits-below}
 use Rattle.words.specs.Choice.{more}
-use Rattle.words.specs.Ends.{FirstOne, LastOne, firsts}
+use Rattle.words.specs.Ends.{LastOne, firsts}
 use Rattle.words.specs.Span.{Last}
 use Rattle.words.specs.Word.{bit}
 
@@ -50,7 +51,7 @@ mod-one n x j e = go (decLt j n)
     go (yes h) = ap (λ (y : ℕ). bit y j) (sym (split x n)) ∙ bit-low n (x / 2 ^ n) (x % 2 ^ n) j h ∙ e
     go (no h) = absurd (zero-one (bits-below n (x % 2 ^ n) (mod-lt x (pow-pos n)) j (omega arith)) e)
 
-module _ (rows : List ℕ) (which t : ℕ) where
+module _ {rows : List ℕ} {which t : ℕ} where
   pub column-start : length rows ≡ 64 → which < 2 ^ 64 → ColumnFrom rows which t which 0
   column-start s h = record {
     section = quiet;
@@ -58,28 +59,43 @@ module _ (rows : List ℕ) (which t : ℕ) where
     same = refl;
   }
 
-  pub column-end : {left column : ℕ} → ColumnFrom rows which t left column → left ≡ 0 → column ≡ held (sectionOf (rowsAmong rows which) t) .column
-  column-end c e = c .same ∙ ap (λ (z : Section). z .column) (all-taken rows which t (c .taken) e)
+  pub column-end : {left column : ℕ} → ColumnFrom rows which t left column → left ≤ 0 → column ≡ held (sectionOf (rowsAmong rows which) t) .column
+  column-end c e = c .same ∙ ap (λ (z : Section). z .column) (all-taken rows which t (c .taken) (omega arith))
 
-  -- a digit appended to a 64-bit word
-  appended : (x d : ℕ) → d < 2 → x * 2 % 2 ^ 64 + d ≡ (x * 2 + d) % 2 ^ 64
-  appended x d h = omega (arith, mod-digit (x * 2 + d) 63, mod-digit (x * 2) 63)
+  -- the last row that is left
+  module _ {left column j : ℕ} (c : ColumnFrom rows which t left column) (some : 0 < left) (o : LastOne left j) where
+    last-left : Last left j
+    last-left = o .some some
 
-  column-with : (row : ℕ) (c : Section) → isActive t row ≡ true → (c .column * 2 + bit row t) % 2 ^ 64 ≡ held (withRow t row c) .column
-  unfolding withRow withActive
-  column-with row c e = rw e
+    pub last-row : j < length rows
+    last-row = row-within rows which t (c .taken) last-left
 
-  pub column-on : AllActive rows which t → {left column j : ℕ} → ColumnFrom rows which t left column → Last left j → j < length rows
-      → ColumnFrom rows which t (left - 2 ^ j) (column * 2 % 2 ^ 64 + getD rows j 0 / 2 ^ t % 2)
-  column-on a {left} {column} {j} c l h =
-      let one : bit which j ≡ 1 = mod-one (c .taken .from) which j (ap (λ (y : ℕ). bit y j) (sym (c .taken .unseen)) ∙ l .one) in
-      record {
-        section = held (withRow t (getD rows j 0) (c .section));
-        taken = one-taken rows which t (c .taken) l refl;
-        same = ap₂ (λ (x d : ℕ). x * 2 % 2 ^ 64 + d) (c .same) (sym (bit-div t (getD rows j 0)))
-            ∙ appended (c .section .column) (bit (getD rows j 0) t) (bit-lt t (getD rows j 0))
-            ∙ column-with (getD rows j 0) (c .section) (a j h one);
-      }
+    module _ (word : which < 2 ^ 64) where
+      pub last-place : j < 64
+      last-place = position rows which t (c .taken) last-left word
+
+      off : bitXor left (1 * 2 ^ j % 2 ^ 64) ≡ left - 2 ^ j
+      off = one-off left j last-place (last-left .one)
+
+      pub left-falls : bitXor left (1 * 2 ^ j % 2 ^ 64) < left
+      left-falls = omega (arith, off, pow-pos j)
+
+      column-with : (row : ℕ) (s : Section) → isActive t row ≡ true → (s .column * 2 + bit row t) % 2 ^ 64 ≡ held (withRow t row s) .column
+      unfolding withRow withActive
+      column-with row s e = rw e
+
+      -- it is taken in
+      pub column-on : AllActive rows which t
+          → ColumnFrom rows which t (bitXor left (1 * 2 ^ j % 2 ^ 64)) (bitOr (column * 2 % 2 ^ 64) (bitAnd (getD rows j 0 / 2 ^ t) 1))
+      column-on a =
+          let one : bit which j ≡ 1 = mod-one (c .taken .from) which j (ap (λ (y : ℕ). bit y j) (sym (c .taken .unseen)) ∙ last-left .one) in
+          record {
+            section = held (withRow t (getD rows j 0) (c .section));
+            taken = rw off (one-taken rows which t (c .taken) last-left refl);
+            same = ap₂ (λ (x d : ℕ). bitOr (x * 2 % 2 ^ 64) d) (c .same) (digit-masked (getD rows j 0) t)
+                ∙ appended (c .section .column) (bit (getD rows j 0) t) (bit-lt t (getD rows j 0))
+                ∙ column-with (getD rows j 0) (c .section) (a j last-row one);
+          }
 
 -- ---- the section of the active rows
 
@@ -125,22 +141,29 @@ module _ {rows : List ℕ} {k : ℕ} (p : PlateRows rows k) (t : ℕ) {which : �
     last-begins {j} q f = with-beginning plate (p .spans) t j (omega (arith, last-there q, counted p)) f ∙ sym e
 
     pub before-last : {j : ℕ} → next ≡ suc j → firsts (take k rows) j ≡ t
-        → LiveAt (take k rows) t (record { marks = which - 1 * 2 ^ j % 2 ^ 64; next = j })
+        → LiveAt (take k rows) t (record { marks = bitXor which (1 * 2 ^ j % 2 ^ 64); next = j })
     before-last {j} q f = record {
-      marks-are = omega (arith, last-begins q f, shifted-one j (omega (arith, last-there q, p .few)));
+      marks-are = one-off which j (omega (arith, last-there q, p .few)) one ∙ omega (arith, last-begins q f);
       next-is = sym (begun-row plate (p .spans) t (record { row = j; there = omega (arith, last-there q, counted p); here = f }));
     }
+      where
+        one : bit which j ≡ 1
+        one = ap (λ (w : ℕ). bit w j) e ∙ last-active plate (p .spans) t j (omega (arith, last-there q, counted p)) f .one
 
     pub before-all : ((j : ℕ) → next ≡ suc j → firsts (take k rows) j ≡ t → ⊥) → LiveAt (take k rows) t (record { marks = which; next = next })
     before-all n =
-        by-begins (λ j h f q. absurd (n j (b ∙ begun-next plate (p .spans) t ∙ ap (λ (x : Bool). more x (begunBefore plate t)) q ∙ ap suc (begun-row plate (p .spans) t (record { row = j; there = h; here = f }))) f))
-        (λ m q. record { marks-are = e ∙ sym (without-beginning plate (p .spans) t m); next-is = b ∙ begun-next plate (p .spans) t ∙ ap (λ (x : Bool). more x (begunBefore plate t)) q })
+        by-begins (λ j h f q. absurd (n j (begun q ∙ ap suc (begun-row plate (p .spans) t (record { row = j; there = h; here = f }))) f))
+        (λ m q. record { marks-are = e ∙ sym (without-beginning plate (p .spans) t m); next-is = begun q })
+      where
+        begun : {x : Bool} → sectionOf (take k rows) t .begins ≡ x → next ≡ more x (begunBefore (take k rows) t)
+        begun q = b ∙ begun-next plate (p .spans) t ∙ ap (λ (x : Bool). more x (begunBefore plate t)) q
 
   -- the section passed
   module _ {ends : List ℕ} (a : EndsAre (take k rows) ends) (h : t < 64) {before : Live} (l : LiveAt (take k rows) t before) where
     pub before-few : ones (before .marks) ≤ 64
     before-few =
-        omega (arith, counted p, p .few, ones-le (length plate) (before .marks) (subst (λ (w : ℕ). w < 2 ^ length plate) (sym (l .marks-are)) (marks-below (isLive t) plate)))
+        let m : before .marks < 2 ^ length plate = subst (λ (w : ℕ). w < 2 ^ length plate) (sym (l .marks-are)) (marks-below (isLive t) plate) in
+        omega (arith, counted p, p .few, ones-le (length plate) (before .marks) m)
 
     begins-is : ltb (before .marks) which ≡ sectionOf (take k rows) t .begins
     begins-is =
@@ -149,7 +172,16 @@ module _ {rows : List ℕ} {k : ℕ} (p : PlateRows rows k) (t : ℕ) {which : �
 
     pub passed-back : {ending column : ℕ} → ending ≡ endingBy which (getD ends t 0) → column ≡ held (sectionOf (rowsAmong rows which) t) .column
         → PassedTo (take k rows) t
-        (record { section = record { live = ones (before .marks); begins = ltb (before .marks) which; ends = ltb 0 (getD ends t 0); ending = ending; column = column }; live = before })
+        (record {
+          section = record {
+            live = ones (before .marks);
+            begins = ltb (before .marks) which;
+            ends = ltb 0 (getD ends t 0);
+            ending = ending;
+            column = column;
+          };
+          live = before;
+        })
     passed-back {ending} {column} n m = record {
       section = λ i. record { live = lives i; begins = begins-is i; ends = ends-is i; ending = ending-is i; column = column-is i };
       live = l;

@@ -10,15 +10,19 @@ use mathlib.Core.Path.{ap, ap₂, refl, sym, _∙_, _≡_}
 use native.Mathlib.Nat.{zero-add}
 use native.Mathlib.Omega.{arith}
 use Prim.Native.Nat.{_%_, _*_, _+_, _-_, _/_, _<_, _^_, suc, zero, zero-le, ℕ, _≤_}
+use Rattle.decoding.proofs.Integers.{back, kept}
 use Rattle.decoding.proofs.Parts.{below-or, state-same, still-ready}
 use Rattle.decoding.proofs.Runs.{adds-le, compares-le, times-le}
+use Rattle.decoding.proofs.StripParts.{low-word}
 use Rattle.decoding.proofs.Targets.{live-le}
-use Rattle.decoding.specs.Blocks.{Block, BlockFits}
+use Rattle.decoding.specs.Blocks.{Block, BlockFits, WordDone}
 use Rattle.decoding.specs.declared.Counts.{Counts}
 use Rattle.decoding.specs.declared.states.Run.{Run}
+use Rattle.decoding.specs.Halves.{Prepared}
 use Rattle.decoding.specs.Patterns.{Pattern}
 use Rattle.decoding.specs.Running.{Part, Ready, RunFits, addsOf, comparesOf}
 use Rattle.decoding.specs.Stepping.{StepFits, Stepped, olds}
+use Rattle.decoding.specs.Tables.{FillFits, Tables, Weights}
 use Rattle.decoding.specs.Taking.{Taken, atState, counting}
 use Rattle.trellises.specs.declared.Section.{Section}
 use Rattle.trellises.specs.Numbers.{bitOf, leadsTo}
@@ -99,6 +103,9 @@ module _ (M : List ℤ) (from to : ℕ) (D : List ℕ) (c : Section) (y : ℤ) (
       others-all : (j : ℕ) → (j < to) ⊎ (to + 2 ^ c .live ≤ j) → getD M₁ j (pos 0) ≡ getD M j (pos 0)
       others-all j o = u .others j (⊎-elim (λ l. inl l) (λ l. inr (omega (arith, u .within))) o)
 
+      few : a * 64 ≤ 2 ^ 12
+      few = omega (arith, u .within, live-le c (h .section))
+
       -- what the next decision word asks
       pub block-fits : (w n : ℕ) → Pattern (c .column) w → n ≤ 64 → a * 64 + n ≤ 2 ^ c .live → BlockFits M₁ from to c y w a n k₁
       block-fits w n p l g = record {
@@ -106,8 +113,8 @@ module _ (M : List ℤ) (from to : ℕ) (D : List ℕ) (c : Section) (y : ℤ) (
         word = l;
         states = g;
         pattern = p;
-        additions = omega (arith, u .additions, h .additions, u .within, live-le c (h .section), times-le (a * 64) (2 ^ 12) (addsOf c) 2 (omega (arith, u .within, live-le c (h .section))) (adds-le c));
-        comparisons = omega (arith, u .comparisons, h .comparisons, u .within, live-le c (h .section), times-le (a * 64) (2 ^ 12) (comparesOf c) 1 (omega (arith, u .within, live-le c (h .section))) (compares-le c));
+        additions = omega (arith, u .additions, h .additions, times-le (a * 64) (2 ^ 12) (addsOf c) 2 few (adds-le c));
+        comparisons = omega (arith, u .comparisons, h .comparisons, times-le (a * 64) (2 ^ 12) (comparesOf c) 1 few (compares-le c));
       }
 
       -- that word done
@@ -154,23 +161,100 @@ module _ (M : List ℤ) (from to : ℕ) (D : List ℕ) (c : Section) (y : ℤ) (
           comparisons = omega (arith, b .part .comparisons, u .comparisons);
         }
 
-    -- a section that has one decision word
-    module _ (l : c .live < 6) (n : ℕ) (e : n ≡ 2 ^ c .live) where
-      count-le : n ≤ 64
-      count-le = omega (arith, pow-mono {i = c .live} {j = 6} (omega arith))
+-- ---- a section taken with a gain as the machine keeps it
 
-      pub one-word-fits : (w : ℕ) → Pattern (c .column) w → RunFits M from to c y w 0 n k
-      one-word-fits w p = record {
-        ready = step-ready M from to D c y k h;
-        word = count-le;
-        states = omega arith;
-        pattern = λ i g. p .bits i (omega (arith, count-le)) ∙ ap (bitOf c) (sym (zero-add i));
-        additions = omega (arith, h .additions);
-        comparisons = omega (arith, h .comparisons);
+module _ {M : List ℤ} {from to : ℕ} {D : List ℕ} {c : Section} {y : ℤ} {k : Counts} (h : StepFits M from to D c y k) where
+  gain-kept : kept y ≡ y
+  gain-kept = back y (omega (arith, h .gain))
+
+  -- the gain as the machine keeps it is the gain
+  pub asked : StepFits M from to D c (kept y) k
+  asked = rw gain-kept h
+
+  pub stepped : {M₁ : List ℤ} {D₁ : List ℕ} {k₁ : Counts} → Stepped M from to D c (kept y) k M₁ D₁ k₁ → Stepped M from to D c y k M₁ D₁ k₁
+  stepped s = rw gain-kept at s
+
+  -- it has one decision word
+  module _ (l : c .live < 6) {n : ℕ} (e : n ≡ 2 ^ c .live) where
+    count-le : n ≤ 64
+    count-le = omega (arith, pow-mono {i = c .live} {j = 6} (omega arith))
+
+    pub one-word-fits : {w : ℕ} → Pattern (c .column) w → RunFits M from to c (kept y) w 0 n k
+    one-word-fits p = record {
+      ready = step-ready M from to D c (kept y) k asked;
+      word = count-le;
+      states = omega arith;
+      pattern = λ i g. p .bits i (omega (arith, count-le)) ∙ ap (bitOf c) (sym (zero-add i));
+      additions = omega (arith, h .additions);
+      comparisons = omega (arith, h .comparisons);
+    }
+
+    pub one-word : {M₁ : List ℤ} {D₁ : List ℕ} {r : Run} → Part M from to c (kept y) 0 n k M₁ r → D₁ ≡ set D 0 (r .word)
+        → Stepped M from to D c y k M₁ D₁ (r .counts)
+    one-word {M₁} {D₁} {r} p s =
+        let f : 0 * 64 + n ≡ 2 ^ c .live = omega arith in
+        let b : Block M from to D c y 0 n k M₁ D₁ (r .counts) = record { word = r .word; part = rw gain-kept at p; stored = s } in
+        upto-all M from to D c y k h M₁ D₁ (r .counts)
+        (rw f at (upto-more M from to D c y k h 0 M D k (upto-none M from to D c y k) n count-le (omega arith) M₁ D₁ (r .counts) b))
+
+-- ---- a section that has more than one decision word
+
+-- the first `at` of its decision words are done, and the rooms for old metrics are there
+pub record WordsDone (M : List ℤ) (from to : ℕ) (D : List ℕ) (c : Section) (y : ℤ) (words : ℕ) (k : Counts) (at : ℕ) (M₁ : List ℤ) (D₁ : List ℕ)
+    (near far : List ℤ) (k₁ : Counts) : Type 0 where
+  pub count : words * 64 ≡ 2 ^ c .live
+  pub near-size : length near ≡ 32
+  pub far-size : length far ≡ 32
+  pub done : Upto M from to D c y k (at * 64) M₁ D₁ k₁
+
+-- the tables are filled
+pub fill-asks : {M : List ℤ} {from to : ℕ} {D : List ℕ} {c : Section} {y : ℤ} {k : Counts} → StepFits M from to D c y k
+    → {signs ties : List ℤ} {weights : List ℕ} → length signs ≡ 64 → length ties ≡ 64 → Weights weights → FillFits signs ties weights (kept y)
+fill-asks h s t m = rw (gain-kept h) (record { signs-size = s; ties-size = t; masks = m; gain = h .gain })
+
+module _ {M : List ℤ} {from to : ℕ} {D : List ℕ} {c : Section} {y : ℤ} {k : Counts} (wide : 6 ≤ c .live) (h : StepFits M from to D c y k) where
+  pub words-none : {words : ℕ} → words ≡ 2 ^ (c .live - 6) → {near far : List ℤ} → length near ≡ 32 → length far ≡ 32
+      → WordsDone M from to D c (kept y) words k 0 M D near far k
+  words-none {words} e n f = record { count = word-count (c .live) words wide e; near-size = n; far-size = f; done = upto-none M from to D c (kept y) k }
+
+  module _ {words at : ℕ} {M₁ : List ℤ} {D₁ : List ℕ} {near far : List ℤ} {k₁ : Counts}
+      (s : WordsDone M from to D c (kept y) words k at M₁ D₁ near far k₁) where
+    pub words-all : words ≤ at → Stepped M from to D c y k M₁ D₁ k₁
+    words-all l =
+        let e : at * 64 ≡ 2 ^ c .live = omega (arith, s .count, s .done .within) in
+        rw (gain-kept h) at (upto-all M from to D c (kept y) k (asked h) M₁ D₁ k₁ (rw e at (s .done)))
+
+    -- the next decision word
+    module _ (l : at < words) where
+      next-within : at * 64 + 64 ≤ 2 ^ c .live
+      next-within = omega (arith, s .count)
+
+      pub next-small : at + 1 < 2 ^ 64
+      next-small = omega (arith, next-within, live-le c (h .section))
+
+      -- v is the lower half of its pattern, by which the tables are filled
+      pub word-prepared : {w v : ℕ} → Pattern (c .column) w → v ≡ w % 2 ^ 32 → {weights : List ℕ} {signs ties : List ℤ} → Weights weights
+          → Tables v (kept y) signs ties → Prepared c (kept y) weights signs ties near far
+      word-prepared {w} {v} p e m t = record {
+        wide = wide;
+        masks = m;
+        word = v;
+        pattern = λ i g. ap (λ (x : ℕ). bit x i) e ∙ low-word w i g ∙ p .bits i (omega arith);
+        tables = t;
+        near-size = s .near-size;
+        far-size = s .far-size;
       }
 
-      pub one-word : (M₁ : List ℤ) (D₁ : List ℕ) (r : Run) → Part M from to c y 0 n k M₁ r → D₁ ≡ set D 0 (r .word) → Stepped M from to D c y k M₁ D₁ (r .counts)
-      one-word M₁ D₁ r p s =
-          let f : 0 * 64 + n ≡ 2 ^ c .live = omega arith in
-          upto-all M₁ D₁ (r .counts)
-          (rw f at (upto-more 0 M D k upto-none n count-le (omega arith) M₁ D₁ (r .counts) (record { word = r .word; part = p; stored = s })))
+      pub word-fits : {w : ℕ} → Pattern (c .column) w → BlockFits M₁ from to c (kept y) w at 64 k₁
+      word-fits {w} p = block-fits M from to D c (kept y) k (asked h) at M₁ D₁ k₁ (s .done) w 64 p (omega arith) next-within
+
+      pub words-more : {M₂ : List ℤ} {D₂ : List ℕ} {near′ far′ : List ℤ} {k₂ : Counts} → WordDone M₁ from to D₁ c (kept y) at k₁ M₂ D₂ near′ far′ k₂
+          → WordsDone M from to D c (kept y) words k (at + 1) M₂ D₂ near′ far′ k₂
+      words-more {M₂} {D₂} {near′} {far′} {k₂} b =
+          let e : (at + 1) * 64 ≡ at * 64 + 64 = omega arith in
+          record {
+            count = s .count;
+            near-size = b .near-size;
+            far-size = b .far-size;
+            done = rw e (upto-more M from to D c (kept y) k (asked h) at M₁ D₁ k₁ (s .done) 64 (omega arith) next-within M₂ D₂ k₂ (b .block));
+          }

@@ -52,11 +52,11 @@ same-room M M₁ at near signs side h e = record {
   sign-small = h .sign-small;
 }
 
-module _ (M : List ℤ) (at : ℕ) (near signs : List ℤ) (side : ℕ) (k : Counts) where
+module _ {M : List ℤ} {at : ℕ} {near signs : List ℤ} {side : ℕ} {k : Counts} (h : LonesFit M at near signs side k) where
   pub lones-none : Lones M at near signs side 0 k M k
   lones-none = record { stored = stored-none M at _; additions = omega arith; comparisons = refl }
 
-  module _ (h : LonesFit M at near signs side k) (i : ℕ) (l : i < 32) (M₁ : List ℤ) (k₁ : Counts) (p : Lones M at near signs side i k M₁ k₁) where
+  module _ {i : ℕ} (l : i < 32) {M₁ : List ℤ} {k₁ : Counts} (p : Lones M at near signs side i k M₁ k₁) where
     pub lone-fits : LoneFits M₁ at near signs side i k₁
     lone-fits = record {
       strip = same-room M M₁ at near signs side (h .strip) (p .stored .size);
@@ -64,8 +64,8 @@ module _ (M : List ℤ) (at : ℕ) (near signs : List ℤ) (side : ℕ) (k : Cou
       additions = omega (arith, h .additions, p .additions);
     }
 
-    pub lones-more : (M₂ : List ℤ) (k₂ : Counts) → LoneTaken M₁ at near signs side i k₁ M₂ k₂ → Lones M at near signs side (i + 1) k M₂ k₂
-    lones-more M₂ k₂ t = record {
+    pub lones-more : {M₂ : List ℤ} {k₂ : Counts} → LoneTaken M₁ at near signs side i k₁ M₂ k₂ → Lones M at near signs side (i + 1) k M₂ k₂
+    lones-more t = record {
       stored = rw (t .metric) (stored-more M at (loneMetric near signs side) i M₁ (p .stored) (omega (arith, h .strip .room)));
       additions = omega (arith, t .additions, p .additions);
       comparisons = t .comparisons ∙ p .comparisons;
@@ -73,7 +73,8 @@ module _ (M : List ℤ) (at : ℕ) (near signs : List ℤ) (side : ℕ) (k : Cou
 
 -- ---- states that two branches leave
 
-module _ (M : List ℤ) (at : ℕ) (near far : List ℤ) (weights : List ℕ) (signs ties : List ℤ) (side : ℕ) (k : Counts) where
+module _ {M : List ℤ} {at : ℕ} {near far : List ℤ} {weights : List ℕ} {signs ties : List ℤ} {side : ℕ} {k : Counts}
+    (h : PicksFit M at near far weights signs ties side k) where
   abbrev takes : ℕ → Bool
   takes = picksSecond near far signs ties side
 
@@ -86,7 +87,7 @@ module _ (M : List ℤ) (at : ℕ) (near far : List ℤ) (weights : List ℕ) (s
     comparisons = omega arith;
   }
 
-  module _ (h : PicksFit M at near far weights signs ties side k) (i : ℕ) (l : i < 32) (M₁ : List ℤ) (r : Picked) (p : Picks M at near far signs ties side i k M₁ r) where
+  module _ {i : ℕ} (l : i < 32) {M₁ : List ℤ} {r : Picked} (p : Picks M at near far signs ties side i k M₁ r) where
     pub pick-fits : PickFits M₁ at near far weights signs ties side i r
     pick-fits = record {
       strip = record {
@@ -103,7 +104,7 @@ module _ (M : List ℤ) (at : ℕ) (near far : List ℤ) (weights : List ℕ) (s
       comparisons = omega (arith, h .comparisons, p .comparisons);
     }
 
-    module _ (M₂ : List ℤ) (s : Picked) (t : PickTaken M₁ at near far signs ties side i r M₂ s) where
+    module _ {M₂ : List ℤ} {s : Picked} (t : PickTaken M₁ at near far signs ties side i r M₂ s) where
       -- the new word: the state's digit above the word before
       above : (b : Bool) → r .word + cond b (2 ^ i) 0 ≡ cond b 1 0 * 2 ^ i + r .word
       above true = omega arith

@@ -18,7 +18,7 @@ use Rattle.decoding.proofs.Targets.{first-branch, leads-place, live-le,
 use Rattle.decoding.specs.Choosing.{takesSecond}
 use Rattle.decoding.specs.declared.blocks.Picked.{Picked}
 use Rattle.decoding.specs.declared.Counts.{Counts}
-use Rattle.decoding.specs.Halves.{StripFits}
+use Rattle.decoding.specs.Halves.{StripDone, StripFits}
 use Rattle.decoding.specs.Picking.{Lone, Lones, LonesFit, Picks, PicksFit, pickMetric, picksSecond}
 use Rattle.decoding.specs.Running.{Part, placeOf}
 use Rattle.decoding.specs.Stepping.{olds}
@@ -37,7 +37,7 @@ use Rattle.words.specs.Word.{bit}
 pub low-word : (w i : ℕ) → i < 32 → bit (w % 2 ^ 32) i ≡ bit w i
 low-word w i l = sym (ap (λ (x : ℕ). bit x i) (sym (div-add-mod' w (2 ^ 32))) ∙ bit-low 32 (w / 2 ^ 32) (w % 2 ^ 32) i l)
 
-module _ (M : List ℤ) (from to : ℕ) (c : Section) (y : ℤ) (weights : List ℕ) (signs ties : List ℤ) (w first : ℕ) (near₀ far₀ : List ℤ) (k : Counts)
+module _ {M : List ℤ} {from to : ℕ} {c : Section} {y : ℤ} {weights : List ℕ} {signs ties : List ℤ} {w first : ℕ} {near₀ far₀ : List ℤ} {k : Counts}
     (h : StripFits M from to c y weights signs ties w first 32 near₀ far₀ k) where
   abbrev old : ℕ → ℤ
   old = olds M from
@@ -68,8 +68,8 @@ module _ (M : List ℤ) (from to : ℕ) (c : Section) (y : ℤ) (weights : List 
     from-lt : from < 2 ^ 62
     from-lt = omega (arith, h .ready .place first (first-branch c (h .ready .section) first (omega (arith, h .states))))
 
-    pub near-asks : (e : ℕ) → e ≡ placeOf c → FetchFits M from e first near₀
-    near-asks e ee = record {
+    pub near-asks : {e : ℕ} → e ≡ placeOf c → FetchFits M from e first near₀
+    near-asks {e} ee = record {
       digit = omega (arith, place-lt c (h .ready .section));
       number = omega (arith, first-lt);
       strip = h .strip;
@@ -81,8 +81,8 @@ module _ (M : List ℤ) (from to : ℕ) (c : Section) (y : ℤ) (weights : List 
       };
     }
 
-    pub far-asks : c .begins ≡ true → (e s : ℕ) → e ≡ placeOf c → s ≡ 2 ^ c .live → FetchFits M from e (first + s) far₀
-    far-asks b e s ee es = record {
+    pub far-asks : c .begins ≡ true → {e s : ℕ} → e ≡ placeOf c → s ≡ 2 ^ c .live → FetchFits M from e (first + s) far₀
+    far-asks b {e} {s} ee es = record {
       digit = omega (arith, place-lt c (h .ready .section));
       number = omega (arith, first-lt, size-le);
       strip = h .strip + 2 ^ (c .live - 5);
@@ -90,7 +90,9 @@ module _ (M : List ℤ) (from to : ℕ) (c : Section) (y : ℤ) (weights : List 
       place = from-lt;
       gather = record {
         size = h .prepared .far-size;
-        there = λ i l. rw (far-lands e s i ee es l) (h .ready .place (first + i + 2 ^ c .live) (second-branch c (h .ready .section) (first + i) (state-lt i l) b));
+        there = λ i l.
+            rw (far-lands e s i ee es l)
+            (h .ready .place (first + i + 2 ^ c .live) (second-branch c (h .ready .section) (first + i) (state-lt i l) b));
       };
     }
       where
@@ -99,12 +101,12 @@ module _ (M : List ℤ) (from to : ℕ) (c : Section) (y : ℤ) (weights : List 
 
   -- ---- what is read: old metrics, signs and ties
 
-  module _ (near : List ℤ) (e : ℕ) (ee : e ≡ placeOf c) (g : Gathered M (landing from e first) 32 near) where
+  module _ {near : List ℤ} {e : ℕ} (ee : e ≡ placeOf c) (g : Gathered M (landing from e first) 32 near) where
     near-is : (i : ℕ) → i < 32 → getD near i (pos 0) ≡ nearAt c y old (first + i)
     near-is i l = g .here i l ∙ ap (λ (j : ℕ). getD M j (pos 0)) (near-lands e i ee l)
 
     -- the strip's side of the tables
-    module _ (side : ℕ) (es : side ≡ w % 2 * 32) where
+    module _ {side : ℕ} (es : side ≡ w % 2 * 32) where
       turned-is : (i : ℕ) → i < 32 → turnedBit (h .prepared .word) (w % 2) i ≡ bitOf c (first + i)
       turned-is i l =
           let z : first + 0 ≡ first = omega arith in
@@ -139,9 +141,10 @@ module _ (M : List ℤ) (from to : ℕ) (c : Section) (y : ℤ) (weights : List 
 
       -- ---- one branch a state
 
-      module _ (f : c .begins ≡ false) (M₁ : List ℤ) (k₁ : Counts) (q : Lones M (to + first) near signs side 32 k M₁ k₁) where
-        pub lones-part : Part M from to c y first 32 k M₁ (record { word = w % 2 ^ 32; counts = k₁ })
-        lones-part = record {
+      module _ {low : ℕ} (el : low ≡ w % 2 ^ 32) (f : c .begins ≡ false) {M₁ : List ℤ} {k₁ : Counts}
+          (q : Lones M (to + first) near signs side 32 k M₁ k₁) where
+        lones-part : Part M from to c y first 32 k M₁ (record { word = low; counts = k₁ })
+        lones-part = rw el (record {
           size = q .stored .size;
           metric = λ i l. ap (λ (j : ℕ). getD M₁ j (pos 0)) (sym (add-assoc to first i)) ∙ q .stored .here i l ∙ ap₂ _+ℤ_ (sign-is i l) (near-is i l)
               ∙ sym (ap (λ (z : Taken). z .metric) (alone-is c y old (first + i) f));
@@ -150,11 +153,14 @@ module _ (M : List ℤ) (from to : ℕ) (c : Section) (y : ℤ) (weights : List 
           short = mod-lt w (pow-pos 32);
           additions = rw f (omega (arith, q .additions));
           comparisons = rw f (omega (arith, q .comparisons));
-        }
+        })
+
+        pub lones-done : StripDone M from to c y first 32 k M₁ near far₀ (record { word = low; counts = k₁ })
+        lones-done = record { part = lones-part; near-size = g .size; far-size = h .prepared .far-size }
 
       -- ---- two branches a state
 
-      module _ (b : c .begins ≡ true) (far : List ℤ) (s : ℕ) (ez : s ≡ 2 ^ c .live) (g₂ : Gathered M (landing from e (first + s)) 32 far) where
+      module _ (b : c .begins ≡ true) {far : List ℤ} {s : ℕ} (ez : s ≡ 2 ^ c .live) (g₂ : Gathered M (landing from e (first + s)) 32 far) where
         far-is : (i : ℕ) → i < 32 → getD far i (pos 0) ≡ farAt c y old (first + i)
         far-is i l = g₂ .here i l ∙ ap (λ (j : ℕ). getD M j (pos 0)) (far-lands e s i ee ez l)
 
@@ -172,7 +178,10 @@ module _ (M : List ℤ) (from to : ℕ) (c : Section) (y : ℤ) (weights : List 
           comparisons = omega (arith, h .comparisons);
         }
 
-        module _ (M₁ : List ℤ) (r : Picked) (q : Picks M (to + first) near far signs ties side 32 k M₁ r) (v : ℕ) (ev : v ≡ r .word) where
+        module _ {low : ℕ} (el : low ≡ w % 2 ^ 32) {M₁ : List ℤ} {r : Picked} (q : Picks M (to + first) near far signs ties side 32 k M₁ r) where
+          abbrev v : ℕ
+          v = r .word
+
           abbrev takes : ℕ → Bool
           takes i = takesSecond (nearAt c y old (first + i)) (farAt c y old (first + i)) (signAt c y old (first + i)) (tieAt c y old (first + i))
 
@@ -185,19 +194,22 @@ module _ (M : List ℤ) (from to : ℕ) (c : Section) (y : ℤ) (weights : List 
 
           decide : (i : ℕ) → i < 32 → bit (bitXor (w % 2 ^ 32) v) i ≡ (atState c y old (first + i)) .bit
           decide i l =
-              let n : bit v i ≡ cond (takes i) 1 0 = ap (λ (x : ℕ). bit x i) ev ∙ q .second i l ∙ ap (λ (t : Bool). cond t 1 0) (same-test i l) in
+              let n : bit v i ≡ cond (takes i) 1 0 = q .second i l ∙ ap (λ (t : Bool). cond t 1 0) (same-test i l) in
               let p : bit (w % 2 ^ 32) i ≡ bitOf c (first + i) = low-word w i l ∙ h .bits i l in
               bit-xor i (w % 2 ^ 32) v ∙ differ-mod (bit (w % 2 ^ 32) i) (bit v i) (bit-lt i (w % 2 ^ 32)) (bit-lt i v)
               ∙ ap (λ (x : ℕ). x % 2) (add-comm (bit (w % 2 ^ 32) i) (bit v i)) ∙ ap (λ (x : ℕ). (bit v i + x) % 2) p
               ∙ two-bit c y old (first + i) b (h .ready .section) (state-lt i l) (bit v i) n
 
-          pub picks-part : Part M from to c y first 32 k M₁ (record { word = bitXor (w % 2 ^ 32) v; counts = r .counts })
-          picks-part = record {
+          picks-part : Part M from to c y first 32 k M₁ (record { word = bitXor low (r .word); counts = r .counts })
+          picks-part = rw el (record {
             size = q .stored .size;
             metric = λ i l. ap (λ (j : ℕ). getD M₁ j (pos 0)) (sym (add-assoc to first i)) ∙ q .stored .here i l ∙ same-metric i l;
             others = λ j o. q .stored .others j (⊎-elim (λ a. inl a) (λ a. inr (omega arith)) o);
             decision = decide;
-            short = xor-lt 32 (w % 2 ^ 32) v (mod-lt w (pow-pos 32)) (rw ev (q .short));
+            short = xor-lt 32 (w % 2 ^ 32) v (mod-lt w (pow-pos 32)) (q .short);
             additions = rw b (q .additions);
             comparisons = rw b (omega (arith, q .comparisons));
-          }
+          })
+
+          pub picks-done : StripDone M from to c y first 32 k M₁ near far (record { word = bitXor low (r .word); counts = r .counts })
+          picks-done = record { part = picks-part; near-size = g .size; far-size = g₂ .size }

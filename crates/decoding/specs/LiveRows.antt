@@ -13,7 +13,7 @@ use Rattle.trellises.specs.Numbers.{without}
 use Rattle.trellises.specs.SectionOf.{isActive, sectionOf}
 use Rattle.trellises.specs.States.{stateOf}
 use Rattle.words.specs.Choice.{more}
-use Rattle.words.specs.Ends.{FirstOne, first, firsts, last, lasts}
+use Rattle.words.specs.Ends.{first, firsts, last, lasts}
 use Rattle.words.specs.Span.{Spans}
 use Rattle.words.specs.Sum.{sumOf}
 use Rattle.words.specs.Word.{bit}
@@ -88,10 +88,6 @@ AllActive rows which t = (j : ℕ) → j < length rows → bit which j ≡ 1 →
 pub record LiveAt (rows : List ℕ) (t : ℕ) (r : Live) : Type 0 where
   pub marks-are : r .marks ≡ liveMarks rows t
   pub next-is : r .next ≡ begunBefore rows t
-
--- the last of the first so many rows is named where it begins at t
-abbrev pub LastActive : List ℕ → ℕ → ℕ → ℕ → Type 0
-LastActive rows which next t = (j f : ℕ) → next ≡ suc j → FirstOne (getD rows j 0) f → f ≡ t → 2 ^ j ≤ which
 
 -- where the rows named are the active rows of some plate rows, so many of them begun behind section t, r has the live rows before it
 pub record LiveBefore (table : List ℕ) (which next t : ℕ) (r : Live) : Type 0 where

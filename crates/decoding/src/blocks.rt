@@ -7,6 +7,7 @@ ghost use Rattle.decoding.specs.Halves.{StripDone, StripFits};
 ghost use Rattle.decoding.specs.Picking.{LoneFits, LoneTaken, Lones, LonesFit, PickFits, PickTaken, Picks, PicksFit};
 use crate::Counts;
 use crate::choices;
+use crate::patterns;
 use crate::states;
 use crate::states::Run;
 use crate::strips;
@@ -46,7 +47,7 @@ fn pick(
     let place = at + i;
     let metric = choice.metric;
     metrics[place] = metric;
-    let word = picked.word + weighed(choice.second, weights[i]);
+    let word = picked.word | weighed(choice.second, weights[i]);
     let raised = choice.counts;
     Picked {
         word,
@@ -90,7 +91,7 @@ fn picks(
 }
 
 // State i of a strip, which one branch leaves.
-fn lone(
+fn take_only(
     metrics: &mut [i32],
     at: usize,
     near: &[i32; 32],
@@ -110,7 +111,7 @@ fn lone(
 }
 
 // The states of a strip, which one branch each leaves.
-fn lones(
+fn take_only_each(
     metrics: &mut [i32],
     at: usize,
     near: &[i32; 32],
@@ -124,7 +125,7 @@ fn lones(
     let mut raised = counts;
     let mut i = 0;
     while i < 32 {
-        raised = lone(&mut *metrics, at, near, signs, side, i, raised);
+        raised = take_only(&mut *metrics, at, near, signs, side, i, raised);
         i += 1;
     }
     raised
@@ -134,7 +135,7 @@ fn lones(
 fn side_of(bits: u64) -> usize
     ensures { λ r. ⌜ r ≡ bits % 2 * 32 ⌝ }
 {
-    (bits % 2 * 32) as usize
+    ((bits & 1) << 5) as usize
 }
 
 // A strip of 32 states from `first` on, whose bits are the lowest of `bits`. What the gain adds is in the tables.
@@ -158,7 +159,7 @@ fn strip(
 {
     let place = states::place(section);
     let side = side_of(bits);
-    let word = bits % 4294967296;
+    let word = patterns::lower_half(bits) as u64;
     let at = to + first;
     strips::fetch(&*metrics, from, place, first, &mut *near);
     if section.begins {
@@ -181,7 +182,7 @@ fn strip(
             counts: raised,
         };
     }
-    let raised = lones(metrics, at, &*near, signs, side, counts);
+    let raised = take_only_each(metrics, at, &*near, signs, side, counts);
     Run {
         word,
         counts: raised,
@@ -227,7 +228,7 @@ pub fn block(
             &mut *far,
             raised,
         );
-        word = 4294967296 * word + run.word;
+        word = (word << 32) | run.word;
         raised = run.counts;
     }
     Run {

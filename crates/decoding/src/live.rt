@@ -4,7 +4,7 @@ use trellises::Section;
 ghost use lib.ListN.{length, take};
 ghost use mathlib.Core.Path.{_≡_};
 ghost use Prim.Native.Nat.{suc, _+_, _<_, _≤_};
-ghost use Rattle.decoding.specs.LiveRows.{AllActive, BeginsHere, EndsAre, LastActive, LiveAt, LiveBefore, PassedTo, PlateRows, begunBefore, endingBy, leadsBy, markOf};
+ghost use Rattle.decoding.specs.LiveRows.{AllActive, BeginsHere, EndsAre, LiveAt, LiveBefore, PassedTo, PlateRows, begunBefore, endingBy, leadsBy, markOf};
 ghost use Rattle.trellises.specs.RowsAmong.{rowsAmong};
 ghost use Rattle.trellises.specs.SectionOf.{held, sectionOf};
 
@@ -79,7 +79,7 @@ fn rows_below(active: u64, following: u8) -> usize
     if following == 0 {
         return u64::count_ones(active) as usize;
     }
-    let below = active % (1 << (following - 1));
+    let below = active & ((1 << (following - 1)) - 1);
     u64::count_ones(below) as usize
 }
 
@@ -96,7 +96,7 @@ pub fn leads(active: u64, following: u8, branch: usize) -> usize
 
 // The active rows but for the one that begins at t: of the rows begun by the section's far side it is the last.
 fn rows_before(rows: &[u64], active: u64, next: usize, t: usize) -> Live
-    requires { ⌜ (length (now rows) ≡ 64) × (next ≤ 64) × LastActive (now rows) active next t ⌝ }
+    requires { ⌜ (length (now rows) ≡ 64) × (next ≤ 64) ⌝ }
     ensures { λ r. ⌜ LiveBefore (now (rows .entry)) active next t r ⌝ }
 {
     if next == 0 {
@@ -108,7 +108,7 @@ fn rows_before(rows: &[u64], active: u64, next: usize, t: usize) -> Live
     let last = next - 1;
     if words::first_one(rows[last]) == t {
         return Live {
-            marks: active - (1 << last),
+            marks: active ^ (1 << last),
             next: last,
         };
     }
@@ -127,9 +127,9 @@ fn column_of(rows: &[u64], active: u64, t: usize) -> u64
     let mut left = active;
     while 0 < left {
         let j = words::last_one(left);
-        let digit = (rows[j] >> t) % 2;
-        column = (column << 1) + digit;
-        left -= 1 << j;
+        let digit = (rows[j] >> t) & 1;
+        column = (column << 1) | digit;
+        left = left ^ (1 << j);
     }
     column
 }

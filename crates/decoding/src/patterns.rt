@@ -1,6 +1,6 @@
 // The bits of 64 states by one word: the parity of each with the column.
 ghost use mathlib.Core.Path.{_≡_};
-ghost use Prim.Native.Nat.{_<_};
+ghost use Prim.Native.Nat.{_%_, _<_, _^_};
 ghost use Rattle.decoding.specs.Patterns.{HighPattern, LowPattern, Pattern, Turned, TurnFits};
 use words;
 
@@ -28,6 +28,16 @@ const HIGH: [u64; 8] = [
     0xFF0000FF00FFFF00,
 ];
 
+// Ones at the positions of a word's lower half.
+const LOWER_HALF: u64 = 0xFFFFFFFF;
+
+// The lower half of a word: the bits of its first 32 states.
+pub fn lower_half(word: u64) -> u32
+    ensures { λ r. ⌜ r ≡ word % 2 ^ 32 ⌝ }
+{
+    (word & LOWER_HALF) as u32
+}
+
 // The parities with the low three digits, by a column of three digits.
 fn low_parities(column: usize) -> u64
     requires { ⌜ column < 8 ⌝ }
@@ -44,11 +54,18 @@ fn high_parities(column: usize) -> u64
     HIGH[column]
 }
 
+// The lowest three digits of a column.
+fn three_digits(column: u64) -> usize
+    ensures { λ r. ⌜ r ≡ column % 8 ⌝ }
+{
+    (column & 7) as usize
+}
+
 // The parities of the states 0 to 63 with a column: three of its digits with three of the state's at a time.
 pub fn pattern(column: u64) -> u64
     ensures { λ r. ⌜ Pattern column r ⌝ }
 {
-    low_parities((column % 8) as usize) ^ high_parities((column / 8 % 8) as usize)
+    low_parities(three_digits(column)) ^ high_parities(three_digits(column >> 3))
 }
 
 // The parities of 64 states from a multiple of 64 on: the same pattern, or its complement.

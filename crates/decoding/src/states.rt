@@ -55,15 +55,8 @@ fn stride(section: Section) -> usize
     target(place(section), power(section.live))
 }
 
-// A decision as a bit of a word.
-fn wide(digit: u32) -> u64
-    ensures { λ r. ⌜ r ≡ digit ⌝ }
-{
-    digit as u64
-}
-
 // A state that one branch leaves.
-fn one(
+fn one_branch(
     metrics: &mut [i32],
     from: usize,
     to: usize,
@@ -90,7 +83,7 @@ fn one(
 }
 
 // A state that two branches leave, with different bits.
-fn two(
+fn two_branches(
     metrics: &mut [i32],
     from: usize,
     to: usize,
@@ -114,7 +107,7 @@ fn two(
     metrics[at] = metric;
     let raised = taken.counts;
     Run {
-        word: (wide(taken.second) + parity) % 2,
+        word: (taken.second as u64) ^ parity,
         counts: raised,
     }
 }
@@ -134,9 +127,9 @@ fn state(
     ensures { λ r. ⌜ Part (now (metrics .entry)) from to section gain state 1 counts (now (metrics .exit)) r ⌝ }
 {
     if section.begins {
-        two(metrics, from, to, section, gain, parity, state, counts)
+        two_branches(metrics, from, to, section, gain, parity, state, counts)
     } else {
-        one(metrics, from, to, section, gain, parity, state, counts)
+        one_branch(metrics, from, to, section, gain, parity, state, counts)
     }
 }
 
@@ -166,11 +159,11 @@ pub fn states(
             to,
             section,
             gain,
-            (pattern >> i) % 2,
+            (pattern >> i) & 1,
             first + i,
             raised,
         );
-        word = 2 * word + run.word;
+        word = (word << 1) | run.word;
         raised = run.counts;
     }
     Run {

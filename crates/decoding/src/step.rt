@@ -22,7 +22,7 @@ fn put(decisions: &mut [u64], at: usize, word: u64)
 }
 
 // A section of less than 64 states: one decision word.
-fn narrow(
+fn step_narrow(
     metrics: &mut [i32],
     from: usize,
     to: usize,
@@ -83,7 +83,7 @@ fn word(
 }
 
 // A section of 64 states or more: one decision word after the other.
-fn wide(
+fn step_wide(
     metrics: &mut [i32],
     from: usize,
     to: usize,
@@ -106,7 +106,7 @@ fn wide(
         &mut signs,
         &mut ties,
         &weights,
-        (pattern % 4294967296) as u32,
+        patterns::lower_half(pattern),
         gain,
     );
     let mut raised = counts;
@@ -148,8 +148,8 @@ pub fn step(
     ensures { λ r. ⌜ Stepped (now (metrics .entry)) from to (now (decisions .entry)) section gain counts (now (metrics .exit)) (now (decisions .exit)) r ⌝ }
 {
     if section.live < 6 {
-        narrow(metrics, from, to, decisions, section, gain, counts)
+        step_narrow(metrics, from, to, decisions, section, gain, counts)
     } else {
-        wide(metrics, from, to, decisions, section, gain, counts)
+        step_wide(metrics, from, to, decisions, section, gain, counts)
     }
 }

@@ -33,8 +33,8 @@ fn decision(decisions: &[u64], begin: usize, state: usize) -> u64
     requires { ⌜ (begin ≤ 4096) × (state < 4096) × (begin + state / 64 < length (now decisions)) ⌝ }
     ensures { λ r. ⌜ r ≡ bit (getD (now (decisions .entry)) (begin + state / 64) 0) (state % 64) ⌝ }
 {
-    let at = begin + state / 64;
-    words::bit_at(decisions[at], state % 64)
+    let at = begin + (state >> 6);
+    words::bit_at(decisions[at], state & 63)
 }
 
 // The row that begins, where the rows taken so far do not have the decided bit at t; 0 where they have it.

@@ -1,7 +1,7 @@
 -- `blocks::picks` meets its contract. The first i states are done.
 use borrow.Author.Needs.{needs}
-use mathlib.Core.Path.{_≡_}
 use native.Mathlib.Omega.{arith}
+use mathlib.Core.Path.{_≡_}
 use Prim.Native.Nat.{_-_, _≤_}
 use Rattle.decoding.proofs.Storing.{pick-fits, picks-more, picks-none}
 use Rattle.decoding.specs.Picking.{Picks}
@@ -9,33 +9,11 @@ use Rattle.decoding.proofs.blocks.picks.Statement.{statement}
 use Rattle.decoding.proofs.blocks.picks.Tie as tie
 
 abbrev Inv-loop : tie.InvT-loop
-Inv-loop metrics₀ at near far weights signs ties side picked₀ i₀ metrics picked i = (i ≤ 32) × Picks metrics₀ at near far signs ties side i (picked₀ .counts) metrics picked
+Inv-loop metrics₀ at near far weights signs ties side picked₀ i₀ metrics picked i =
+    (i ≤ 32) × Picks metrics₀ at near far signs ties side i (picked₀ .counts) metrics picked
 
 abbrev μ-loop : tie.MeasureT-loop
 μ-loop metrics₀ at near far weights signs ties side picked₀ i₀ metrics picked i = 32 - i
-
-loop-holds : tie.Need-loop-holds Inv-loop μ-loop
-loop-holds c = (omega arith, picks-none (c .args .metrics .now) (c .args .at) (c .args .near .now) (c .args .far .now) (c .args .weights .now) (c .args .signs .now) (c .args .ties .now) (c .args .side) (c .args .counts))
-
-pick-requires : tie.Need-pick-requires Inv-loop μ-loop
-pick-requires c κs =
-    pick-fits (c .before .before .before .args .metrics .now) (c .before .before .before .args .at) (c .before .before .before .args .near .now) (c .before .before .before .args .far .now) (c .before .before .before .args .weights .now) (c .before .before .before .args .signs .now) (c .before .before .before .args .ties .now) (c .before .before .before .args .side) (c .before .before .before .args .counts) (c .before .before .before .pre) (c .before .before .loop .i) (c .before .loop-test .taken) (c .before .before .loop .metrics) (c .before .before .loop .picked) (c .before .before .loop .inv .1)
-
-add-i : tie.Need-add-i Inv-loop μ-loop
-add-i c = omega (arith, c .before .before .before .loop-test .taken)
-
-loop-less : tie.Need-loop-less Inv-loop μ-loop
-loop-less c = omega (arith, c .before .before .before .loop-test .taken)
-
-loop-again : tie.Need-loop-again Inv-loop μ-loop
-loop-again c = (
-  omega (arith, c .before .before .before .loop-test .taken),
-  picks-more (c .before .before .before .before .before .args .metrics .now) (c .before .before .before .before .before .args .at) (c .before .before .before .before .before .args .near .now) (c .before .before .before .before .before .args .far .now) (c .before .before .before .before .before .args .weights .now) (c .before .before .before .before .before .args .signs .now) (c .before .before .before .before .before .args .ties .now) (c .before .before .before .before .before .args .side) (c .before .before .before .before .before .args .counts) (c .before .before .before .before .before .pre) (c .before .before .before .before .loop .i) (c .before .before .before .loop-test .taken) (c .before .before .before .before .loop .metrics) (c .before .before .before .before .loop .picked) (c .before .before .before .before .loop .inv .1)
-      _ _ (c .before .pick .ensures),
-)
-
-same-length : tie.Need-same-length Inv-loop μ-loop
-same-length c = c .before .loop .inv .1 .stored .size
 
 returns : tie.Need-returns Inv-loop μ-loop
 returns c = let e : c .before .loop .i ≡ 32 = omega (arith, c .loop-test .left, c .before .loop .inv .0) in rw e at (c .before .loop .inv .1)
@@ -46,10 +24,10 @@ picks-spec =
     (tie.spec
     Inv-loop
     μ-loop
-    loop-holds
-    pick-requires
-    add-i
-    loop-less
-    loop-again
-    same-length
+    (λ c. (omega arith, search picks-none))  -- the loop begins
+    (λ c κs. search pick-fits)  -- pick
+    (λ c. search needs)  -- i + 1
+    (λ c. search needs)  -- the measure falls
+    (λ c. (omega (arith, c .before .before .before .loop-test .taken), search picks-more))  -- the loop goes on
+    (λ c. c .before .loop .inv .1 .stored .size)  -- metrics keeps its length
     returns)

@@ -1,12 +1,12 @@
 -- `decoding::live::pass_back` meets its contract: the row that ends joins the live rows, and the row that begins leaves them.
 use borrow.Author.Needs.{needs}
 use lib.ListN.{take}
-use mathlib.Core.Path.{_≡_, _∙_, sym}
+use mathlib.Core.Path.{_≡_}
 use native.Mathlib.Omega.{arith}
 use Prim.Native.Nat.{suc, _+_}
 use Rattle.decoding.proofs.BegunRows.{begun-few}
-use Rattle.decoding.proofs.PassedBack.{all-active, before-few, last-begins, last-there, passed-back}
-use Rattle.decoding.proofs.PassedRows.{active-fits, counted, ending-few, ending-joins, row-first}
+use Rattle.decoding.proofs.PassedBack.{all-active, before-few, passed-back}
+use Rattle.decoding.proofs.PassedRows.{active-fits, counted, ending-few, ending-joins}
 use Rattle.decoding.specs.LiveRows.{LiveAt, activeMarks}
 use Rattle.decoding.proofs.live.pass_back.Statement.{statement}
 use Rattle.decoding.proofs.live.pass_back.Tie as tie
@@ -19,7 +19,7 @@ mark-of-requires c κs = let s = c .before .before in ending-few (s .pre .0) (s 
 
 -- the rows that are active in section t
 joined : (c : tie.After-mark-of)
-    → c .before .before .before .args .live .marks + c .mark-of .result ≡ activeMarks (take (c .before .before .before .args .k) (c .before .before .before .args .rows .now)) (c .before .before .before .args .t)
+    → let a = c .before .before .before .args in a .live .marks + c .mark-of .result ≡ activeMarks (take (a .k) (a .rows .now)) (a .t)
 joined c =
     let s = c .before .before .before in
     ending-joins (s .pre .0) (s .args .t) (s .pre .1 .0) (s .pre .1 .1 .0) (s .pre .1 .1 .1 .marks-are) (c .mark-of .ensures)
@@ -32,16 +32,11 @@ rows-before-requires c κs =
     let s = c .before .before .before .before in
     let p = s .pre .0 in
     let b = s .pre .1 .1 .1 .next-is in
-    let e = joined (c .before) in (
-      p .table,
-      omega (arith, b, begun-few (suc (s .args .t)) (take (s .args .k) (s .args .rows .now)), counted p, p .few),
-      λ j f q first h.
-          omega (arith, last-begins p (s .args .t) e b q (sym (row-first p j (last-there p (s .args .t) e b q) first) ∙ h)),
-    )
+    (p .table, omega (arith, b, begun-few (suc (s .args .t)) (take (s .args .k) (s .args .rows .now)), counted p, p .few))
 
 -- those of them that are live before it
 before : (c : tie.After-rows-before)
-    → LiveAt (take (c .before .before .before .before .before .args .k) (c .before .before .before .before .before .args .rows .now)) (c .before .before .before .before .before .args .t) (c .rows-before .result)
+    → let a = c .before .before .before .before .before .args in LiveAt (take (a .k) (a .rows .now)) (a .t) (c .rows-before .result)
 before c =
     let s = c .before .before .before .before .before in
     c .rows-before .ensures .live (s .args .k) (s .pre .0) (joined (c .before .before)) (s .pre .1 .1 .1 .next-is)
@@ -65,7 +60,8 @@ returns : tie.Need-returns
 returns c =
     let b = c .before .before in
     let s = b .before .before .before .before .before in
-    passed-back (s .pre .0) (s .args .t) (joined (b .before .before)) (s .pre .1 .0) (s .pre .1 .1 .0) (before b) (c .rows-below .ensures) (c .before .column-of .ensures)
+    passed-back (s .pre .0) (s .args .t) (joined (b .before .before)) (s .pre .1 .0) (s .pre .1 .1 .0) (before b) (c .rows-below .ensures)
+    (c .before .column-of .ensures)
 
 pub pass-back-spec : {M : Type 1} → statement M
 pass-back-spec =

@@ -3,10 +3,9 @@ use borrow.Author.Needs.{needs}
 use lib.ListN.{take}
 use mathlib.Core.Path.{_∙_, _≡_, ap, sym}
 use native.Mathlib.Omega.{arith}
-use Prim.Native.Nat.{suc, _-_, ℕ}
+use Prim.Native.Nat.{suc, _-_}
 use Rattle.decoding.proofs.PassedBack.{before-all, before-last, last-there}
 use Rattle.decoding.proofs.PassedRows.{row-first}
-use Rattle.trellises.proofs.AmongRows.{shifted-one}
 use Rattle.words.specs.Ends.{firsts}
 use Rattle.decoding.proofs.live.rows_before.Statement.{statement}
 use Rattle.decoding.proofs.live.rows_before.Tie as tie
@@ -33,16 +32,15 @@ one-more c = omega (arith, c .before .before .if1 .left)
 shl-t12 : tie.Need-shl-t12
 shl-t12 c = let s = c .before .before .before .before .before in omega (arith, one-more (c .before), s .pre .1)
 
-sub-t13 : tie.Need-sub-t13
-sub-t13 c =
-    let s = c .before .before .before .before .before in
-    omega (arith, s .pre .2 (s .args .next - 1) _ (one-more (c .before)) (c .before .first-one .ensures) (c .if2 .taken), shifted-one (s .args .next - 1) (omega (arith, one-more (c .before), s .pre .1)))
-
 returns-2 : tie.Need-returns-2
 returns-2 c =
     let s = c .before .before .before .before .before in
     let q = one-more (c .before) in
-    record { live = λ k p e b. before-last p (s .args .t) e b q (sym (row-first p (s .args .next - 1) (last-there p (s .args .t) e b q) (c .before .first-one .ensures)) ∙ c .if2 .taken) }
+    record {
+      live = λ k p e b.
+          let f = row-first p (s .args .next - 1) (last-there p (s .args .t) e b q) (c .before .first-one .ensures) in
+          before-last p (s .args .t) e b q (sym f ∙ c .if2 .taken);
+    }
 
 returns-3 : tie.Need-returns-3
 returns-3 c =
@@ -51,7 +49,8 @@ returns-3 c =
     record {
       live = λ k p e b. before-all p (s .args .t) e b (λ j r f.
           let i : s .args .next - 1 ≡ j = omega (arith, r) in
-          c .if2 .left (row-first p (s .args .next - 1) (last-there p (s .args .t) e b q) (c .before .first-one .ensures) ∙ ap (firsts (take k (s .args .rows .now))) i ∙ f));
+          let g = row-first p (s .args .next - 1) (last-there p (s .args .t) e b q) (c .before .first-one .ensures) in
+          c .if2 .left (g ∙ ap (firsts (take k (s .args .rows .now))) i ∙ f));
     }
 
 pub rows-before-spec : {M : Type 1} → statement M
@@ -64,6 +63,5 @@ rows-before-spec =
     shared-slice-read-first-one
     first-one-requires
     shl-t12
-    sub-t13
     returns-2
     returns-3)

@@ -4,24 +4,13 @@ use mir.Facts.{toZ-ofZ}
 use Rattle.decoding.proofs.states.state.Statement.{statement}
 use Rattle.decoding.proofs.states.state.Tie as tie
 
-two-requires : tie.Need-two-requires
-two-requires c κs = rw (toZ-ofZ (c .before .before .fits .gain)) (c .before .if1 .taken, c .before .before .pre)
-
-one-requires : tie.Need-one-requires
-one-requires c κs = rw (toZ-ofZ (c .before .before .fits .gain)) (c .before .if1 .left, c .before .before .pre)
-
-same-length : tie.Need-same-length
-same-length c = search needs
-
-returns : tie.Need-returns
-returns c = rw (toZ-ofZ (c .before .before .before .before .fits .gain)) at (c .before .two .ensures)
-
-same-length-2 : tie.Need-same-length-2
-same-length-2 c = search needs
-
-returns-2 : tie.Need-returns-2
-returns-2 c = rw (toZ-ofZ (c .before .before .before .before .fits .gain)) at (c .before .one .ensures)
-
 pub state-spec : {M : Type 1} → statement M
 state-spec =
-    tie.close (tie.spec two-requires one-requires same-length returns same-length-2 returns-2)
+    tie.close
+    (tie.spec
+    (λ c κs. let start = c .before .before in rw (toZ-ofZ (start .fits .gain)) (c .before .if1 .taken, start .pre))  -- two_branches
+    (λ c κs. let start = c .before .before in rw (toZ-ofZ (start .fits .gain)) (c .before .if1 .left, start .pre))  -- one_branch
+    (λ c. search needs)  -- metrics keeps its length
+    (λ c. let start = c .before .before .before .before in rw (toZ-ofZ (start .fits .gain)) at (c .before .two-branches .ensures))
+    (λ c. search needs)  -- metrics keeps its length
+    (λ c. let start = c .before .before .before .before in rw (toZ-ofZ (start .fits .gain)) at (c .before .one-branch .ensures)))

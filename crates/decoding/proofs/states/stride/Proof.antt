@@ -16,7 +16,8 @@ target-requires c κs = omega (arith, c .before .place .ensures, place-lt (c .be
 
 returns : tie.Need-returns
 returns c =
-    stride-is (c .before .before .before .args .section) (c .before .before .before .pre) _ _ _ (c .before .before .place .ensures) (c .before .power .ensures) (c .target .ensures)
+    let start = c .before .before .before in
+    stride-is (start .args .section) (start .pre) _ _ _ (c .before .before .place .ensures) (c .before .power .ensures) (c .target .ensures)
 
 pub stride-spec : {M : Type 1} → statement M
 stride-spec = tie.close (tie.spec place-requires power-requires target-requires returns)
