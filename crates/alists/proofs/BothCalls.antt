@@ -22,7 +22,7 @@ use Rattle.alists.specs.Text.{alistText}
 use Rattle.alists.specs.Working.{FirstBeyond}
 use Rattle.listings.proofs.Conditions.{fits-room}
 use Rattle.listings.specs.declared.Written.{Written}
-use Rattle.listings.specs.declared.Written.the-variants.{Length}
+use Rattle.listings.specs.declared.Written.the-variants.{Bytes}
 use Rattle.plates.specs.declared.Refusal.{Refusal}
 use Rattle.plates.specs.declared.Refusal.the-variants as R
 use Rattle.plates.specs.Prepare.{RowOver}
@@ -32,7 +32,7 @@ use Rattle.plates.specs.Refusals.{Passes}
 
 -- a matrix of such sizes is written where there is room
 sized-written : (n : ℕ) (rows room : List ℕ) → Sized n rows → length (alistText n rows) ≤ length room
-    → WritesAlist n rows room (Length (length (alistText n rows))) (alistText n rows ++ drop (length (alistText n rows)) room)
+    → WritesAlist n rows room (Bytes (length (alistText n rows))) (alistText n rows ++ drop (length (alistText n rows)) room)
 sized-written n rows room z h =
     let a = z .least in
     let b = z .some in
@@ -58,7 +58,7 @@ matrix-read text table n count table′ x = go (reading text) refl x
 -- a text in our form that is read as a matrix and written, with room for it, keeps its bytes
 pub read-and-written : (text table : List ℕ) (n count : ℕ) (table′ room : List ℕ) {r : Written} {room′ : List ℕ} → OwnForm text
     → Reads text table (Matrix n count) table′ → length text ≤ length room → WritesAlist n (take count table′) room r room′
-    → (r ≡ Length (length text)) × (room′ ≡ text ++ drop (length text) room)
+    → (r ≡ Bytes (length text)) × (room′ ≡ text ++ drop (length text) room)
 read-and-written text table n count table′ room {r} {room′} f x h w =
     let e = matrix-read text table n count table′ x .is in
     let k = own-form-keeps text n (take count table′) f e in
@@ -92,10 +92,10 @@ written-sized n rows room p = record {
   where
     above : Dec (0 < n) → 1 ≤ n
     above (yes h) = omega (arith, h)
-    above (no h) = absurd (p .0 R.Length (inl (omega (arith, h)), refl))
+    above (no h) = absurd (p .0 R.Bytes (inl (omega (arith, h)), refl))
 
     within : Dec (64 < n) → n ≤ 64
-    within (yes h) = absurd (p .0 R.Length (inr h, refl))
+    within (yes h) = absurd (p .0 R.Bytes (inr h, refl))
     within (no h) = omega (arith, h)
 
     filled : Dec (0 < length rows) → 1 ≤ length rows
@@ -108,7 +108,7 @@ written-sized n rows room p = record {
 
 -- a matrix that is written, and its text read, is the same matrix
 pub written-and-read : (n : ℕ) (rows room : List ℕ) (size : ℕ) (room′ table : List ℕ) {r : Alist} {table′ : List ℕ}
-    → WritesAlist n rows room (Length size) room′
+    → WritesAlist n rows room (Bytes size) room′
     → Reads (take size room′) table r table′ → (r ≡ Matrix n (length rows)) × (table′ ≡ rows ++ replicate (64 - length rows) 0)
 written-and-read n rows room size room′ table {r} {table′} w x =
     let p = w .reply in

@@ -11,17 +11,17 @@ use Rattle.alists.specs.Text.{alistText}
 use Rattle.alists.specs.Working.{FirstBeyond, Puts}
 use Rattle.listings.proofs.Conditions.{fits-room, passed-first, refused-first, too-long}
 use Rattle.listings.specs.declared.Written.{Written}
-use Rattle.listings.specs.declared.Written.the-variants.{Length, Refused}
+use Rattle.listings.specs.declared.Written.the-variants.{Bytes, Refused}
 use Rattle.listings.specs.Writing.{WritesLine}
 use Rattle.plates.specs.declared.Refusal.{Refusal}
 use Rattle.plates.specs.declared.Refusal.the-variants as R
 use Rattle.plates.specs.Prepare.{RowOver, badLength}
 
 module _ (n : ℕ) (rows room : List ℕ) where
-  pub length-zero : n ≡ 0 → WritesAlist n rows room (Refused R.Length) room
+  pub length-zero : n ≡ 0 → WritesAlist n rows room (Refused R.Bytes) room
   length-zero e = refused-first (inl e, refl)
 
-  pub length-over : 64 < n → WritesAlist n rows room (Refused R.Length) room
+  pub length-over : 64 < n → WritesAlist n rows room (Refused R.Bytes) room
   length-over h = refused-first (inr h, refl)
 
   length-good : (n ≡ 0 → ⊥) → n ≤ 64 → (p : Refusal) → badLength n p → ⊥
@@ -53,7 +53,7 @@ module _ (n : ℕ) (rows room : List ℕ) where
 
 -- a text put at the start of a room that is long enough
 pub put-fits : {text room room′ scratch scratch′ : List ℕ} {size r : ℕ} → Puts scratch 0 text scratch′ size → size ≤ length room → Puts room 0 text room′ r
-    → WritesLine text room (Length size) room′
+    → WritesLine text room (Bytes size) room′
 put-fits {text} {room} {room′} {scratch} {scratch′} {size} {r} m h p =
     let e : size ≡ length text = m .next ∙ omega arith in
     let z : 0 + length text ≡ length text = omega arith in

@@ -6,8 +6,8 @@ use mathlib.Core.Bool.{Bool, false, true}
 use mathlib.Core.List.{List}
 use mathlib.Core.Path.{_≡_}
 use Prim.Native.Nat.{_+_, _<_, _^_, suc, ℕ, _≤_}
-use Rattle.alists.specs.declared.lists.Judged.{Judged}
-use Rattle.alists.specs.declared.lists.Judged.the-variants as J
+use Rattle.alists.specs.declared.lists.WordFound.{WordFound}
+use Rattle.alists.specs.declared.lists.WordFound.the-variants as J
 use Rattle.alists.specs.declared.lists.OneList.{OneList}
 use Rattle.alists.specs.declared.lists.OneList.the-variants as O
 use Rattle.alists.specs.declared.lists.AllLists.{AllLists}
@@ -102,12 +102,12 @@ pub record StoresLine (l : Stored) (text table : List ℕ) (r : LineEnd) (table�
   pub is : StoredAs l text table′ r
 
 -- the word of a list
-abbrev pub JudgedAs : Word → Judged → Type 0
+abbrev pub JudgedAs : Word → WordFound → Type 0
 JudgedAs w (J.Is v) = w ≡ word v
 JudgedAs w J.Bad = w ≡ wrong
 
 -- r is that word, or that the list is faulty
-pub record Judges (w : Word) (r : Judged) : Type 0 where
+pub record FindsWord (w : Word) (r : WordFound) : Type 0 where
   pub is : JudgedAs w r
 
 -- the word of a list in a text

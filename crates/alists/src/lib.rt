@@ -49,5 +49,5 @@ pub fn write(n: usize, rows: &[u64], room: &mut [u8]) -> Written
         return Written::Refused(Refusal::LineRoom);
     }
     pieces::put_text(n, rows, room);
-    Written::Length(size)
+    Written::Bytes(size)
 }

@@ -3,13 +3,13 @@ ghost use Prim.Native.Nat.{_+_, _≤_};
 ghost use lib.ListN.{drop, length};
 ghost use mathlib.Core.Path.{_≡_};
 ghost use Rattle.alists.specs.Reading.{fits, listAt, listsFrom, onesOf, shows, wordOf, zerosOnly};
-ghost use Rattle.alists.specs.Working.{Judges, ReadsList, ReadsLists, laidFrom};
+ghost use Rattle.alists.specs.Working.{FindsWord, ReadsList, ReadsLists, laidFrom};
 use crate::matrix::column_at;
 use crate::numbers::LineEnd;
 use crate::numbers::read_line;
 
 // A list's word, or that the list is faulty.
-pub enum Judged {
+pub enum WordFound {
     Is(u64),
     Bad,
 }
@@ -40,21 +40,21 @@ fn fits_index(size: usize, used: u64, x: usize) -> bool
 }
 
 // The word with a one at each index.
-fn ones_of(list: &[usize], size: usize) -> Judged
+fn ones_of(list: &[usize], size: usize) -> WordFound
     requires { ⌜ size ≤ 64 ⌝ }
-    ensures { λ r. ⌜ Judges (onesOf size 0 (now (list .entry))) r ⌝ }
+    ensures { λ r. ⌜ FindsWord (onesOf size 0 (now (list .entry))) r ⌝ }
 {
     let mut used: u64 = 0;
     let mut i = 0;
     while i < list.len() {
         let x = list[i];
         if !fits_index(size, used, x) {
-            return Judged::Bad;
+            return WordFound::Bad;
         }
         used += 1 << (x - 1);
         i += 1;
     }
-    Judged::Is(used)
+    WordFound::Is(used)
 }
 
 // Whether numbers are all zero.
@@ -72,15 +72,15 @@ fn zeros_only(list: &[usize]) -> bool
 }
 
 // The word of a list that has its weight.
-fn word_of(list: &[usize], weight: usize, size: usize) -> Judged
+fn word_of(list: &[usize], weight: usize, size: usize) -> WordFound
     requires { ⌜ size ≤ 64 ⌝ }
-    ensures { λ r. ⌜ Judges (wordOf size weight (now (list .entry))) r ⌝ }
+    ensures { λ r. ⌜ FindsWord (wordOf size weight (now (list .entry))) r ⌝ }
 {
     if list.len() < weight {
-        return Judged::Bad;
+        return WordFound::Bad;
     }
     if !zeros_only(&list[weight..]) {
-        return Judged::Bad;
+        return WordFound::Bad;
     }
     ones_of(&list[..weight], size)
 }
@@ -98,7 +98,7 @@ fn list_at(text: &[u8], at: usize, most: usize, size: usize, weight: usize) -> O
         return OneList::Bad;
     };
     let judged = word_of(&table[..most], weight, size);
-    let Judged::Is(word) = judged else {
+    let WordFound::Is(word) = judged else {
         return OneList::Bad;
     };
     OneList::Is { word, next }

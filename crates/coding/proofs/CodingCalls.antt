@@ -15,7 +15,7 @@ use Rattle.coding.specs.declared.Reading.{Reading}
 use Rattle.coding.specs.TakingOff.{Headed, Reaches, Read}
 use Rattle.plates.proofs.SoundIsPrepared.{sound, used-row, used-rows}
 use Rattle.plates.specs.declared.Plate.{Plate}
-use Rattle.plates.specs.declared.Refusal.the-variants.{Information, NoCodeword, NotPrepared}
+use Rattle.plates.specs.declared.Refusal.the-variants.{InformationBeyond, NoCodeword, NotPrepared}
 use Rattle.plates.specs.Prepare.{IsPrepared, Tests, rowsOf}
 use Rattle.plates.specs.Sound.{Sound}
 use Rattle.words.proofs.Span.{Nothing, Top, least, rising-apart, zero-one}
@@ -67,7 +67,7 @@ module _ {plate : Plate} (given : IsPrepared plate) (word : ℕ) (r : Reading) (
 -- the rows are taken off the word plus mask
 module _ {plate : Plate} (given : IsPrepared plate) (word : ℕ) (r : Reading)
     (read : Read (plate .rows) (plate .k) (bitXor word (plate .mask)) (plate .k) r) where
-  read-information : r .rest ≡ 0 → ReadsBack plate word (R.Information (r .information))
+  read-information : r .rest ≡ 0 → ReadsBack plate word (R.InformationBeyond (r .information))
   read-information e =
       let codeword = read-codeword given (bitXor word (plate .mask)) r read e in (
         ((λ q b. b .0 given), ((λ q b. b .0 (record { by = r .information; sum = codeword })), tt)),
@@ -106,7 +106,7 @@ module _ {plate : Plate} {p : Bool} (t : Tests plate p) where
     rows-headed = plate-headed (sound given)
 
     module _ {information : ℕ} {r : Bool} (o : Reaches information (plate .k) r) where
-      pub over-refused : r ≡ true → Encodes plate information (E.Refused Information)
+      pub over-refused : r ≡ true → Encodes plate information (E.Refused InformationBeyond)
       over-refused e = inr ((λ q b. b .0 given), inl (o .yes-is e, refl))
 
       pub encoded : {sum : ℕ} → r ≡ false → sum ≡ sumOf (rowsOf plate) information → Encodes plate information (E.Word (bitXor sum (plate .mask)))
@@ -116,5 +116,5 @@ module _ {plate : Plate} {p : Bool} (t : Tests plate p) where
       pub no-word : (r .rest ≡ 0 → ⊥) → ReadsBack plate word (R.Refused NoCodeword)
       no-word = read-refused given word r read
 
-      pub informed : r .rest ≡ 0 → ReadsBack plate word (R.Information (r .information))
+      pub informed : r .rest ≡ 0 → ReadsBack plate word (R.InformationBeyond (r .information))
       informed = read-information given word r read

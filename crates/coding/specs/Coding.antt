@@ -6,7 +6,7 @@ use mathlib.Core.Path.{_≡_}
 use Rattle.words.specs.Sum.{sumOf}
 use Rattle.plates.specs.declared.Plate.{Plate}
 use Rattle.plates.specs.declared.Refusal.{Refusal}
-use Rattle.plates.specs.declared.Refusal.the-variants.{Information, NoCodeword}
+use Rattle.plates.specs.declared.Refusal.the-variants.{InformationBeyond, NoCodeword}
 use Rattle.plates.specs.Prepare.{IsWord, notPrepared, rowsOf}
 use Rattle.plates.specs.Refusals.{Refuses, Passes}
 use Rattle.coding.specs.declared.Encoded.{Encoded}
@@ -16,7 +16,7 @@ use Rattle.coding.specs.declared.ReadBack.the-variants as R
 
 -- 13: the information has a one at k or beyond
 abbrev pub overlong : Plate → ℕ → Refusal → Type 0
-overlong plate information q = (2 ^ plate .k ≤ information) × (q ≡ Information)
+overlong plate information q = (2 ^ plate .k ≤ information) × (q ≡ InformationBeyond)
 
 -- 14: the word is no word of the plate
 abbrev pub noWord : Plate → ℕ → Refusal → Type 0
@@ -39,6 +39,6 @@ Encodes plate information (E.Refused q) = Refuses (encodeConditions plate inform
 
 -- read back: the information, with no one at k or beyond, that encodes to the word
 abbrev pub ReadsBack : Plate → ℕ → ReadBack → Type 0
-ReadsBack plate word (R.Information information) =
+ReadsBack plate word (R.InformationBeyond information) =
     Passes (readConditions plate word) × (information < 2 ^ plate .k) × (wordOf plate information ≡ word)
 ReadsBack plate word (R.Refused q) = Refuses (readConditions plate word) q

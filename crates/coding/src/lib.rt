@@ -108,7 +108,7 @@ pub fn encode_parts<'a>(
         return Encoded::Refused(Refusal::NotPrepared);
     }
     if reaches(information, k) {
-        return Encoded::Refused(Refusal::Information);
+        return Encoded::Refused(Refusal::InformationBeyond);
     }
     Encoded::Word(sum_rows(rows, k, information) ^ mask)
 }

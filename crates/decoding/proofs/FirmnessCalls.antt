@@ -10,10 +10,10 @@ use Rattle.decoding.proofs.FirmnessRead.{flag-of}
 use Rattle.decoding.proofs.PlateSizes.{plateSizes}
 use Rattle.decoding.proofs.SampleLimits.{within-passes}
 use Rattle.decoding.proofs.ZeroedRooms.{zeroed}
-use Rattle.decoding.specs.declared.firmness.Judged.the-variants.{Found, Refused}
+use Rattle.decoding.specs.declared.firmness.Flagged.the-variants.{Found, Refused}
 use Rattle.decoding.specs.declared.firmness.Reading.{Reading}
 use Rattle.decoding.specs.Decode.{SampleOver, decisionNeed, metricNeed}
-use Rattle.decoding.specs.Firmness.{Judges, firmnessConditions}
+use Rattle.decoding.specs.Firmness.{TellsFirmness, firmnessConditions}
 use Rattle.decoding.specs.Forcing.{ReadAt}
 use Rattle.decoding.specs.Metric.{limit}
 use Rattle.decoding.specs.Searching.{FirstOver}
@@ -25,15 +25,15 @@ use Rattle.plates.specs.Prepare.{IsPrepared}
 use Rattle.plates.specs.Refusals.{Passes}
 
 module _ (plate : Plate) (samples : List ℤ) (position : ℕ) (metrics : List ℤ) (decisions : List ℕ) where
-  pub refused-5 : (IsPrepared plate → ⊥) → Judges plate samples position metrics decisions metrics decisions (Refused NotPrepared)
+  pub refused-5 : (IsPrepared plate → ⊥) → TellsFirmness plate samples position metrics decisions metrics decisions (Refused NotPrepared)
   refused-5 n = (inl (n, refl), refl, refl)
 
   module _ (given : IsPrepared plate) where
-    pub refused-6 : (length samples ≡ plate .n → ⊥) → Judges plate samples position metrics decisions metrics decisions (Refused SampleCount)
+    pub refused-6 : (length samples ≡ plate .n → ⊥) → TellsFirmness plate samples position metrics decisions metrics decisions (Refused SampleCount)
     refused-6 n = (inr ((λ q b. b .0 given), inl (n, refl)), refl, refl)
 
     module _ (size : length samples ≡ plate .n) (over : ℕ) (found : FirstOver samples over) where
-      pub refused-7 : over < plate .n → Judges plate samples position metrics decisions metrics decisions (Refused (SampleRange over))
+      pub refused-7 : over < plate .n → TellsFirmness plate samples position metrics decisions metrics decisions (Refused (SampleRange over))
       refused-7 h =
           let k : over < length samples = omega (arith, size) in
           (inr ((λ q b. b .0 given), inr ((λ q b. b .0 size), inl (record { position = over; there = k; over = found .here k; first = found .before; is = refl }))), refl, refl)
@@ -45,18 +45,18 @@ module _ (plate : Plate) (samples : List ℤ) (position : ℕ) (metrics : List �
         no-sample-over : (q : Refusal) → SampleOver samples q → ⊥
         no-sample-over = within-passes samples samples-within
 
-        pub refused-21 : plate .n ≤ position → Judges plate samples position metrics decisions metrics decisions (Refused PositionBeyond)
+        pub refused-21 : plate .n ≤ position → TellsFirmness plate samples position metrics decisions metrics decisions (Refused PositionBeyond)
         refused-21 h = (inr ((λ q b. b .0 given), inr ((λ q b. b .0 size), inr (no-sample-over, inl (h, refl)))), refl, refl)
 
         module _ (there : position < plate .n) where
           not-beyond : (q : Refusal) → (plate .n ≤ position) × (q ≡ PositionBeyond) → ⊥
           not-beyond q b = omega (arith, b .0)
 
-          pub refused-8 : length metrics < metricNeed plate → Judges plate samples position metrics decisions metrics decisions (Refused MetricRoom)
+          pub refused-8 : length metrics < metricNeed plate → TellsFirmness plate samples position metrics decisions metrics decisions (Refused MetricRoom)
           refused-8 h = (inr ((λ q b. b .0 given), inr ((λ q b. b .0 size), inr (no-sample-over, inr (not-beyond, inl (h, refl))))), refl, refl)
 
           module _ (metric-room : metricNeed plate ≤ length metrics) where
-            pub refused-9 : length decisions < decisionNeed plate → Judges plate samples position metrics decisions metrics decisions (Refused DecisionRoom)
+            pub refused-9 : length decisions < decisionNeed plate → TellsFirmness plate samples position metrics decisions metrics decisions (Refused DecisionRoom)
             refused-9 h =
                 (inr ((λ q b. b .0 given), inr ((λ q b. b .0 size), inr (no-sample-over, inr (not-beyond, inr ((λ q b. omega (arith, b .0, metric-room)), inl (h, refl)))))), refl, refl)
 
@@ -70,7 +70,7 @@ module _ (plate : Plate) (samples : List ℤ) (position : ℕ) (metrics : List �
 
               pub judged : (metrics′ : List ℤ) (decisions′ : List ℕ) (reading : Reading) → ReadAt (plate .rows) (plateSizes plate given) samples position metrics decisions metrics′ decisions′ reading
                   → (m d : ℕ) → m ≡ metricNeed plate → d ≡ decisionNeed plate → (metrics″ : List ℤ) → metrics″ ≡ replicate m (pos 0) ++ drop m metrics′ → (decisions″ : List ℕ) → decisions″ ≡ replicate d 0 ++ drop d decisions′
-                  → Judges plate samples position metrics decisions metrics″ decisions″ (Found (record { position = position; reading = reading }))
+                  → TellsFirmness plate samples position metrics decisions metrics″ decisions″ (Found (record { position = position; reading = reading }))
               judged metrics′ decisions′ reading f m d em ed metrics″ x decisions″ y = (
                 passes,
                 flag-of plate given samples size samples-within position there reading (f .reads),

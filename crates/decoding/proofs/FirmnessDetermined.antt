@@ -10,11 +10,11 @@ use Rattle.decoding.proofs.DecodeDetermined.{sample-once}
 use Rattle.decoding.proofs.IntegerOrder.{≤ℤ-antisym}
 use Rattle.decoding.proofs.MaskedWords.{mask-word}
 use Rattle.decoding.specs.declared.firmness.Flag.{Flag}
-use Rattle.decoding.specs.declared.firmness.Judged.{Judged}
-use Rattle.decoding.specs.declared.firmness.Judged.the-variants.{Found, Refused}
+use Rattle.decoding.specs.declared.firmness.Flagged.{Flagged}
+use Rattle.decoding.specs.declared.firmness.Flagged.the-variants.{Found, Refused}
 use Rattle.decoding.specs.declared.firmness.Reading.{Reading}
 use Rattle.decoding.specs.declared.firmness.Reading.the-variants.{Fixed, Open}
-use Rattle.decoding.specs.Firmness.{Always, BestAmong, FlagOf, Judges, Margin, Means, firmnessConditions, isFixed, value}
+use Rattle.decoding.specs.Firmness.{Always, BestAmong, FlagOf, TellsFirmness, Margin, Means, firmnessConditions, isFixed, value}
 use Rattle.plates.proofs.Refusing.{Single, never-both, refuses-once}
 use Rattle.plates.specs.declared.Plate.{Plate}
 use Rattle.plates.specs.declared.Refusal.{Refusal}
@@ -61,7 +61,7 @@ module _ (plate : Plate) (samples : List ℤ) (position : ℕ) where
     single =
         ((λ p q x y. x .1 ∙ sym (y .1)), ((λ p q x y. x .1 ∙ sym (y .1)), (sample-once plate samples metrics decisions, ((λ p q x y. x .1 ∙ sym (y .1)), ((λ p q x y. x .1 ∙ sym (y .1)), ((λ p q x y. x .1 ∙ sym (y .1)), tt))))))
 
-    pub firmness-determined : (r s : Judged) (m n : List ℤ) (d e : List ℕ) → Judges plate samples position metrics decisions m d r → Judges plate samples position metrics decisions n e s
+    pub firmness-determined : (r s : Flagged) (m n : List ℤ) (d e : List ℕ) → TellsFirmness plate samples position metrics decisions m d r → TellsFirmness plate samples position metrics decisions n e s
         → (r ≡ s) × (m ≡ n) × (d ≡ e)
     firmness-determined (Found f) (Found g) m n d e x y =
         (ap Found (flag-same f g (x .1) (y .1)), x .2 .metrics-zero ∙ sym (y .2 .metrics-zero), x .2 .decisions-zero ∙ sym (y .2 .decisions-zero))

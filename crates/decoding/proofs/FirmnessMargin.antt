@@ -16,11 +16,11 @@ use Rattle.decoding.proofs.MetricBounds.{Within, metric-within}
 use Rattle.decoding.proofs.SampleLimits.{none-over}
 use Rattle.decoding.specs.declared.Answer.{Answer}
 use Rattle.decoding.specs.declared.firmness.Flag.{Flag}
-use Rattle.decoding.specs.declared.firmness.Judged.the-variants.{Found}
+use Rattle.decoding.specs.declared.firmness.Flagged.the-variants.{Found}
 use Rattle.decoding.specs.declared.firmness.Reading.{Reading}
 use Rattle.decoding.specs.declared.firmness.Reading.the-variants.{Fixed, Open}
 use Rattle.decoding.specs.Decode.{Best}
-use Rattle.decoding.specs.Firmness.{Agrees, Always, BestAmong, FlagOf, Judges, Margin, Means, isFixed, value}
+use Rattle.decoding.specs.Firmness.{Agrees, Always, BestAmong, FlagOf, TellsFirmness, Margin, Means, isFixed, value}
 use Rattle.decoding.specs.Metric.{limit}
 use Rattle.plates.proofs.SoundIsPrepared.{sound}
 use Rattle.plates.specs.declared.Plate.{Plate}
@@ -99,7 +99,7 @@ margin-limit-is = refl
 
 -- a margin that is replied lies within it
 pub margin-bounds : (plate : Plate) (samples : List ℤ) (position : ℕ) (metrics : List ℤ) (decisions : List ℕ) (metrics′ : List ℤ) (decisions′ : List ℕ) (flag : Flag)
-    → Judges plate samples position metrics decisions metrics′ decisions′ (Found flag) → isFixed (flag .reading) ≡ false → natAbs (value (flag .reading)) ≤ marginLimit
+    → TellsFirmness plate samples position metrics decisions metrics′ decisions′ (Found flag) → isFixed (flag .reading) ≡ false → natAbs (value (flag .reading)) ≤ marginLimit
 margin-bounds plate samples position metrics decisions metrics′ decisions′ flag j e =
     omega (arith, margin-size plate samples position (value (flag .reading)) (none-over samples (j .0 .1 .1 .0)) (subst (λ (f : Bool). Means (IsWord plate) samples position f (value (flag .reading))) e (j .1 .reading)), mul-le-mul-left limit few)
   where

@@ -18,7 +18,7 @@ use Rattle.decoding.proofs.Targets.{live-le}
 use Rattle.decoding.specs.Blocks.{Block, BlockFits, WordDone}
 use Rattle.decoding.specs.declared.Counts.{Counts}
 use Rattle.decoding.specs.declared.states.Run.{Run}
-use Rattle.decoding.specs.Halves.{Prepared}
+use Rattle.decoding.specs.Halves.{BlockReady}
 use Rattle.decoding.specs.Patterns.{Pattern}
 use Rattle.decoding.specs.Running.{Part, Ready, RunFits, addsOf, comparesOf}
 use Rattle.decoding.specs.Stepping.{StepFits, Stepped, olds}
@@ -234,7 +234,7 @@ module _ {M : List ℤ} {from to : ℕ} {D : List ℕ} {c : Section} {y : ℤ} {
 
       -- v is the lower half of its pattern, by which the tables are filled
       pub word-prepared : {w v : ℕ} → Pattern (c .column) w → v ≡ w % 2 ^ 32 → {weights : List ℕ} {signs ties : List ℤ} → Weights weights
-          → Tables v (kept y) signs ties → Prepared c (kept y) weights signs ties near far
+          → Tables v (kept y) signs ties → BlockReady c (kept y) weights signs ties near far
       word-prepared {w} {v} p e m t = record {
         wide = wide;
         masks = m;

@@ -16,7 +16,7 @@ use Rattle.decoding.proofs.Targets.{live-le}
 use Rattle.decoding.specs.Blocks.{BlockFits, WordDone}
 use Rattle.decoding.specs.declared.Counts.{Counts}
 use Rattle.decoding.specs.declared.states.Run.{Run}
-use Rattle.decoding.specs.Halves.{Prepared, StripDone, StripFits}
+use Rattle.decoding.specs.Halves.{BlockReady, StripDone, StripFits}
 use Rattle.decoding.specs.Patterns.{Turned}
 use Rattle.decoding.specs.Running.{Ready}
 use Rattle.trellises.specs.declared.Section.{Section}
@@ -116,7 +116,7 @@ module _ {M : List ℤ} {from to : ℕ} {c : Section} {y : ℤ} {w at : ℕ} {k 
   word-gain = back y (omega (arith, h .ready .gain))
 
   -- a pattern turned to its states is their bits
-  pub word-asks : {weights : List ℕ} {signs ties : List ℤ} {v : ℕ} {near far : List ℤ} → Prepared c y weights signs ties near far
+  pub word-asks : {weights : List ℕ} {signs ties : List ℤ} {v : ℕ} {near far : List ℤ} → BlockReady c y weights signs ties near far
       → Turned (c .column) (at * 64) v → StripFits M from to c (kept y) weights signs ties v (at * 64) 64 near far k
   word-asks p t = rw word-gain (record {
     prepared = p;

@@ -12,8 +12,8 @@ use Rattle.plates.specs.declared.Refusal.the-variants.{PositionBeyond}
 use Rattle.plates.specs.Prepare.{IsWord, notPrepared}
 use Rattle.plates.specs.Refusals.{Refuses, Passes}
 use Rattle.decoding.specs.declared.firmness.Flag.{Flag}
-use Rattle.decoding.specs.declared.firmness.Judged.{Judged}
-use Rattle.decoding.specs.declared.firmness.Judged.the-variants.{Found, Refused}
+use Rattle.decoding.specs.declared.firmness.Flagged.{Flagged}
+use Rattle.decoding.specs.declared.firmness.Flagged.the-variants.{Found, Refused}
 use Rattle.decoding.specs.declared.firmness.Reading.{Reading}
 use Rattle.decoding.specs.declared.firmness.Reading.the-variants.{Fixed, Open}
 use Rattle.decoding.specs.Decode.{SampleOver, Zeroed, decisionRoom, metricRoom, sampleCount}
@@ -81,9 +81,9 @@ firmnessConditions plate samples position metrics decisions =
 
 -- What judging a position replies: the first refusal in order with both rooms unchanged, or the flag among the plate's words with the needed
 -- room zeroed
-abbrev pub Judges : Plate → List ℤ → ℕ → List ℤ → List ℕ → List ℤ → List ℕ → Judged → Type 0
-Judges plate samples position metrics decisions metrics′ decisions′ (Refused q) =
+abbrev pub TellsFirmness : Plate → List ℤ → ℕ → List ℤ → List ℕ → List ℤ → List ℕ → Flagged → Type 0
+TellsFirmness plate samples position metrics decisions metrics′ decisions′ (Refused q) =
     Refuses (firmnessConditions plate samples position metrics decisions) q × (metrics′ ≡ metrics) × (decisions′ ≡ decisions)
-Judges plate samples position metrics decisions metrics′ decisions′ (Found flag) =
+TellsFirmness plate samples position metrics decisions metrics′ decisions′ (Found flag) =
     Passes (firmnessConditions plate samples position metrics decisions) × FlagOf (IsWord plate) samples position flag
     × Zeroed plate metrics metrics′ decisions decisions′

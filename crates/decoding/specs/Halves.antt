@@ -15,7 +15,7 @@ use Rattle.words.specs.Parity.{parity}
 use Rattle.words.specs.Word.{bit}
 
 -- the tables are those of the section's first 32 states, and the rooms for old metrics are there
-pub record Prepared (c : Section) (y : ℤ) (weights : List ℕ) (signs ties near far : List ℤ) : Type 0 where
+pub record BlockReady (c : Section) (y : ℤ) (weights : List ℕ) (signs ties near far : List ℤ) : Type 0 where
   pub wide : 6 ≤ c .live
   pub masks : Weights weights
   pub word : ℕ
@@ -27,7 +27,7 @@ pub record Prepared (c : Section) (y : ℤ) (weights : List ℕ) (signs ties nea
 -- what n states from `first` on ask, whose bits are the lowest of w: n is 32 or 64
 pub record StripFits (metrics : List ℤ) (from to : ℕ) (c : Section) (y : ℤ) (weights : List ℕ) (signs ties : List ℤ) (w first n : ℕ)
     (near far : List ℤ) (k : Counts) : Type 0 where
-  pub prepared : Prepared c y weights signs ties near far
+  pub prepared : BlockReady c y weights signs ties near far
   pub ready : Ready metrics from to c y
   pub strip : ℕ
   pub aligned : first ≡ strip * 32

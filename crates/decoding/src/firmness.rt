@@ -12,7 +12,7 @@ use crate::sweep::sweep;
 use plates::Refusal;
 ghost use lib.ListN.{length, take};
 ghost use Prim.Native.Nat.{_<_, _≤_};
-ghost use Rattle.decoding.specs.Firmness.{Judges};
+ghost use Rattle.decoding.specs.Firmness.{TellsFirmness};
 ghost use Rattle.decoding.specs.Forcing.{BestForced, FirstWith, ReadAt};
 ghost use Rattle.decoding.specs.LiveRows.{EndsAre};
 ghost use Rattle.decoding.specs.Sweeping.{RoomsFit, SizesFit};
@@ -34,7 +34,7 @@ pub struct Flag {
 }
 
 // The flag asked for, or why there is none.
-pub enum Judged {
+pub enum Flagged {
     Found(Flag),
     Refused(Refusal),
 }
@@ -152,30 +152,30 @@ pub fn firmness_parts<'a>(
     position: usize,
     metrics: &mut [i32],
     decisions: &mut [u64],
-) -> Judged
-    ensures { λ r. ⌜ Judges (ofParts n k mask (now (rows .entry)) (now (profile .entry))) (now (samples .entry)) position (now (metrics .entry)) (now (decisions .entry)) (now (metrics .exit)) (now (decisions .exit)) r ⌝ }
+) -> Flagged
+    ensures { λ r. ⌜ TellsFirmness (ofParts n k mask (now (rows .entry)) (now (profile .entry))) (now (samples .entry)) position (now (metrics .entry)) (now (decisions .entry)) (now (metrics .exit)) (now (decisions .exit)) r ⌝ }
 {
     if !plates::parts_prepared(n, k, mask, rows, profile) {
-        return Judged::Refused(Refusal::NotPrepared);
+        return Flagged::Refused(Refusal::NotPrepared);
     }
     if samples.len() != n {
-        return Judged::Refused(Refusal::SampleCount);
+        return Flagged::Refused(Refusal::SampleCount);
     }
     let over = first_over(samples);
     if over < n {
-        return Judged::Refused(Refusal::SampleRange(over));
+        return Flagged::Refused(Refusal::SampleRange(over));
     }
     let sizes = sizes_of(n, k, mask, rows, profile);
     let metric_need = sizes.half + sizes.half;
     let decision_need = n * sizes.words;
     if n <= position {
-        return Judged::Refused(Refusal::PositionBeyond);
+        return Flagged::Refused(Refusal::PositionBeyond);
     }
     if metrics.len() < metric_need {
-        return Judged::Refused(Refusal::MetricRoom);
+        return Flagged::Refused(Refusal::MetricRoom);
     }
     if decisions.len() < decision_need {
-        return Judged::Refused(Refusal::DecisionRoom);
+        return Flagged::Refused(Refusal::DecisionRoom);
     }
     let reading = reading_at(
         rows,
@@ -187,5 +187,5 @@ pub fn firmness_parts<'a>(
     );
     clear_metrics(&mut *metrics, metric_need);
     clear_decisions(&mut *decisions, decision_need);
-    Judged::Found(Flag { position, reading })
+    Flagged::Found(Flag { position, reading })
 }

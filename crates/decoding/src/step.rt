@@ -3,7 +3,7 @@ ghost use mathlib.Core.Path.{_≡_};
 ghost use Prim.Native.Nat.{_<_, _≤_};
 ghost use lib.ListN.{set};
 ghost use Rattle.decoding.specs.Blocks.{BlockFits, WordDone};
-ghost use Rattle.decoding.specs.Halves.{Prepared};
+ghost use Rattle.decoding.specs.Halves.{BlockReady};
 ghost use Rattle.decoding.specs.Stepping.{StepFits, Stepped};
 use crate::Counts;
 use crate::blocks;
@@ -58,7 +58,7 @@ fn word(
     far: &mut [i32; 32],
     counts: Counts,
 ) -> Counts
-    requires { ⌜ Prepared section gain (now weights) (now signs) (now ties) (now near) (now far) × BlockFits (now metrics) from to section gain pattern at 64 counts ⌝ }
+    requires { ⌜ BlockReady section gain (now weights) (now signs) (now ties) (now near) (now far) × BlockFits (now metrics) from to section gain pattern at 64 counts ⌝ }
     ensures { λ r. ⌜ WordDone (now (metrics .entry)) from to (now (decisions .entry)) section gain at counts (now (metrics .exit)) (now (decisions .exit)) (now (near .exit)) (now (far .exit)) r ⌝ }
 {
     let first = at * 64;

@@ -25,7 +25,7 @@ use Rattle.demands.proofs.AlistFaults.{matrix-has-none, told-exactly}
 use Rattle.demands.specs.AlistFaults.{FirstFaulty, NoneFaulty}
 use Rattle.demands.specs.Refusing.{Numbered, WriteRefuses}
 use Rattle.listings.specs.declared.Written.{Written}
-use Rattle.listings.specs.declared.Written.the-variants.{Length}
+use Rattle.listings.specs.declared.Written.the-variants.{Bytes}
 use Rattle.listings.specs.Writing.{WritesAs}
 use Rattle.plates.specs.declared.Refusal.{Refusal}
 use Rattle.plates.specs.declared.Refusal.the-variants.{AlistFault}
@@ -40,7 +40,7 @@ pub written-text-reads-back : (n : ℕ) (rows : List ℕ) → Sized n rows → r
 written-text-reads-back = written-reads-back
 
 -- by the two calls: what `write` wrote, `read` reads so
-pub write-then-read : (n : ℕ) (rows room : List ℕ) (size : ℕ) (room′ table : List ℕ) (r : Alist) (table′ : List ℕ) → WritesAlist n rows room (Length size) room′
+pub write-then-read : (n : ℕ) (rows room : List ℕ) (size : ℕ) (room′ table : List ℕ) (r : Alist) (table′ : List ℕ) → WritesAlist n rows room (Bytes size) room′
     → Reads (take size room′) table r table′ → (r ≡ Matrix n (length rows)) × (table′ ≡ rows ++ replicate (64 - length rows) 0)
 write-then-read n rows room size room′ table r table′ w x = written-and-read n rows room size room′ table w x
 
@@ -50,7 +50,7 @@ own-form-keeps-bytes = own-form-keeps
 
 pub read-then-write : (text table : List ℕ) (n count : ℕ) (table′ room : List ℕ) (r : Written) (room′ : List ℕ) → OwnForm text
     → Reads text table (Matrix n count) table′ → length text ≤ length room → WritesAlist n (take count table′) room r room′
-    → (r ≡ Length (length text)) × (room′ ≡ text ++ drop (length text) room)
+    → (r ≡ Bytes (length text)) × (room′ ≡ text ++ drop (length text) room)
 read-then-write text table n count table′ room r room′ f x h w = read-and-written text table n count table′ room f x h w
 
 -- we write in our form: spaces between numbers, a line feed after each line, indices ascending
@@ -120,7 +120,7 @@ module _ (n : ℕ) (rows room : List ℕ) where
     )
 
     -- else the text stands at the start of the room, and the bytes behind it are as they were
-    pub write-leaves-text : (size : ℕ) → r ≡ W.Length size
+    pub write-leaves-text : (size : ℕ) → r ≡ W.Bytes size
         → (size ≡ length (alistText n rows)) × (room′ ≡ alistText n rows ++ drop (length (alistText n rows)) room)
     write-leaves-text size e = let y = subst (WritesAs (writeConditions n rows room) (alistText n rows) room room′) e (w .reply) in (y .1, y .2)
 

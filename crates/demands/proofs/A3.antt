@@ -1,5 +1,5 @@
 -- A3, how firm one flag is: `firmness` gives for one position of a block its reading, fixed with its bit or open with its margin, and the position
--- beside it. Definitions: decoding/specs/Firmness (`Always`, `Margin`, `Judges`). Bounds are those of A8.
+-- beside it. Definitions: decoding/specs/Firmness (`Always`, `Margin`, `TellsFirmness`). Bounds are those of A8.
 use lib.IntN.{+ℤ-idl, -ℤ-+ℤ-cancel, _+ℤ_, _-ℤ_, natAbs, pos, ℤ}
 use lib.ListN.{drop, getD, length, replicate}
 use lib.Signed.{_≤ℤ_}
@@ -14,10 +14,10 @@ use Rattle.decoding.proofs.FirmnessMargin.{margin-bounds, margin-sign}
 use Rattle.decoding.proofs.IntegerOrder.{≤ℤ-antisym}
 use Rattle.decoding.specs.declared.Answer.{Answer}
 use Rattle.decoding.specs.declared.firmness.Flag.{Flag}
-use Rattle.decoding.specs.declared.firmness.Judged.{Judged}
-use Rattle.decoding.specs.declared.firmness.Judged.the-variants.{Found, Refused}
+use Rattle.decoding.specs.declared.firmness.Flagged.{Flagged}
+use Rattle.decoding.specs.declared.firmness.Flagged.the-variants.{Found, Refused}
 use Rattle.decoding.specs.Decode.{Best, Decodes, decisionNeed, metricNeed}
-use Rattle.decoding.specs.Firmness.{Agrees, Always, BestAmong, FlagOf, Judges, Margin, Means, firmnessConditions, isFixed, value}
+use Rattle.decoding.specs.Firmness.{Agrees, Always, BestAmong, FlagOf, TellsFirmness, Margin, Means, firmnessConditions, isFixed, value}
 use Rattle.decoding.specs.Metric.{limit}
 use Rattle.demands.proofs.Demand1.{its-number}
 use Rattle.demands.specs.Refusing.{Numbered, RefusesExactly}
@@ -52,11 +52,11 @@ module _ (plate : Plate) (samples : List ℤ) (position : ℕ) (metrics : List �
   )
 
   -- the two rooms after the call, and its reply
-  module _ (metrics′ : List ℤ) (decisions′ : List ℕ) (r : Judged) (p : Judges plate samples position metrics decisions metrics′ decisions′ r) where
+  module _ (metrics′ : List ℤ) (decisions′ : List ℕ) (r : Flagged) (p : TellsFirmness plate samples position metrics decisions metrics′ decisions′ r) where
     -- refused exactly under them
     pub firmness-refuses-exactly : RefusesExactly Refused (firmnessConditions plate samples position metrics decisions) r
     firmness-refuses-exactly q = (
-      (λ e. subst (Judges plate samples position metrics decisions metrics′ decisions′) e p .0),
+      (λ e. subst (TellsFirmness plate samples position metrics decisions metrics′ decisions′) e p .0),
       λ h. firmness-determined plate samples position metrics decisions r (Refused q) metrics′ metrics decisions′ decisions p (h, refl, refl) .0,
     )
 
@@ -64,28 +64,28 @@ module _ (plate : Plate) (samples : List ℤ) (position : ℕ) (metrics : List �
     pub firmness-passed-found : Passes (firmnessConditions plate samples position metrics decisions) → (f : Flag) × (r ≡ Found f)
     firmness-passed-found h = go r refl
       where
-        go : (s : Judged) → r ≡ s → (f : Flag) × (r ≡ Found f)
+        go : (s : Flagged) → r ≡ s → (f : Flag) × (r ≡ Found f)
         go (Found f) e = (f, e)
         go (Refused q) e = absurd (never-both (firmnessConditions plate samples position metrics decisions) h q (firmness-refuses-exactly q .0 e))
 
     -- a refused call changes nothing lent
     pub firmness-refused-unchanged : (q : Refusal) → r ≡ Refused q → (metrics′ ≡ metrics) × (decisions′ ≡ decisions)
-    firmness-refused-unchanged q e = let x = subst (Judges plate samples position metrics decisions metrics′ decisions′) e p in (x .1, x .2)
+    firmness-refused-unchanged q e = let x = subst (TellsFirmness plate samples position metrics decisions metrics′ decisions′) e p in (x .1, x .2)
 
     -- one that succeeds zeroes the room it needs, as decoding does, and touches no more
     pub firmness-found-zeroes : (f : Flag) → r ≡ Found f
         → (metrics′ ≡ replicate (metricNeed plate) (pos 0) ++ drop (metricNeed plate) metrics)
         × (decisions′ ≡ replicate (decisionNeed plate) 0 ++ drop (decisionNeed plate) decisions)
     firmness-found-zeroes f e =
-        let x = subst (Judges plate samples position metrics decisions metrics′ decisions′) e p in (x .2 .metrics-zero, x .2 .decisions-zero)
+        let x = subst (TellsFirmness plate samples position metrics decisions metrics′ decisions′) e p in (x .2 .metrics-zero, x .2 .decisions-zero)
 
     -- the reply carries the position beside the reading
     pub firmness-position : (f : Flag) → r ≡ Found f → f .position ≡ position
-    firmness-position f e = subst (Judges plate samples position metrics decisions metrics′ decisions′) e p .1 .position-is
+    firmness-position f e = subst (TellsFirmness plate samples position metrics decisions metrics′ decisions′) e p .1 .position-is
 
     -- it is of this flag
     flag-of : (f : Flag) → r ≡ Found f → FlagOf (IsWord plate) samples position f
-    flag-of f e = subst (Judges plate samples position metrics decisions metrics′ decisions′) e p .1
+    flag-of f e = subst (TellsFirmness plate samples position metrics decisions metrics′ decisions′) e p .1
 
     -- fixed means that every word has that bit
     pub fixed-is-always : (f : Flag) → r ≡ Found f → isFixed (f .reading) ≡ true → (w : ℕ) → IsWord plate w → pos (bit w position) ≡ value (f .reading)
@@ -105,7 +105,7 @@ module _ (plate : Plate) (samples : List ℤ) (position : ℕ) (metrics : List �
     pub firmness-margin : (f : Flag) → r ≡ Found f → isFixed (f .reading) ≡ false → natAbs (value (f .reading)) ≤ 262016
     firmness-margin f e o =
         margin-bounds plate samples position metrics decisions metrics′ decisions′ f
-        (subst (Judges plate samples position metrics decisions metrics′ decisions′) e p) o
+        (subst (TellsFirmness plate samples position metrics decisions metrics′ decisions′) e p) o
 
   -- no position is both fixed and open
   pub fixed-or-open : (b m : ℤ) → Always (IsWord plate) position b → Margin (IsWord plate) samples position m → ⊥

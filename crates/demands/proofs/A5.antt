@@ -14,7 +14,7 @@ use Rattle.decoding.specs.declared.Answer.{Answer}
 use Rattle.decoding.specs.declared.Decoded.{Decoded}
 use Rattle.demands.specs.Requests.{TallyTold}
 use Rattle.listings.specs.declared.Tally.{Tally}
-use Rattle.listings.specs.Decimal.{decimal, signed}
+use Rattle.listings.specs.Decimal.{decimal, signedDecimal}
 use Rattle.listings.specs.Lines.{less, line, tallyLine, tallyName}
 use Rattle.plates.proofs.PrepareDetermined.{prepare-determined}
 use Rattle.plates.specs.declared.Plate.{Plate}
@@ -129,12 +129,12 @@ block-among-heard n fs e = outOfTurn (ap (inTurn onHeard) e) refl refl
 pos-once : {a b : ℕ} → pos a ≡ pos b → a ≡ b
 pos-once e = cc
 
-signed-whole : (k : ℕ) → signed (pos k) ≡ decimal k
-unfolding signed
+signed-whole : (k : ℕ) → signedDecimal (pos k) ≡ decimal k
+unfolding signedDecimal
 signed-whole k = ap (λ (b : Bool). cond b (45 ∷ decimal k) (decimal k)) (le-ltb k 0 zero-le)
 
-signed-below : (k : ℕ) → signed (negsuc k) ≡ 45 ∷ decimal (suc k)
-unfolding signed
+signed-below : (k : ℕ) → signedDecimal (negsuc k) ≡ 45 ∷ decimal (suc k)
+unfolding signedDecimal
 signed-below k = refl
 
 less-whole : (above below : ℕ) → below ≤ above → less above below ≡ decimal (above - below)
@@ -146,7 +146,7 @@ unfolding less
 less-below above below h = ap (λ (b : Bool). cond b (45 ∷ decimal (below - above)) (decimal (above - below))) (lt-ltb above below h)
 
 -- what is above less what is below, where their difference is the sum
-sum-is-signed : (m : ℤ) (above below : ℕ) → m +ℤ pos below ≡ pos above → less above below ≡ signed m
+sum-is-signed : (m : ℤ) (above below : ℕ) → m +ℤ pos below ≡ pos above → less above below ≡ signedDecimal m
 sum-is-signed (pos k) above below e =
     let s : k + below ≡ above = pos-once (sym (pos-+ℤ-pos k below) ∙ e) in
     let d : above - below ≡ k = omega (arith, s) in
@@ -162,7 +162,7 @@ sum-is-signed (negsuc k) above below e =
 -- the tally line of some heard lines: its numbers in the order named, the sum of metrics over the number decoded as two whole numbers, unreduced
 pub tally-line-is : (hs : List Heard) → let t = tallyOf hs in
     tallyLine t ≡ line tallyName (decimal (t .decoded) ∷ decimal (t .refused) ∷ decimal (t .repeated) ∷ decimal (t .late) ∷ decimal (t .missing)
-    ∷ decimal (t .opposing) ∷ decimal (t .zeros) ∷ signed (metricsFrom R.Unset hs) ∷ decimal (t .decoded) ∷ [])
+    ∷ decimal (t .opposing) ∷ decimal (t .zeros) ∷ signedDecimal (metricsFrom R.Unset hs) ∷ decimal (t .decoded) ∷ [])
 unfolding tallyLine
 tally-line-is hs =
     let t = tallyOf hs in

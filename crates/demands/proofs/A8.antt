@@ -18,7 +18,7 @@ use Rattle.decoding.specs.declared.Answer.{Answer}
 use Rattle.decoding.specs.declared.apart.Measure.{Measure}
 use Rattle.decoding.specs.declared.firmness.Flag.{Flag}
 use Rattle.decoding.specs.Decode.{Decodes, SampleOver, sampleCount}
-use Rattle.decoding.specs.Firmness.{Judges, isFixed, value}
+use Rattle.decoding.specs.Firmness.{TellsFirmness, isFixed, value}
 use Rattle.decoding.specs.Metric.{limit, metricOf}
 use Rattle.plates.proofs.SoundIsPrepared.{sound}
 use Rattle.plates.specs.declared.Plate.{Plate}
@@ -29,7 +29,7 @@ use Rattle.plates.specs.Refusals.{number, place}
 use Rattle.reports.specs.Report.{BlockAnswer}
 use Rattle.decoding.specs.declared.apart.Measured.the-variants as M
 use Rattle.decoding.specs.declared.Decoded.the-variants as D
-use Rattle.decoding.specs.declared.firmness.Judged.the-variants as J
+use Rattle.decoding.specs.declared.firmness.Flagged.the-variants as J
 
 -- ---- the range
 
@@ -86,7 +86,7 @@ listed-metric-bound plate given samples a x =
 -- ---- A3's margins
 
 pub margin-bound : (plate : Plate) (samples : List ℤ) (position : ℕ) (metrics metrics′ : List ℤ) (decisions decisions′ : List ℕ) (f : Flag)
-    → Judges plate samples position metrics decisions metrics′ decisions′ (J.Found f) → isFixed (f .reading) ≡ false → natAbs (value (f .reading)) ≤ 262016
+    → TellsFirmness plate samples position metrics decisions metrics′ decisions′ (J.Found f) → isFixed (f .reading) ≡ false → natAbs (value (f .reading)) ≤ 262016
 margin-bound plate samples position metrics metrics′ decisions decisions′ = margin-bounds plate samples position metrics decisions metrics′ decisions′
 
 -- ---- document 01's last case

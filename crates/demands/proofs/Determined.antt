@@ -20,9 +20,9 @@ use Rattle.decoding.specs.Cosets.{takenOff}
 use Rattle.decoding.specs.declared.apart.Chosen.{Chosen}
 use Rattle.decoding.specs.declared.apart.Measured.{Measured}
 use Rattle.decoding.specs.declared.Decoded.{Decoded}
-use Rattle.decoding.specs.declared.firmness.Judged.{Judged}
+use Rattle.decoding.specs.declared.firmness.Flagged.{Flagged}
 use Rattle.decoding.specs.Decode.{Decodes}
-use Rattle.decoding.specs.Firmness.{Judges}
+use Rattle.decoding.specs.Firmness.{TellsFirmness}
 use Rattle.listings.proofs.Determined.{write-end-determined, write-plate-determined, write-profile-determined, write-refused-determined, write-word-determined}
 use Rattle.listings.proofs.Determined.{write-least-determined, write-no-least-determined, write-tally-determined, write-weight-determined}
 use Rattle.listings.specs.declared.Tally.{Tally}
@@ -123,8 +123,8 @@ pub best-word : (plate : Plate) (samples metrics : List ℤ) (decisions : List �
 best-word = word-determined
 
 -- a position judged, with both rooms
-pub firmness : (plate : Plate) (samples : List ℤ) (position : ℕ) (metrics : List ℤ) (decisions : List ℕ) (r s : Judged) (m n : List ℤ) (d e : List ℕ)
-    → Judges plate samples position metrics decisions m d r → Judges plate samples position metrics decisions n e s → (r ≡ s) × (m ≡ n) × (d ≡ e)
+pub firmness : (plate : Plate) (samples : List ℤ) (position : ℕ) (metrics : List ℤ) (decisions : List ℕ) (r s : Flagged) (m n : List ℤ) (d e : List ℕ)
+    → TellsFirmness plate samples position metrics decisions m d r → TellsFirmness plate samples position metrics decisions n e s → (r ≡ s) × (m ≡ n) × (d ≡ e)
 firmness = firmness-determined
 
 -- what is left of a word once rows are taken off it

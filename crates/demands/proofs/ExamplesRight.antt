@@ -16,7 +16,7 @@ use Rattle.demands.proofs.WordsChecked.{answered, encoded, readBack}
 use Rattle.demands.specs.Examples.{AllRight, Exactly, Example, Right, examples}
 use Rattle.demands.specs.Examples.{accepts, asks, decodes, encodes, end-line, explains, judges, lists, plate-line}
 use Rattle.demands.specs.Examples.{profile-line, reads, reads-sheet, refuses, word-line}
-use Rattle.listings.specs.Decimal.{decimal, signed}
+use Rattle.listings.specs.Decimal.{decimal, signedDecimal}
 use Rattle.listings.specs.Lines.{endLine, plateLine, profileLine, wordLine}
 use Rattle.listings.specs.Writing.{entriesOf}
 use Rattle.plates.proofs.PrepareDetermined.{prepare-determined}
@@ -58,5 +58,5 @@ entries (e ∷ es) = both (entry e) (entries es)
 
 -- every example that the paper marks P, and those of the masked sheet
 pub examples-right : AllRight examples
-unfolding first last trailingZeros leadingZeros withRow withActive plateLine profileLine wordLine endLine decimal signed ones onesIn verdict contents covers
+unfolding first last trailingZeros leadingZeros withRow withActive plateLine profileLine wordLine endLine decimal signedDecimal ones onesIn verdict contents covers
 examples-right = entries examples .law tt

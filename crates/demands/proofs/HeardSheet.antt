@@ -17,7 +17,7 @@ use Rattle.demands.proofs.BlocksChecked.{ready, tested, tested-best}
 use Rattle.demands.proofs.Checking.{Check, both, by}
 use Rattle.demands.proofs.PlatesChecked.{accepted}
 use Rattle.demands.specs.Examples.{answer, zeroPlate1}
-use Rattle.listings.specs.Decimal.{decimal, signed}
+use Rattle.listings.specs.Decimal.{decimal, signedDecimal}
 use Rattle.listings.specs.Lines.{endLine, less, plateLine, profileLine, refusedLine, tallyLine, wordLine}
 use Rattle.plates.specs.declared.Kind.the-variants.{G}
 use Rattle.plates.specs.declared.Prepared.{Prepared}
@@ -107,7 +107,7 @@ heardListing =
     ∷ 101 ∷ 110 ∷ 100 ∷ 9 ∷ 54 ∷ 10 ∷ []
 
 pub heard-sheet-worked : Lists heardText heardListing
-unfolding plateLine profileLine wordLine refusedLine tallyLine endLine less decimal signed heard-answers
+unfolding plateLine profileLine wordLine refusedLine tallyLine endLine less decimal signedDecimal heard-answers
 heard-sheet-worked = record {
   lines = _;
   reports = answers-listed heardText (record { verdict = Accepted; plate = zeroPlate1 }) replies heard-answers;

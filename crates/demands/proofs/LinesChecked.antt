@@ -20,8 +20,8 @@ use Rattle.listings.specs.declared.Written.the-variants as W
 
 -- one reply and one room after it meet the promise
 written-exactly : (cs : List (Refusal → Type 0)) → Single cs → (line room : List ℕ)
-    → Writes cs line room (W.Length (length line)) (line ++ drop (length line) room)
-    → Exactly (λ (x : Written × List ℕ). Writes cs line room (x .0) (x .1)) (W.Length (length line), line ++ drop (length line) room)
+    → Writes cs line room (W.Bytes (length line)) (line ++ drop (length line) room)
+    → Exactly (λ (x : Written × List ℕ). Writes cs line room (x .0) (x .1)) (W.Bytes (length line), line ++ drop (length line) room)
 written-exactly cs single line room w r = (
   (λ x. let e = determined cs single line room x w in ap₂ (λ (y : Written) (z : List ℕ). (y, z)) (e .0) (e .1)),
   λ e. subst (λ (x : Written × List ℕ). Writes cs line room (x .0) (x .1)) (sym e) w,

@@ -15,10 +15,10 @@ use Rattle.decoding.proofs.FirmnessDetermined.{firmness-determined}
 use Rattle.decoding.specs.Backward.{counted}
 use Rattle.decoding.specs.declared.Answer.{Answer}
 use Rattle.decoding.specs.declared.firmness.Flag.{Flag}
-use Rattle.decoding.specs.declared.firmness.Judged.the-variants.{Found}
+use Rattle.decoding.specs.declared.firmness.Flagged.the-variants.{Found}
 use Rattle.decoding.specs.declared.firmness.Reading.{Reading}
 use Rattle.decoding.specs.declared.firmness.Reading.the-variants.{Fixed, Open}
-use Rattle.decoding.specs.Firmness.{BestAmong, FlagOf, Judges, Margin, Means, isFixed, value}
+use Rattle.decoding.specs.Firmness.{BestAmong, FlagOf, TellsFirmness, Margin, Means, isFixed, value}
 use Rattle.decoding.specs.Metric.{metricOf}
 use Rattle.demands.proofs.BlocksChecked.{atMostWhole, in-rooms, lessWhole, ready, tested, tested-best}
 use Rattle.demands.proofs.Checking.{Check, atMost, below, both, by, each, either, equal, less, some, unequal, whole}
@@ -69,10 +69,10 @@ module _ (plate : Plate) (samples : List ℤ) (position : ℕ) where
   flagged flag = by (λ p. record { position-is = p .0; reading = p .1 }) (both (equal (flag .position) position) (reading (flag .reading)))
 
   -- the position is judged so, and not otherwise
-  abbrev pub judged : (flag : Flag) → Check (InRooms plate (Judges plate samples position) (Found flag))
+  abbrev pub judged : (flag : Flag) → Check (InRooms plate (TellsFirmness plate samples position) (Found flag))
   judged flag =
       by (λ p.
-      in-rooms plate (Judges plate samples position) (Found flag) (firmness-determined plate samples position) (λ metrics decisions m d. (
+      in-rooms plate (TellsFirmness plate samples position) (Found flag) (firmness-determined plate samples position) (λ metrics decisions m d. (
         firmness-passes plate samples position metrics decisions (p .0 .given) (p .0 .count) (p .0 .within) (p .1 .0) m d,
         p .1 .1,
         record { metrics-zero = refl; decisions-zero = refl },

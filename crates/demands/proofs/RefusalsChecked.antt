@@ -12,7 +12,7 @@ use Rattle.plates.specs.Code.{InCode}
 use Rattle.plates.specs.declared.Kind.{Kind}
 use Rattle.plates.specs.declared.Refusal.{Refusal}
 use Rattle.plates.specs.declared.Refusal.the-variants.{AlistFault, BadSetting, BranchFault, BranchTwice, DecisionRoom, FieldCount, FieldValue, FirstField}
-use Rattle.plates.specs.declared.Refusal.the-variants.{Information, InputTooLong, Length, LineRoom, MaskBeyond, MetricRoom, NoCodeword, NoSuchBranch}
+use Rattle.plates.specs.declared.Refusal.the-variants.{InformationBeyond, InputTooLong, Length, LineRoom, MaskBeyond, MetricRoom, NoCodeword, NoSuchBranch}
 use Rattle.plates.specs.declared.Refusal.the-variants.{NotANumber, NotPrepared, PositionBeyond, RowBeyond, RowField, SampleCount, SampleRange, SheetLine}
 use Rattle.plates.specs.declared.Refusal.the-variants.{TooManyLines, TooManyRows, TooWide, WholeSpace}
 use Rattle.plates.specs.Prepare.{Prepares, RowOver, Wide, badLength, maskBeyond}
@@ -34,7 +34,7 @@ refusalOf i p f =
     (cond (eqb i 10) (SheetLine p)
     (cond (eqb i 11) LineRoom
     (cond (eqb i 12) NoSuchBranch
-    (cond (eqb i 13) Information
+    (cond (eqb i 13) InformationBeyond
     (cond (eqb i 14) NoCodeword
     (cond (eqb i 15) InputTooLong
     (cond (eqb i 16) (AlistFault p)
@@ -62,7 +62,7 @@ told DecisionRoom = refl
 told (SheetLine line) = refl
 told LineRoom = refl
 told NoSuchBranch = refl
-told Information = refl
+told InformationBeyond = refl
 told NoCodeword = refl
 told InputTooLong = refl
 told (AlistFault line) = refl

@@ -13,7 +13,7 @@ use Rattle.demands.proofs.CodeWords.{plateWords}
 use Rattle.demands.proofs.PlatesChecked.{isPrepared}
 use Rattle.demands.proofs.RefusalsChecked.{refusal}
 use Rattle.plates.specs.declared.Plate.{Plate}
-use Rattle.plates.specs.declared.Refusal.the-variants.{Information, NoCodeword, NoSuchBranch}
+use Rattle.plates.specs.declared.Refusal.the-variants.{InformationBeyond, NoCodeword, NoSuchBranch}
 use Rattle.plates.specs.Prepare.{IsPrepared, IsWord, rowsOf}
 use Rattle.plates.specs.Profile.{liveAt}
 use Rattle.plates.specs.Refusals.{Passes}
@@ -76,13 +76,13 @@ encoded plate information (E.Word word) =
     by (λ p. (((λ q c. c .0 (p .0)), ((λ q c. omega (arith, c .0, p .1 .0)), tt)), p .1 .1))
     (both (isPrepared plate) (both (less information (2 ^ plate .k)) (equal word (wordOf plate information))))
 encoded plate information (E.Refused q) =
-    by (λ p. inr ((λ x c. c .0 (p .0)), inl (p .1))) (both (isPrepared plate) (both (atMost (2 ^ plate .k) information) (refusal q Information)))
+    by (λ p. inr ((λ x c. c .0 (p .0)), inl (p .1))) (both (isPrepared plate) (both (atMost (2 ^ plate .k) information) (refusal q InformationBeyond)))
 
 -- ---- read back
 
 -- the information, or refusal 14
 abbrev pub readBack : (plate : Plate) (word : ℕ) (r : ReadBack) → Check (ReadsBack plate word r)
-readBack plate word (R.Information information) =
+readBack plate word (R.InformationBeyond information) =
     by (λ p. (((λ q c. c .0 (p .0)), ((λ q c. c .0 (subst (IsWord plate) (p .1 .1) (made-is-word plate information))), tt)), p .1 .0, p .1 .1))
     (both (isPrepared plate) (both (less information (2 ^ plate .k)) (equal (wordOf plate information) word)))
 readBack plate word (R.Refused q) =

@@ -19,9 +19,9 @@ use Rattle.decoding.specs.Apart.{Chooses, Measures}
 use Rattle.decoding.specs.declared.apart.Chosen.{Chosen}
 use Rattle.decoding.specs.declared.apart.Measured.{Measured}
 use Rattle.decoding.specs.declared.Decoded.{Decoded}
-use Rattle.decoding.specs.declared.firmness.Judged.{Judged}
+use Rattle.decoding.specs.declared.firmness.Flagged.{Flagged}
 use Rattle.decoding.specs.Decode.{Decodes}
-use Rattle.decoding.specs.Firmness.{Judges}
+use Rattle.decoding.specs.Firmness.{TellsFirmness}
 use Rattle.demands.specs.Unmasked.{AsksCodeword, BranchesIn, ChoosesCodeword, DecodesCodeword, JudgesCodeword, MeasuresCodeword}
 use Rattle.demands.specs.Unmasked.{IsPreparedUnmasked, PreparesUnmasked, unmaskedConditions}
 use Rattle.plates.specs.Code.{InCode}
@@ -42,7 +42,7 @@ use Rattle.asking.specs.declared.Verdict.the-variants as X
 use Rattle.decoding.specs.declared.apart.Chosen.the-variants as C
 use Rattle.decoding.specs.declared.apart.Measured.the-variants as M
 use Rattle.decoding.specs.declared.Decoded.the-variants as D
-use Rattle.decoding.specs.declared.firmness.Judged.the-variants as J
+use Rattle.decoding.specs.declared.firmness.Flagged.the-variants as J
 use Rattle.plates.specs.declared.Verdict as P
 use Rattle.trellises.specs.declared.Next.the-variants as N
 
@@ -149,8 +149,8 @@ module _ (plate : Plate) (none : plate .mask ≡ 0) where
       let e = word-unmasked plate none samples c in ((λ x. (x .0, e .0 (x .1), x .2)), λ x. (x .0, e .1 (x .1), x .2))
   word-zero-mask samples metrics decisions metrics′ decisions′ (C.Refused q) = ((λ x. x), λ x. x)
 
-  pub firmness-zero-mask : (samples : List ℤ) (position : ℕ) (metrics : List ℤ) (decisions : List ℕ) (metrics′ : List ℤ) (decisions′ : List ℕ) (r : Judged)
-      → Judges plate samples position metrics decisions metrics′ decisions′ r ↔ JudgesCodeword plate samples position metrics decisions metrics′ decisions′ r
+  pub firmness-zero-mask : (samples : List ℤ) (position : ℕ) (metrics : List ℤ) (decisions : List ℕ) (metrics′ : List ℤ) (decisions′ : List ℕ) (r : Flagged)
+      → TellsFirmness plate samples position metrics decisions metrics′ decisions′ r ↔ JudgesCodeword plate samples position metrics decisions metrics′ decisions′ r
   firmness-zero-mask samples position metrics decisions metrics′ decisions′ (J.Found flag) =
       let e = firmness-unmasked plate none samples position flag in ((λ x. (x .0, e .0 (x .1), x .2)), λ x. (x .0, e .1 (x .1), x .2))
   firmness-zero-mask samples position metrics decisions metrics′ decisions′ (J.Refused q) = ((λ x. x), λ x. x)

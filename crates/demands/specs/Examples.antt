@@ -20,7 +20,7 @@ use Rattle.decoding.specs.declared.Decoded.the-variants.{Found}
 use Rattle.decoding.specs.declared.firmness.Flag.{Flag}
 use Rattle.decoding.specs.declared.firmness.Reading.the-variants.{Open}
 use Rattle.decoding.specs.Decode.{Decodes, decisionNeed, metricNeed}
-use Rattle.decoding.specs.Firmness.{Judges}
+use Rattle.decoding.specs.Firmness.{TellsFirmness}
 use Rattle.words.specs.Letters.{bytes, word}
 use Rattle.demands.specs.Masks.{withMask}
 use Rattle.listings.specs.declared.Written.{Written}
@@ -30,7 +30,7 @@ use Rattle.plates.specs.declared.Kind.the-variants.{G, H}
 use Rattle.plates.specs.declared.Plate.{Plate}
 use Rattle.plates.specs.declared.Prepared.{Prepared}
 use Rattle.plates.specs.declared.Refusal.{Refusal}
-use Rattle.plates.specs.declared.Refusal.the-variants.{Information, Length, MaskBeyond, NoCodeword, NoSuchBranch, RowBeyond}
+use Rattle.plates.specs.declared.Refusal.the-variants.{InformationBeyond, Length, MaskBeyond, NoCodeword, NoSuchBranch, RowBeyond}
 use Rattle.plates.specs.declared.Verdict.the-variants.{Accepted}
 use Rattle.plates.specs.Prepare.{Prepares}
 use Rattle.plates.specs.Replying.{refusedWith}
@@ -47,7 +47,7 @@ use Rattle.trellises.specs.declared.Next.{Next}
 use Rattle.asking.specs.declared.Reason.the-variants as Y
 use Rattle.coding.specs.declared.Encoded.the-variants as E
 use Rattle.coding.specs.declared.ReadBack.the-variants as R
-use Rattle.decoding.specs.declared.firmness.Judged.the-variants as J
+use Rattle.decoding.specs.declared.firmness.Flagged.the-variants as J
 use Rattle.trellises.specs.declared.Next.the-variants as N
 use Rattle.listings.specs.declared.Written.the-variants as W
 
@@ -90,7 +90,7 @@ Exactly {A} Promise reply = (r : A) → Promise r ↔ (r ≡ reply)
 -- a line is written into any room that is long enough: its length is returned, and the bytes after it are unchanged
 abbrev pub Writing : (List ℕ → Written → List ℕ → Type 0) → List ℕ → Type 0
 Writing Promise line = (room : List ℕ) → length line ≤ length room
-    → Exactly (λ (x : Written × List ℕ). Promise room (x .0) (x .1)) (W.Length (length line), line ++ drop (length line) room)
+    → Exactly (λ (x : Written × List ℕ). Promise room (x .0) (x .1)) (W.Bytes (length line), line ++ drop (length line) room)
 
 -- a call that is lent the two working rooms, with any that are long enough: its reply, and the needed room is zero after it
 abbrev pub InRooms : {R : Type 0} → Plate → (List ℤ → List ℕ → List ℤ → List ℕ → R → Type 0) → R → Type 0
@@ -110,7 +110,7 @@ Right (asks plate depth state bit reply) = Exactly (Branches plate depth state b
 Right (encodes plate information reply) = Exactly (Encodes plate information) reply
 Right (reads plate word reply) = Exactly (ReadsBack plate word) reply
 Right (decodes plate samples a) = InRooms plate (Decodes plate samples) (Found a)
-Right (judges plate samples position flag) = InRooms plate (Judges plate samples position) (J.Found flag)
+Right (judges plate samples position flag) = InRooms plate (TellsFirmness plate samples position) (J.Found flag)
 Right (explains plate samples w reason) = InRooms plate (Asks plate samples w) (Explained reason)
 Right (plate-line plate line) = Writing (WritesPlate plate) line
 Right (profile-line plate line) = Writing (WritesProfile plate) line
@@ -243,7 +243,7 @@ branches =
 abbrev pub words : List Example
 words =
     encodes sheetPlate 9 (E.Word (word "11111111"))
-    ∷ encodes sheetPlate 16 (E.Refused Information)
+    ∷ encodes sheetPlate 16 (E.Refused InformationBeyond)
     ∷ reads sheetPlate (word "11010010") (R.Refused NoCodeword)
     ∷ []
 
@@ -306,7 +306,7 @@ maskedBranches =
 abbrev pub maskedWords : List Example
 maskedWords =
     encodes maskedPlate 9 (E.Word (word "01111110"))
-    ∷ reads maskedPlate (word "01111110") (R.Information 9)
+    ∷ reads maskedPlate (word "01111110") (R.InformationBeyond 9)
     ∷ reads maskedPlate (word "11111111") (R.Refused NoCodeword)
     ∷ []
 

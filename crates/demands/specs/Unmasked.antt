@@ -11,7 +11,7 @@ use Rattle.decoding.specs.Apart.{BestMetricIn, BestSelectionIn, metricCondition
 use Rattle.decoding.specs.declared.apart.Chosen.{Chosen}
 use Rattle.decoding.specs.declared.apart.Measured.{Measured}
 use Rattle.decoding.specs.declared.Decoded.{Decoded}
-use Rattle.decoding.specs.declared.firmness.Judged.{Judged}
+use Rattle.decoding.specs.declared.firmness.Flagged.{Flagged}
 use Rattle.decoding.specs.Decode.{BestIn, Zeroed, decodeConditions, metricNeed}
 use Rattle.decoding.specs.Firmness.{FlagOf, firmnessConditions}
 use Rattle.plates.specs.Code.{InCode}
@@ -31,7 +31,7 @@ use Rattle.asking.specs.declared.Verdict.the-variants as X
 use Rattle.decoding.specs.declared.apart.Chosen.the-variants as C
 use Rattle.decoding.specs.declared.apart.Measured.the-variants as M
 use Rattle.decoding.specs.declared.Decoded.the-variants as D
-use Rattle.decoding.specs.declared.firmness.Judged.the-variants as J
+use Rattle.decoding.specs.declared.firmness.Flagged.the-variants as J
 use Rattle.trellises.specs.declared.Next.the-variants as N
 
 -- ---- prepare, the test of a plate, branch
@@ -76,7 +76,7 @@ ChoosesCodeword plate samples metrics decisions metrics′ decisions′ (C.Found
     Passes (decodeConditions plate samples metrics decisions) × BestSelectionIn (IsSum (rowsOf plate)) plate samples c
     × Zeroed plate metrics metrics′ decisions decisions′
 
-abbrev pub JudgesCodeword : Plate → List ℤ → ℕ → List ℤ → List ℕ → List ℤ → List ℕ → Judged → Type 0
+abbrev pub JudgesCodeword : Plate → List ℤ → ℕ → List ℤ → List ℕ → List ℤ → List ℕ → Flagged → Type 0
 JudgesCodeword plate samples position metrics decisions metrics′ decisions′ (J.Refused q) =
     Refuses (firmnessConditions plate samples position metrics decisions) q × (metrics′ ≡ metrics) × (decisions′ ≡ decisions)
 JudgesCodeword plate samples position metrics decisions metrics′ decisions′ (J.Found flag) =

@@ -13,7 +13,7 @@ use Rattle.decoding.proofs.FirmnessDetermined.{firmness-determined}
 use Rattle.decoding.specs.declared.apart.Chosen.{Chosen}
 use Rattle.decoding.specs.declared.apart.Measured.{Measured}
 use Rattle.decoding.specs.declared.Decoded.{Decoded}
-use Rattle.decoding.specs.declared.firmness.Judged.{Judged}
+use Rattle.decoding.specs.declared.firmness.Flagged.{Flagged}
 use Rattle.exports.specs.Calls.{Calls, Crossing, Replies, misshapen}
 use Rattle.exports.specs.Crossing.{DecodeCells, Decoding, Listing, ListingCells, Writing, listingCells}
 use Rattle.exports.specs.Explaining.{AsksTo, CallsWhyNot, Explaining, ReasonCells}
@@ -104,7 +104,7 @@ firmness-call-determined words samples position lent a b r s = calls-determined 
     one : (x y : Judging) → JudgesTo (plateOf words) samples position lent x → JudgesTo (plateOf words) samples position lent y → x ≡ y
     one x y p q =
         let same = firmness-determined (plateOf words) samples position (lent .metrics) (lent .decisions) (x .reply) (y .reply) (x .metrics) (y .metrics) (x .decisions) (y .decisions) p q in
-        ap₂ (λ (u : Judged) (m : List ℤ). record { reply = u; metrics = m; decisions = x .decisions }) (same .0) (same .1)
+        ap₂ (λ (u : Flagged) (m : List ℤ). record { reply = u; metrics = m; decisions = x .decisions }) (same .0) (same .1)
         ∙ ap (λ (d : List ℕ). record { reply = y .reply; metrics = y .metrics; decisions = d }) (same .2)
 
 module _ (room cell : List ℕ) (r s : ℕ) (a b c d : List ℕ) where

@@ -7,10 +7,10 @@ use mathlib.Core.Path.{ap, ap₂, subst, sym, _∙_, _≡_}
 use native.Mathlib.Omega.{arith}
 use Prim.Native.Nat.{_<_, ℕ}
 use Rattle.decoding.specs.declared.firmness.Flag.{Flag}
-use Rattle.decoding.specs.declared.firmness.Judged.the-variants.{Found, Refused}
+use Rattle.decoding.specs.declared.firmness.Flagged.the-variants.{Found, Refused}
 use Rattle.decoding.specs.declared.firmness.Reading.{Reading}
 use Rattle.decoding.specs.declared.firmness.Reading.the-variants.{Fixed, Open}
-use Rattle.decoding.specs.Firmness.{Judges, Means, isFixed, value}
+use Rattle.decoding.specs.Firmness.{TellsFirmness, Means, isFixed, value}
 use Rattle.exports.specs.Calls.{Crossing, RefusedAt, done}
 use Rattle.exports.specs.Flat.{plateOf}
 use Rattle.exports.specs.Judging.{CallsFirmness, FirmnessCells, FirmnessShape, FixedFits, Judging, JudgesTo, ReadingPut, firmnessCells, judged, judgedAs}
@@ -36,7 +36,7 @@ fixed-fits plate samples position (Open margin) h = tt
 pub reading-fits : (plate : Plate) (samples : List ℤ) (position : ℕ) (lent : FirmnessCells) (j : Judging) → JudgesTo plate samples position lent j → (flag : Flag) → j .reply ≡ Found flag
     → FixedFits (flag .reading)
 reading-fits plate samples position lent j p flag e =
-    fixed-fits plate samples position (flag .reading) (subst (Judges plate samples position (lent .metrics) (lent .decisions) (j .metrics) (j .decisions)) e p .1 .reading)
+    fixed-fits plate samples position (flag .reading) (subst (TellsFirmness plate samples position (lent .metrics) (lent .decisions) (j .metrics) (j .decisions)) e p .1 .reading)
 
 module _ (samples : List ℤ) (position : ℕ) (lent : FirmnessCells) (j : Judging) (words : List ℕ)
     (shape : FirmnessShape (length words) (length (lent .fixed)) (length (lent .value)) (length (lent .at)))

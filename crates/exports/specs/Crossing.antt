@@ -103,7 +103,7 @@ pub record Writing : Type 0 where
 
 -- a line: its length
 abbrev pub writtenAs : List ℕ → List ℕ → Written → Crossing (List ℕ × List ℕ)
-writtenAs cell room (W.Length size) = record { code = done; cells = (room, set cell 0 size) }
+writtenAs cell room (W.Bytes size) = record { code = done; cells = (room, set cell 0 size) }
 writtenAs cell room (W.Refused q) = record { code = number q; cells = (room, cell) }
 
 abbrev pub written : List ℕ → Writing → Crossing (List ℕ × List ℕ)

@@ -5,11 +5,11 @@ use mathlib.Core.Bool.{Bool, cond, false, true}
 use mathlib.Core.List.{List}
 use mathlib.Core.Path.{_≡_}
 use Prim.Native.Nat.{_<_, ℕ, _≤_}
-use Rattle.decoding.specs.declared.firmness.Judged.{Judged}
-use Rattle.decoding.specs.declared.firmness.Judged.the-variants.{Found, Refused}
+use Rattle.decoding.specs.declared.firmness.Flagged.{Flagged}
+use Rattle.decoding.specs.declared.firmness.Flagged.the-variants.{Found, Refused}
 use Rattle.decoding.specs.declared.firmness.Reading.{Reading}
 use Rattle.decoding.specs.declared.firmness.Reading.the-variants.{Fixed, Open}
-use Rattle.decoding.specs.Firmness.{Judges, isFixed, value}
+use Rattle.decoding.specs.Firmness.{TellsFirmness, isFixed, value}
 use Rattle.exports.specs.Calls.{Calls, Crossing, done}
 use Rattle.exports.specs.Flat.{plateOf}
 use Rattle.plates.specs.declared.Plate.{Plate}
@@ -29,7 +29,7 @@ firmnessCells metrics decisions fixed value at = record { metrics = metrics; dec
 
 -- what firmness replies, with the two rooms as it leaves them
 pub record Judging : Type 0 where
-  pub reply : Judged
+  pub reply : Flagged
   pub metrics : List ℤ
   pub decisions : List ℕ
 
@@ -48,7 +48,7 @@ pub record ReadingPut (reading : Reading) (fixed : List ℕ) (values : List ℤ)
   pub value-is : values′ ≡ set values 0 (value reading)
 
 -- firmness: whether the reading is fixed, its value, and place 0; or the place of the refusal alone
-abbrev pub judgedAs : FirmnessCells → List ℤ → List ℕ → Judged → Crossing FirmnessCells
+abbrev pub judgedAs : FirmnessCells → List ℤ → List ℕ → Flagged → Crossing FirmnessCells
 judgedAs lent metrics decisions (Found flag) = record {
   code = done;
   cells = record {
@@ -84,7 +84,7 @@ pub record FirmnessTested (plate fixed value at : ℕ) (r : Bool) : Type 0 where
 
 -- what firmness promises of its reply and its rooms
 abbrev pub JudgesTo : Plate → List ℤ → ℕ → FirmnessCells → Judging → Type 0
-JudgesTo plate samples position lent j = Judges plate samples position (lent .metrics) (lent .decisions) (j .metrics) (j .decisions) (j .reply)
+JudgesTo plate samples position lent j = TellsFirmness plate samples position (lent .metrics) (lent .decisions) (j .metrics) (j .decisions) (j .reply)
 
 -- firmness: fixed are the plate's run, the cells for the reading and that of the place
 abbrev pub CallsFirmness : List ℕ → List ℤ → ℕ → FirmnessCells → ℕ → FirmnessCells → Type 0

@@ -151,7 +151,7 @@ pub fn written_length(reply: Written, size: &mut [u64]) -> u64
     ensures { λ r. ⌜ LengthPut reply (now (size .entry)) r (now (size .exit)) ⌝ }
 {
     match reply {
-        Written::Length(bytes) => {
+        Written::Bytes(bytes) => {
             size[0] = bytes as u64;
             0
         }

@@ -12,7 +12,7 @@ use asking::Verdict;
 use decoding::Decoded;
 use decoding::apart::Chosen;
 use decoding::apart::Measured;
-use decoding::firmness::Judged;
+use decoding::firmness::Flagged;
 
 // The codeword of greatest metric.
 #[no_mangle]
@@ -152,12 +152,12 @@ pub extern "C" fn yendrufal_firmness(
         metrics,
         decisions,
     ) {
-        Judged::Found(flag) => {
+        Flagged::Found(flag) => {
             cells::put_reading(flag, fixed, value);
             at[0] = 0;
             0
         }
-        Judged::Refused(refusal) => cells::refused_at(refusal, at),
+        Flagged::Refused(refusal) => cells::refused_at(refusal, at),
     }
 }
 

@@ -9,7 +9,7 @@ use Prim.Native.Nat.{_-_, _<_, ℕ, _≤_}
 use Rattle.listings.proofs.Prepending.{Built, built-stands}
 use Rattle.listings.specs.Building.{Ends}
 use Rattle.listings.specs.declared.Written.{Written}
-use Rattle.listings.specs.declared.Written.the-variants.{Length, Refused}
+use Rattle.listings.specs.declared.Written.the-variants.{Bytes, Refused}
 use Rattle.listings.specs.Writing.{Writes, WritesLine}
 use Rattle.plates.specs.declared.Refusal.{Refusal}
 use Rattle.plates.specs.declared.Refusal.the-variants.{LineRoom}
@@ -22,10 +22,10 @@ refused-first h = record { reply = (inl h, refl) }
 pub passed-first : {c : Refusal → Type 0} {cs : List (Refusal → Type 0)} {line room room′ : List ℕ} {r : Written} → ((p : Refusal) → c p → ⊥)
     → Writes cs line room r room′ → Writes (c ∷ cs) line room r room′
 passed-first {r = Refused q} none w = record { reply = (inr (none, w .reply .0), w .reply .1) }
-passed-first {r = Length size} none w = record { reply = ((none, w .reply .0), w .reply .1, w .reply .2) }
+passed-first {r = Bytes size} none w = record { reply = ((none, w .reply .0), w .reply .1, w .reply .2) }
 
 -- no condition is left: the line is written
-pub written : (line room : List ℕ) → Writes [] line room (Length (length line)) (line ++ drop (length line) room)
+pub written : (line room : List ℕ) → Writes [] line room (Bytes (length line)) (line ++ drop (length line) room)
 written line room = record { reply = (tt, refl, refl) }
 
 -- ---- a line and its room
@@ -35,13 +35,13 @@ pub too-long : (line room : List ℕ) → length room < length line → WritesLi
 too-long line room h = refused-first (h, refl)
 
 -- a room that is long enough
-pub fits-room : (line room : List ℕ) → length line ≤ length room → WritesLine line room (Length (length line)) (line ++ drop (length line) room)
+pub fits-room : (line room : List ℕ) → length line ≤ length room → WritesLine line room (Bytes (length line)) (line ++ drop (length line) room)
 fits-room line room h = passed-first (λ p f. omega (arith, f .0)) (written line room)
 
 -- the part of an array from `at` on, copied
 pub tail-written : (array room room′ : List ℕ) (at : ℕ) → Ends array at → 256 - at ≤ length room
     → room′ ≡ take (length array - at) (drop at array) ++ drop (length (take (length array - at) (drop at array))) room
-    → WritesLine (drop at array) room (Length (256 - at)) room′
+    → WritesLine (drop at array) room (Bytes (256 - at)) room′
 tail-written array room room′ at s h e =
     let l : length (drop at array) ≡ 256 - at = length-drop at array ∙ rw (s .size) in
     let a = take-all (length array - at) (drop at array) (omega (arith, length-drop at array)) in

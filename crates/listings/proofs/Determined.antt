@@ -6,7 +6,7 @@ use mathlib.Core.Path.{ap, refl, sym, _∙_, _≡_}
 use Prim.Native.Nat.{ℕ}
 use Rattle.listings.specs.declared.Tally.{Tally}
 use Rattle.listings.specs.declared.Written.{Written}
-use Rattle.listings.specs.declared.Written.the-variants.{Length, Refused}
+use Rattle.listings.specs.declared.Written.the-variants.{Bytes, Refused}
 use Rattle.listings.specs.Writing.{Writes, WritesAs, WritesEnd, WritesLeast, WritesLine, WritesNoLeast, WritesOf, WritesPlate, WritesProfile, WritesRefused, WritesTally, WritesWeight, WritesWord}
 use Rattle.plates.proofs.Refusing.{Single, never-both, refuses-once}
 use Rattle.plates.specs.declared.Plate.{Plate}
@@ -21,9 +21,9 @@ module _ (cs : List (Refusal → Type 0)) (single : Single cs) (line room : List
   -- by cases on the two replies
   by-cases : (r s : Written) (a b : List ℕ) → WritesAs cs line room a r → WritesAs cs line room b s → Same r s a b
   by-cases (Refused p) (Refused q) a b x y = (ap Refused (refuses-once cs single p q (x .0) (y .0)), x .1 ∙ sym (y .1))
-  by-cases (Refused p) (Length m) a b x y = absurd (never-both cs (y .0) p (x .0))
-  by-cases (Length l) (Refused q) a b x y = absurd (never-both cs (x .0) q (y .0))
-  by-cases (Length l) (Length m) a b x y = (ap Length (x .1 ∙ sym (y .1)), x .2 ∙ sym (y .2))
+  by-cases (Refused p) (Bytes m) a b x y = absurd (never-both cs (y .0) p (x .0))
+  by-cases (Bytes l) (Refused q) a b x y = absurd (never-both cs (x .0) q (y .0))
+  by-cases (Bytes l) (Bytes m) a b x y = (ap Bytes (x .1 ∙ sym (y .1)), x .2 ∙ sym (y .2))
 
   -- two replies, with the rooms after them, that meet one promise are equal
   pub determined : {r s : Written} {a b : List ℕ} → Writes cs line room r a → Writes cs line room s b → Same r s a b
@@ -35,7 +35,7 @@ module _ (cs : List (Refusal → Type 0)) (single : Single cs) (line room : List
 
   -- none does: the line is written
   pub must-write : {r : Written} {room′ : List ℕ} → Writes cs line room r room′ → Passes cs
-      → Same r (Length (length line)) room′ (line ++ drop (length line) room)
+      → Same r (Bytes (length line)) room′ (line ++ drop (length line) room)
   must-write w h = determined w (record { reply = (h, refl, refl) })
 
 -- ---- the calls

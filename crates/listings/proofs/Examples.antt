@@ -2,7 +2,7 @@
 use lib.IntN.{negsuc, pos}
 use mathlib.Core.List.{[], _∷_}
 use mathlib.Core.Path.{refl, _≡_}
-use Rattle.listings.specs.Decimal.{decimal, signed}
+use Rattle.listings.specs.Decimal.{decimal, signedDecimal}
 use Rattle.listings.specs.Lines.{endLine, plateLine, profileLine, refusedLine, wordLine}
 
 -- plate 8 4 3
@@ -17,7 +17,7 @@ profile-example = refl
 
 -- word 11110000 19 44 11
 pub word-example : wordLine 8 15 (pos 19) 44 11 ≡ 119 ∷ 111 ∷ 114 ∷ 100 ∷ 9 ∷ 49 ∷ 49 ∷ 49 ∷ 49 ∷ 48 ∷ 48 ∷ 48 ∷ 48 ∷ 9 ∷ 49 ∷ 57 ∷ 9 ∷ 52 ∷ 52 ∷ 9 ∷ 49 ∷ 49 ∷ 10 ∷ []
-unfolding wordLine signed decimal
+unfolding wordLine signedDecimal decimal
 word-example = refl
 
 -- end 1
@@ -46,11 +46,11 @@ unfolding decimal
 greatest-number = refl
 
 -- 0
-pub zero-has-no-minus : signed (pos 0) ≡ 48 ∷ []
-unfolding signed decimal
+pub zero-has-no-minus : signedDecimal (pos 0) ≡ 48 ∷ []
+unfolding signedDecimal decimal
 zero-has-no-minus = refl
 
 -- -2147483648
-pub least-number : signed (negsuc 2147483647) ≡ 45 ∷ 50 ∷ 49 ∷ 52 ∷ 55 ∷ 52 ∷ 56 ∷ 51 ∷ 54 ∷ 52 ∷ 56 ∷ []
-unfolding signed decimal
+pub least-number : signedDecimal (negsuc 2147483647) ≡ 45 ∷ 50 ∷ 49 ∷ 52 ∷ 55 ∷ 52 ∷ 56 ∷ 51 ∷ 54 ∷ 52 ∷ 56 ∷ []
+unfolding signedDecimal decimal
 least-number = refl

@@ -11,7 +11,7 @@ use native.Mathlib.Omega.{arith}
 use Prim.Native.Nat.{_%_, _*_, _+_, _-_, _/_, _<_, suc, zero, ℕ, _≤_}
 use Rattle.listings.proofs.Backwards.{positions-length}
 use Rattle.listings.proofs.Digits.{decimal-high, decimal-low}
-use Rattle.listings.specs.Decimal.{decimal, digits, signed}
+use Rattle.listings.specs.Decimal.{decimal, digits, signedDecimal}
 use Rattle.listings.specs.Lines.{endLine, following, largest, leastLine, less, namesField, noLeastLine, plateLine, profileLine, refusedLine, tallyLine, weightLine, wordLine}
 use Rattle.listings.specs.declared.Tally.{Tally}
 use Rattle.words.proofs.Span.{lt-tri}
@@ -40,8 +40,8 @@ with-minus true s h = omega arith
 with-minus false s h = omega arith
 
 -- 21 bytes at most
-pub signed-length : (z : ℤ) → length (signed z) ≤ 21
-unfolding signed
+pub signed-length : (z : ℤ) → length (signedDecimal z) ≤ 21
+unfolding signedDecimal
 signed-length z = with-minus (ltZ z (pos 0)) (decimal (natAbs z)) (decimal-length (natAbs z))
 
 -- a number below 100 has at most two digits

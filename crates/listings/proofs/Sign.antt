@@ -12,7 +12,7 @@ use mir.Val.{SFits, ofZ, toZ}
 use native.Mathlib.Nat.{zero-add}
 use native.Mathlib.Omega.{arith}
 use Prim.Native.Nat.{suc, ℕ, _-_, _<_, _≤_}
-use Rattle.listings.specs.Decimal.{decimal, signed}
+use Rattle.listings.specs.Decimal.{decimal, signedDecimal}
 use Rattle.listings.specs.Lines.{less}
 
 -- not below 0
@@ -45,13 +45,13 @@ module _ (z : ℤ) (s : SFits w32 z) where
 -- ---- how it is printed
 
 -- below 0 with a minus
-pub signed-below : (z : ℤ) → ltZ z (pos 0) ≡ true → signed z ≡ 45 ∷ decimal (natAbs z)
-unfolding signed
+pub signed-below : (z : ℤ) → ltZ z (pos 0) ≡ true → signedDecimal z ≡ 45 ∷ decimal (natAbs z)
+unfolding signedDecimal
 signed-below z f = rw f
 
 -- else without
-pub signed-other : (z : ℤ) → ltZ z (pos 0) ≡ false → signed z ≡ decimal (natAbs z)
-unfolding signed
+pub signed-other : (z : ℤ) → ltZ z (pos 0) ≡ false → signedDecimal z ≡ decimal (natAbs z)
+unfolding signedDecimal
 signed-other z f = rw f
 
 -- one number less a greater

@@ -16,5 +16,5 @@ unfoldable pub decimal : ℕ → List ℕ
 decimal value = digits 20 value
 
 -- a number with a minus exactly when it is below 0
-unfoldable pub signed : ℤ → List ℕ
-signed value = cond (ltZ value (pos 0)) (45 ∷ decimal (natAbs value)) (decimal (natAbs value))
+unfoldable pub signedDecimal : ℤ → List ℕ
+signedDecimal value = cond (ltZ value (pos 0)) (45 ∷ decimal (natAbs value)) (decimal (natAbs value))

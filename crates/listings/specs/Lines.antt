@@ -4,7 +4,7 @@ use lib.IntN.{ℤ}
 use mathlib.Core.Bool.{Bool, cond, _&&_, _||_}
 use mathlib.Core.List.{_++_, List, [], map, _∷_}
 use Prim.Native.Nat.{_+_, _-_, max, suc, zero, ℕ}
-use Rattle.listings.specs.Decimal.{decimal, signed}
+use Rattle.listings.specs.Decimal.{decimal, signedDecimal}
 use Rattle.listings.specs.declared.Tally.{Tally}
 use Rattle.words.specs.Letters.{bytes}
 use Rattle.words.specs.Word.{bit}
@@ -58,7 +58,7 @@ profileLine entries = line profileName (map decimal entries)
 -- word: its first n positions, position 0 at the left, metric, additions, comparisons
 unfoldable pub wordLine : ℕ → ℕ → ℤ → ℕ → ℕ → List ℕ
 wordLine n word metric additions comparisons =
-    line wordName (positions word 0 n ∷ signed metric ∷ decimal additions ∷ decimal comparisons ∷ [])
+    line wordName (positions word 0 n ∷ signedDecimal metric ∷ decimal additions ∷ decimal comparisons ∷ [])
 
 -- whether the place of a refusal is a line and a field: 10, and 17 to 20
 abbrev pub namesField : ℕ → Bool

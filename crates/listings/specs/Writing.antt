@@ -6,7 +6,7 @@ use mathlib.Core.Path.{_≡_}
 use Prim.Native.Nat.{_+_, _<_, ℕ}
 use Rattle.listings.specs.declared.Tally.{Tally}
 use Rattle.listings.specs.declared.Written.{Written}
-use Rattle.listings.specs.declared.Written.the-variants.{Length, Refused}
+use Rattle.listings.specs.declared.Written.the-variants.{Bytes, Refused}
 use Rattle.listings.specs.Lines.{endLine, leastLine, noLeastLine, plateLine, profileLine, refusedLine, tallyLine, weightLine, wordLine}
 use Rattle.plates.specs.declared.Plate.{Plate}
 use Rattle.plates.specs.declared.Refusal.{Refusal}
@@ -22,7 +22,7 @@ lineRoom line room q = (length room < length line) × (q ≡ LineRoom)
 -- condition holds, with the line's length and the line at the start of the room, the bytes after it as they were
 abbrev pub WritesAs : List (Refusal → Type 0) → List ℕ → List ℕ → List ℕ → Written → Type 0
 WritesAs conditions line room room′ (Refused q) = Refuses conditions q × (room′ ≡ room)
-WritesAs conditions line room room′ (Length size) = Passes conditions × (size ≡ length line) × (room′ ≡ line ++ drop (length line) room)
+WritesAs conditions line room room′ (Bytes size) = Passes conditions × (size ≡ length line) × (room′ ≡ line ++ drop (length line) room)
 
 -- the promise of a call that writes a line
 pub record Writes (conditions : List (Refusal → Type 0)) (line room : List ℕ) (r : Written) (room′ : List ℕ) : Type 0 where

@@ -16,7 +16,7 @@ use plates::Refusal;
 
 // What writing replies: the line's length with its line feed, or why it is refused.
 pub enum Written {
-    Length(usize),
+    Bytes(usize),
     Refused(Refusal),
 }
 
@@ -59,7 +59,7 @@ fn write_line(line: &pieces::Line, at: usize, room: &mut [u8]) -> Written
     }
     let bytes = &line[..];
     copy_in(&bytes[at..], room);
-    Written::Length(size)
+    Written::Bytes(size)
 }
 
 // The line `plate`, from n, k and the profile's entries in use.

@@ -7,7 +7,7 @@ ghost use Prim.Native.Nat.{_+_, max};
 ghost use lib.IntN.{natAbs};
 ghost use Rattle.words.specs.Word.{bit};
 ghost use Rattle.listings.specs.Building.{Prepends};
-ghost use Rattle.listings.specs.Decimal.{decimal, signed};
+ghost use Rattle.listings.specs.Decimal.{decimal, signedDecimal};
 ghost use Rattle.listings.specs.Lines.{largest, less, following, namesField, positions};
 
 // The array that a line is built in.
@@ -118,7 +118,7 @@ pub fn magnitude(value: i32) -> u64
 
 // A tab and a number before a place, with a minus exactly when it is below 0.
 pub fn prepend_signed(line: &mut Line, end: usize, metric: i32) -> usize
-    ensures { λ r. ⌜ Prepends (now (line .entry)) end (9 ∷ signed metric) (now (line .exit)) r ⌝ }
+    ensures { λ r. ⌜ Prepends (now (line .entry)) end (9 ∷ signedDecimal metric) (now (line .exit)) r ⌝ }
 {
     let size = magnitude(metric);
     if metric < 0 {

@@ -12,7 +12,7 @@ use Rattle.listings.proofs.Backwards.{positions-length}
 use Rattle.listings.proofs.Conditions.{fits-room, too-long}
 use Rattle.listings.proofs.Fits256.{decimal-two}
 use Rattle.listings.specs.declared.Written.{Written}
-use Rattle.listings.specs.declared.Written.the-variants.{Length, Refused}
+use Rattle.listings.specs.declared.Written.the-variants.{Bytes, Refused}
 use Rattle.listings.specs.Lines.{line, positions}
 use Rattle.listings.specs.Writing.{WritesLine}
 use Rattle.outlines.specs.Putting.{Puts}
@@ -59,7 +59,7 @@ module _ (kind : Kind) (n word : ℕ) (rows : List ℕ) (h : n ≤ 64) (k : leng
   fits = omega (arith, sheet-length kind n word rows h k)
 
   pub sheet-written : {room room′ scratch scratch′ : List ℕ} {size r : ℕ} → Puts scratch 0 (sheetText kind n word rows) scratch′ size → size ≤ length room
-      → Puts room 0 (sheetText kind n word rows) room′ r → WritesLine (sheetText kind n word rows) room (Length size) room′
+      → Puts room 0 (sheetText kind n word rows) room′ r → WritesLine (sheetText kind n word rows) room (Bytes size) room′
   sheet-written {room} {size = size} m l p =
       let text = sheetText kind n word rows in
       let e : size ≡ length text = m .next fits ∙ omega arith in

@@ -29,7 +29,7 @@ fn put_sheet(kind: Kind, n: usize, mask: u64, rows: &[u64], room: &mut [u8]) -> 
         return Written::Refused(Refusal::LineRoom);
     }
     pieces::put_text(kind, n, mask, rows, room);
-    Written::Length(size)
+    Written::Bytes(size)
 }
 
 // The sheet of a plate into the room, or refusal 11: its rows as G, and what is left of its mask once they are taken off.

@@ -4,7 +4,7 @@ use mathlib.Core.List.{List, [], _∷_}
 use mathlib.Core.Logic.{_⊎_}
 use Rattle.plates.specs.declared.Entry.{Entry}
 use Rattle.plates.specs.declared.Refusal.{Refusal}
-use Rattle.plates.specs.declared.Refusal.the-variants.{Length, TooManyRows, RowBeyond, TooWide, NotPrepared, SampleCount, SampleRange, MetricRoom, DecisionRoom, SheetLine, LineRoom, NoSuchBranch, Information, NoCodeword, InputTooLong, AlistFault, FirstField, FieldCount, FieldValue, RowField, PositionBeyond, WholeSpace, MaskBeyond, BadSetting, NotANumber, BranchFault, BranchTwice, TooManyLines}
+use Rattle.plates.specs.declared.Refusal.the-variants.{Length, TooManyRows, RowBeyond, TooWide, NotPrepared, SampleCount, SampleRange, MetricRoom, DecisionRoom, SheetLine, LineRoom, NoSuchBranch, InformationBeyond, NoCodeword, InputTooLong, AlistFault, FirstField, FieldCount, FieldValue, RowField, PositionBeyond, WholeSpace, MaskBeyond, BadSetting, NotANumber, BranchFault, BranchTwice, TooManyLines}
 
 -- an entry of the table: the number; the place, a row, depth, position or line where one is named, and else 0; and the field of a sheet's bad
 -- line, from 1, which is 0 for a line that is missing or not ended, and for all other refusals
@@ -25,7 +25,7 @@ entryOf DecisionRoom = told 9 0 0
 entryOf (SheetLine line) = told 10 line 0
 entryOf LineRoom = told 11 0 0
 entryOf NoSuchBranch = told 12 0 0
-entryOf Information = told 13 0 0
+entryOf InformationBeyond = told 13 0 0
 entryOf NoCodeword = told 14 0 0
 entryOf InputTooLong = told 15 0 0
 entryOf (AlistFault line) = told 16 line 0

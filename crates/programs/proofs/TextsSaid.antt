@@ -38,10 +38,10 @@ pub refused-made : {n p f n′ p′ f′ : ℕ} {room room′ : List ℕ} {r : W
 refused-made e g h w = rw (← e, ← g, ← h) w
 
 -- a line that was written stands at the start of the room
-pub line-there : {line room room′ : List ℕ} {w : Written} {size : ℕ} → WritesLine line room w room′ → w ≡ W.Length size → take size room′ ≡ line
+pub line-there : {line room room′ : List ℕ} {w : Written} {size : ℕ} → WritesLine line room w room′ → w ≡ W.Bytes size → take size room′ ≡ line
 line-there {line} {room} {room′} {w} {size} x e = by (subst (WritesAs (lineRoom line room ∷ []) line room room′) e (x .reply))
   where
-    by : WritesAs (lineRoom line room ∷ []) line room room′ (W.Length size) → take size room′ ≡ line
+    by : WritesAs (lineRoom line room ∷ []) line room room′ (W.Bytes size) → take size room′ ≡ line
     by y = rw (y .1, y .2) (take-append-seam line (drop (length line) room))
 
 -- one line was taken
@@ -80,11 +80,11 @@ zeros = replicate 8192 0
 
 module _ {what : Text} {input room′ : List ℕ} {w : Written} (t : WritesText what input zeros w room′) where
   -- it was written
-  pub text-there : {size : ℕ} → w ≡ W.Length size → IsText what input (take size room′)
+  pub text-there : {size : ℕ} → w ≡ W.Bytes size → IsText what input (take size room′)
   text-there {size} e = by (t .is .prepared .verdict) refl (t .is .is)
     where
       by : (v : Verdict) → t .is .prepared .verdict ≡ v → WritesBy v (sheetOf (t .is .prepared .plate)) zeros w room′ → IsText what input (take size room′)
-      by (J.Refused q) f y = let g : W.Refused q ≡ W.Length size = sym (y .0) ∙ e in let z : _≡_ {A = ℕ} 0 1 = cc in absurd (omega arith)
+      by (J.Refused q) f y = let g : W.Refused q ≡ W.Bytes size = sym (y .0) ∙ e in let z : _≡_ {A = ℕ} 0 1 = cc in absurd (omega arith)
       by J.Accepted f y = record { is = record { prepared = t .is .prepared; opened = t .is .opened; accepted = f; is = line-there y e } }
 
   -- the input was refused, since the room is enough

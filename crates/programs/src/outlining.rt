@@ -37,7 +37,7 @@ pub fn print_text(what: Text, input: &[u8]) -> Ending
     let mut room = [0; 8192];
     let written = write_text(what, input, &mut room);
     match written {
-        Written::Length(size) => hand_over(what, input, &room, size),
+        Written::Bytes(size) => hand_over(what, input, &room, size),
         Written::Refused(refusal) => refusing::print_refused(refusal),
     }
 }

@@ -23,7 +23,7 @@ pub fn print_refused(refusal: Refusal) -> Ending
 {
     let mut room = [0; 256];
     let written = make_refused(refusal, &mut room);
-    let Written::Length(size) = written else {
+    let Written::Bytes(size) = written else {
         return Ending::Unwritten;
     };
     let handed = writer::hand_refusal(writer::none(), refusal, &room, size);

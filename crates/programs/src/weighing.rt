@@ -13,7 +13,7 @@ use weights::Counted;
 // Hands over the line that stands in the room, by what making it replied.
 fn hand_made(sent: Sent, written: Written, room: &[u8]) -> Handed {
     match written {
-        Written::Length(size) => writer::hand_weighed(sent, room, size),
+        Written::Bytes(size) => writer::hand_weighed(sent, room, size),
         Written::Refused(_) => Handed { taken: false, sent },
     }
 }

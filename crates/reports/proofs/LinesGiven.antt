@@ -45,7 +45,7 @@ pub record Given (line : List ℕ) (after : Report) (step : Step) (room room′ 
 module _ (cs : List (Refusal → Type 0)) (line room room′ : List ℕ) (before after : Report) (step : Step) (l : length line ≤ 256) (pass : Passes cs) where
   by-written : (w : Written) → WritesAs cs line room room′ w → step ≡ stepBy w before after → Given line after step room room′
   by-written (W.Refused q) x e = absurd (never-both cs pass q (x .0))
-  by-written (W.Length size) x e = record {
+  by-written (W.Bytes size) x e = record {
     short = l;
     outcome = ap (λ (s : Step). s .outcome) e ∙ ap O.Line (x .1);
     next = ap (λ (s : Step). s .next) e;

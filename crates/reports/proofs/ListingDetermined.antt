@@ -54,18 +54,18 @@ module _ (input : List ℕ) (lent : Rooms) (listing : List ℕ) where
   single : Single (listingConditions input lent listing)
   single = ((λ p q x y. x .1 ∙ sym (y .1)), ((λ p q x y. x .1 ∙ sym (y .1)), ((λ p q x y. x .is ∙ sym (y .is)), tt)))
 
-  listed-same : (s t : ℕ) (a b : Rooms) (c d : List ℕ) → Listed input lent listing a c s → Listed input lent listing b d t → (W.Length s ≡ W.Length t) × (a ≡ b) × (c ≡ d)
+  listed-same : (s t : ℕ) (a b : Rooms) (c d : List ℕ) → Listed input lent listing a c s → Listed input lent listing b d t → (W.Bytes s ≡ W.Bytes t) × (a ≡ b) × (c ≡ d)
   listed-same s t a b c d x y =
       let e = listing-determined input (x .bytes) (y .bytes) (x .lists) (y .lists) in (
-        ap W.Length (x .size-is ∙ ap length e ∙ sym (y .size-is)),
+        ap W.Bytes (x .size-is ∙ ap length e ∙ sym (y .size-is)),
         leaves-same (reading input) lent a b (x .working .is) (y .working .is),
         x .listing-is ∙ ap (λ (m : List ℕ). m ++ drop (length m) listing) e ∙ sym (y .listing-is),
       )
 
   pub write-listing-determined : (r s : Written) (a b : Rooms) (c d : List ℕ) → WritesListing input lent listing a c r → WritesListing input lent listing b d s
       → (r ≡ s) × (a ≡ b) × (c ≡ d)
-  write-listing-determined (W.Length s) (W.Length t) a b c d x y = listed-same s t a b c d (x .1) (y .1)
-  write-listing-determined (W.Length s) (W.Refused q) a b c d x y = absurd (never-both conditions (x .0) q (y .0))
-  write-listing-determined (W.Refused p) (W.Length t) a b c d x y = absurd (never-both conditions (y .0) p (x .0))
+  write-listing-determined (W.Bytes s) (W.Bytes t) a b c d x y = listed-same s t a b c d (x .1) (y .1)
+  write-listing-determined (W.Bytes s) (W.Refused q) a b c d x y = absurd (never-both conditions (x .0) q (y .0))
+  write-listing-determined (W.Refused p) (W.Bytes t) a b c d x y = absurd (never-both conditions (y .0) p (x .0))
   write-listing-determined (W.Refused p) (W.Refused q) a b c d x y =
       (ap W.Refused (refuses-once conditions single p q (x .0) (y .0)), x .1 ∙ sym (y .1), x .2 ∙ sym (y .2))

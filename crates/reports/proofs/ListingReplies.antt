@@ -58,7 +58,7 @@ module _ (input : List ℕ) (lent : Rooms) (listing : List ℕ) where
               omega (arith, b .short, e)
 
           pub listed : (left : Rooms) (listing′ : List ℕ) (size : ℕ) → LinesAdded input report lent listing left listing′ size
-              → WritesListing input lent listing left listing′ (W.Length size)
+              → WritesListing input lent listing left listing′ (W.Bytes size)
           listed left listing′ size a = (
             ((λ q b. omega (arith, b .0, metrics)), ((λ q b. omega (arith, b .0, decisions)), (long-enough, tt))),
             record {

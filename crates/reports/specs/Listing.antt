@@ -75,7 +75,7 @@ pub record Listed (input : List ℕ) (lent : Rooms) (listing : List ℕ) (left :
 -- What writing a listing replies: the first refusal in order with everything lent unchanged, or the size of the listing in its room
 abbrev pub WritesListing : List ℕ → Rooms → List ℕ → Rooms → List ℕ → Written → Type 0
 WritesListing input lent listing left listing′ (W.Refused q) = Refuses (listingConditions input lent listing) q × (left ≡ lent) × (listing′ ≡ listing)
-WritesListing input lent listing left listing′ (W.Length size) = Passes (listingConditions input lent listing) × Listed input lent listing left listing′ size
+WritesListing input lent listing left listing′ (W.Bytes size) = Passes (listingConditions input lent listing) × Listed input lent listing left listing′ size
 
 -- ---- on the way
 

@@ -116,7 +116,7 @@ toNothing report = to S.Done (report .at) report
 
 -- the step by what writing the line replied: the line's length and the report after it, or the refusal and the report as it was
 abbrev pub stepBy : Written → Report → Report → Step
-stepBy (W.Length size) before after = record { outcome = O.Line size; next = after }
+stepBy (W.Bytes size) before after = record { outcome = O.Line size; next = after }
 stepBy (W.Refused q) before after = record { outcome = O.Refused q; next = before }
 
 -- a refusal of what was lent

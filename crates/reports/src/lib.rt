@@ -174,5 +174,5 @@ pub fn write_listing(
         return Written::Refused(Refusal::LineRoom);
     }
     let size = listing::list_lines(report, lines, input, metrics, decisions, room);
-    Written::Length(size)
+    Written::Bytes(size)
 }

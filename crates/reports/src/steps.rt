@@ -79,7 +79,7 @@ pub fn step_by(written: Written, before: Report, after: Report) -> Step
     ensures { λ r. ⌜ r ≡ stepBy written before after ⌝ }
 {
     match written {
-        Written::Length(size) => Step {
+        Written::Bytes(size) => Step {
             outcome: Outcome::Line(size),
             next: after,
         },

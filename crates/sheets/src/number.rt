@@ -95,7 +95,7 @@ pub fn read_counter_field(f: &[u8]) -> Number
 }
 
 // A number of four digits as a signed one.
-fn signed(value: usize) -> i16
+fn as_signed(value: usize) -> i16
     requires { ⌜ value < 10000 ⌝ }
     ensures { λ r. ⌜ r ≡ pos value ⌝ }
 {
@@ -107,7 +107,7 @@ fn below_zero(value: usize) -> i16
     requires { ⌜ value < 10000 ⌝ }
     ensures { λ r. ⌜ r ≡ negℤ (pos value) ⌝ }
 {
-    0 - signed(value)
+    0 - as_signed(value)
 }
 
 // A number as a sample.
@@ -116,7 +116,7 @@ fn as_sample(number: Number) -> Sample
     ensures { λ r. ⌜ r ≡ plain number ⌝ }
 {
     match number {
-        Number::Is(value) => Sample::Is(signed(value)),
+        Number::Is(value) => Sample::Is(as_signed(value)),
         Number::Bad => Sample::Bad,
     }
 }
