@@ -92,10 +92,10 @@ written-sized n rows room p = record {
   where
     above : Dec (0 < n) → 1 ≤ n
     above (yes h) = omega (arith, h)
-    above (no h) = absurd (p .0 R.Bytes (inl (omega (arith, h)), refl))
+    above (no h) = absurd (p .0 R.Length (inl (omega (arith, h)), refl))
 
     within : Dec (64 < n) → n ≤ 64
-    within (yes h) = absurd (p .0 R.Bytes (inr h, refl))
+    within (yes h) = absurd (p .0 R.Length (inr h, refl))
     within (no h) = omega (arith, h)
 
     filled : Dec (0 < length rows) → 1 ≤ length rows

@@ -18,10 +18,10 @@ use Rattle.plates.specs.declared.Refusal.the-variants as R
 use Rattle.plates.specs.Prepare.{RowOver, badLength}
 
 module _ (n : ℕ) (rows room : List ℕ) where
-  pub length-zero : n ≡ 0 → WritesAlist n rows room (Refused R.Bytes) room
+  pub length-zero : n ≡ 0 → WritesAlist n rows room (Refused R.Length) room
   length-zero e = refused-first (inl e, refl)
 
-  pub length-over : 64 < n → WritesAlist n rows room (Refused R.Bytes) room
+  pub length-over : 64 < n → WritesAlist n rows room (Refused R.Length) room
   length-over h = refused-first (inr h, refl)
 
   length-good : (n ≡ 0 → ⊥) → n ≤ 64 → (p : Refusal) → badLength n p → ⊥

@@ -67,7 +67,7 @@ module _ {plate : Plate} (given : IsPrepared plate) (word : ℕ) (r : Reading) (
 -- the rows are taken off the word plus mask
 module _ {plate : Plate} (given : IsPrepared plate) (word : ℕ) (r : Reading)
     (read : Read (plate .rows) (plate .k) (bitXor word (plate .mask)) (plate .k) r) where
-  read-information : r .rest ≡ 0 → ReadsBack plate word (R.InformationBeyond (r .information))
+  read-information : r .rest ≡ 0 → ReadsBack plate word (R.Information (r .information))
   read-information e =
       let codeword = read-codeword given (bitXor word (plate .mask)) r read e in (
         ((λ q b. b .0 given), ((λ q b. b .0 (record { by = r .information; sum = codeword })), tt)),
@@ -116,5 +116,5 @@ module _ {plate : Plate} {p : Bool} (t : Tests plate p) where
       pub no-word : (r .rest ≡ 0 → ⊥) → ReadsBack plate word (R.Refused NoCodeword)
       no-word = read-refused given word r read
 
-      pub informed : r .rest ≡ 0 → ReadsBack plate word (R.InformationBeyond (r .information))
+      pub informed : r .rest ≡ 0 → ReadsBack plate word (R.Information (r .information))
       informed = read-information given word r read

@@ -39,6 +39,6 @@ Encodes plate information (E.Refused q) = Refuses (encodeConditions plate inform
 
 -- read back: the information, with no one at k or beyond, that encodes to the word
 abbrev pub ReadsBack : Plate → ℕ → ReadBack → Type 0
-ReadsBack plate word (R.InformationBeyond information) =
+ReadsBack plate word (R.Information information) =
     Passes (readConditions plate word) × (information < 2 ^ plate .k) × (wordOf plate information ≡ word)
 ReadsBack plate word (R.Refused q) = Refuses (readConditions plate word) q

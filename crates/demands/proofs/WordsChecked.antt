@@ -82,7 +82,7 @@ encoded plate information (E.Refused q) =
 
 -- the information, or refusal 14
 abbrev pub readBack : (plate : Plate) (word : ℕ) (r : ReadBack) → Check (ReadsBack plate word r)
-readBack plate word (R.InformationBeyond information) =
+readBack plate word (R.Information information) =
     by (λ p. (((λ q c. c .0 (p .0)), ((λ q c. c .0 (subst (IsWord plate) (p .1 .1) (made-is-word plate information))), tt)), p .1 .0, p .1 .1))
     (both (isPrepared plate) (both (less information (2 ^ plate .k)) (equal (wordOf plate information) word)))
 readBack plate word (R.Refused q) =

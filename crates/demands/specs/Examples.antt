@@ -306,7 +306,7 @@ maskedBranches =
 abbrev pub maskedWords : List Example
 maskedWords =
     encodes maskedPlate 9 (E.Word (word "01111110"))
-    ∷ reads maskedPlate (word "01111110") (R.InformationBeyond 9)
+    ∷ reads maskedPlate (word "01111110") (R.Information 9)
     ∷ reads maskedPlate (word "11111111") (R.Refused NoCodeword)
     ∷ []
 
