@@ -143,16 +143,16 @@ padded-known (suc k) [] h z = absurd (omega arith)
 padded-known (suc k) (x ∷ xs) h z = ap (λ (r : List ℕ). x ∷ r) (padded-known k xs (omega arith) z)
 
 -- a list that is judged as a word has its weight in indices, then zeros
-pub record WordFound (size count : ℕ) (xs : List ℕ) (w : ℕ) : Type 0 where
+pub record OnesAre (size count : ℕ) (xs : List ℕ) (w : ℕ) : Type 0 where
   pub long : count ≤ length xs
   pub zeros : zerosOnly (drop count xs) ≡ true
   pub ones : onesOf size 0 (take count xs) ≡ word w
 
-pub word-judged : (size count : ℕ) (xs : List ℕ) (w : ℕ) → wordOf size count xs ≡ word w → WordFound size count xs w
+pub word-judged : (size count : ℕ) (xs : List ℕ) (w : ℕ) → wordOf size count xs ≡ word w → OnesAre size count xs w
 word-judged size count xs w e = go (leb count (length xs)) refl (zerosOnly (drop count xs)) refl e
   where
     go : (s : Bool) → leb count (length xs) ≡ s → (t : Bool) → zerosOnly (drop count xs) ≡ t
-        → cond s (cond t (onesOf size 0 (take count xs)) wrong) wrong ≡ word w → WordFound size count xs w
+        → cond s (cond t (onesOf size 0 (take count xs)) wrong) wrong ≡ word w → OnesAre size count xs w
     go true l true z d = record { long = leb-true count (length xs) l; zeros = z; ones = d }
     go true l false z d = absurd (let f : _≡_ {A = ℕ} 0 1 = cc in omega arith)
     go false l t z d = absurd (let f : _≡_ {A = ℕ} 0 1 = cc in omega arith)
