@@ -82,15 +82,38 @@ graphAgainst plate es = listedGraph (plate .n) (branchesOf es)
 abbrev pub Zeroed : ℕ → List ℕ → List ℕ → Type 0
 Zeroed need room room′ = room′ ≡ replicate need 0 ++ drop need room
 
+-- ---- the values of a verdict that judged
+
+-- which of the three it is
+pub data Finding : Type 0 where
+  spellsAll : Finding
+  spellsMore : Finding
+  spellsLess : Finding
+
+-- the finding of a verdict with the word that it shows, where the words are C
+abbrev pub Finds : Graph → ℕ → (ℕ → Type 0) → Finding → ℕ → Type 0
+Finds g n C spellsAll w = Spells g n C
+Finds g n C spellsMore w = Wrongly g n C w
+Finds g n C spellsLess w = Missing g n C w
+
+-- the word that a verdict shows; else 0
+abbrev pub shown : Judged → ℕ
+shown Right = 0
+shown (SpelledWrongly w) = w
+shown (NotSpelled w) = w
+shown (Refused q) = 0
+
 -- right exactly if the full paths spell exactly the plate's words; otherwise the earliest word that tells
 abbrev pub JudgesBy : Plate → List BranchLine → List ℕ → List ℕ → Judged → Type 0
 JudgesBy plate es room room′ (Refused q) = Refuses (judgingConditions plate es room) q × (room′ ≡ room)
 JudgesBy plate es room room′ Right =
-    Passes (judgingConditions plate es room) × Spells (graphAgainst plate es) (plate .n) (IsWord plate) × Zeroed (roomNeed es) room room′
+    Passes (judgingConditions plate es room) × Finds (graphAgainst plate es) (plate .n) (IsWord plate) spellsAll (shown Right) × Zeroed (roomNeed es) room room′
 JudgesBy plate es room room′ (SpelledWrongly w) =
-    Passes (judgingConditions plate es room) × Wrongly (graphAgainst plate es) (plate .n) (IsWord plate) w × Zeroed (roomNeed es) room room′
+    Passes (judgingConditions plate es room) × Finds (graphAgainst plate es) (plate .n) (IsWord plate) spellsMore (shown (SpelledWrongly w))
+    × Zeroed (roomNeed es) room room′
 JudgesBy plate es room room′ (NotSpelled w) =
-    Passes (judgingConditions plate es room) × Missing (graphAgainst plate es) (plate .n) (IsWord plate) w × Zeroed (roomNeed es) room room′
+    Passes (judgingConditions plate es room) × Finds (graphAgainst plate es) (plate .n) (IsWord plate) spellsLess (shown (NotSpelled w))
+    × Zeroed (roomNeed es) room room′
 
 -- What judging replies: the first refusal in order, with the room unchanged; or the judgement of the listing's full paths, and on a right
 -- listing its surplus
