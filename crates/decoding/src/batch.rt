@@ -1,5 +1,6 @@
 // Many blocks of one plate in one call: each is decoded for itself, and the plate is tested once.
 use crate::Counts;
+use crate::listed::sections_of;
 use crate::live::ending_rows;
 use crate::rooms::clear_decisions;
 use crate::rooms::clear_metrics;
@@ -12,6 +13,7 @@ ghost use lib.ListN.{length, take};
 ghost use Prim.Native.Nat.{_<_};
 ghost use Rattle.decoding.specs.Batch.{DecodesBlocks};
 ghost use Rattle.decoding.specs.Batching.{AreBlocks, BlockFits, BlockPut, BlocksFit, BlocksPut};
+ghost use Rattle.decoding.specs.Listed.{Listed};
 ghost use Rattle.decoding.specs.LiveRows.{EndsAre};
 ghost use Rattle.decoding.specs.Sweeping.{SizesFit};
 ghost use Rattle.plates.specs.Prepare.{IsPrepared, ofParts};
@@ -41,6 +43,7 @@ fn put_block(
     rows: &[u64],
     sizes: Sizes,
     ends: &[u8; 64],
+    listed: &[u32; 64],
     block: &[i16],
     at: usize,
     found: &mut [u64],
@@ -50,17 +53,26 @@ fn put_block(
 ) -> Counts
     requires { ⌜ SizesFit (now rows) sizes ⌝ }
     requires { ⌜ EndsAre (take (sizes .k) (now rows)) (now ends) ⌝ }
+    requires { ⌜ Listed (take (sizes .k) (now rows)) (sizes .n) (now listed) ⌝ }
     requires { ⌜ BlockFits sizes (now block) at (now found) (now scores) (now metrics) (now decisions) ⌝ }
     ensures { λ r. ⌜ BlockPut (now (rows .entry)) sizes (now (block .entry)) at (now (found .entry)) (now (scores .entry)) (now (metrics .entry)) (now (decisions .entry)) (now (found .exit)) (now (scores .exit)) (now (metrics .exit)) (now (decisions .exit)) r ⌝ }
 {
-    let answer = search(rows, sizes, ends, block, &mut *metrics, &mut *decisions);
+    let answer = search(
+        rows,
+        sizes,
+        ends,
+        listed,
+        block,
+        &mut *metrics,
+        &mut *decisions,
+    );
     let metric = answer.metric;
     found[at] = answer.word;
     scores[at] = metric;
     answer.counts
 }
 
-// All blocks, from the first to the last; where the rows end is found once.
+// All blocks, from the first to the last; the sections are found once.
 fn put_blocks(
     rows: &[u64],
     sizes: Sizes,
@@ -75,6 +87,7 @@ fn put_blocks(
     ensures { λ r. ⌜ BlocksPut (now (rows .entry)) sizes (now (samples .entry)) (now (found .entry)) (now (scores .entry)) (now (metrics .entry)) (now (decisions .entry)) (length (now (found .entry))) (now (found .exit)) (now (scores .exit)) (now (metrics .exit)) (now (decisions .exit)) r ⌝ }
 {
     let ends = ending_rows(rows, sizes.k);
+    let listed = sections_of(rows, sizes, &ends);
     let mut counts = Counts {
         additions: 0,
         comparisons: 0,
@@ -87,6 +100,7 @@ fn put_blocks(
             rows,
             sizes,
             &ends,
+            &listed,
             &samples[begin..end],
             at,
             &mut *found,

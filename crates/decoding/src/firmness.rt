@@ -1,5 +1,6 @@
 // How firmly one position of a block was received.
 use crate::choices::sign_of;
+use crate::listed::sections_of;
 use crate::live::ending_rows;
 use crate::rooms::clear_decisions;
 use crate::rooms::clear_metrics;
@@ -14,7 +15,7 @@ ghost use lib.ListN.{length, take};
 ghost use Prim.Native.Nat.{_<_, _≤_};
 ghost use Rattle.decoding.specs.Firmness.{TellsFirmness};
 ghost use Rattle.decoding.specs.Forcing.{BestForced, FirstWith, ReadAt};
-ghost use Rattle.decoding.specs.LiveRows.{EndsAre};
+ghost use Rattle.decoding.specs.Listed.{Listed};
 ghost use Rattle.decoding.specs.Sweeping.{RoomsFit, SizesFit};
 ghost use Rattle.plates.specs.Prepare.{ofParts};
 
@@ -58,7 +59,7 @@ fn first_with(rows: &[u64], k: usize, position: usize) -> usize
 fn best_with(
     rows: &[u64],
     sizes: Sizes,
-    ends: &[u8; 64],
+    listed: &[u32; 64],
     samples: &[i16],
     position: usize,
     bit: u64,
@@ -66,7 +67,7 @@ fn best_with(
     decisions: &mut [u64],
 ) -> i32
     requires { ⌜ SizesFit (now rows) sizes ⌝ }
-    requires { ⌜ EndsAre (take (sizes .k) (now rows)) (now ends) ⌝ }
+    requires { ⌜ Listed (take (sizes .k) (now rows)) (sizes .n) (now listed) ⌝ }
     requires { ⌜ RoomsFit sizes (now samples) (now metrics) (now decisions) ⌝ }
     requires { ⌜ position < sizes .n ⌝ }
     ensures { λ r. ⌜ BestForced (now (rows .entry)) sizes (now (samples .entry)) position bit (now (metrics .entry)) (now (decisions .entry)) (now (metrics .exit)) (now (decisions .exit)) r ⌝ }
@@ -79,7 +80,7 @@ fn best_with(
     let at = sweep(
         rows,
         sizes,
-        ends,
+        listed,
         samples,
         forced,
         &mut *metrics,
@@ -109,6 +110,7 @@ fn reading_at(
         return Reading::Fixed(words::bit_at(sizes.rest, position));
     }
     let ends = ending_rows(rows, sizes.k);
+    let listed = sections_of(rows, sizes, &ends);
     let undecided = Sizes {
         n: sizes.n,
         k: sizes.k,
@@ -119,7 +121,7 @@ fn reading_at(
     let zero = best_with(
         rows,
         undecided,
-        &ends,
+        &listed,
         samples,
         position,
         0,
@@ -129,7 +131,7 @@ fn reading_at(
     let one = best_with(
         rows,
         undecided,
-        &ends,
+        &listed,
         samples,
         position,
         1,
