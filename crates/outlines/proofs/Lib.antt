@@ -7,3 +7,5 @@ pub mod RestTells
 pub mod SameWords
 pub mod Determined
 pub mod Enough
+pub mod DoubleDual
+pub mod DualWords

@@ -13,10 +13,11 @@ use Rattle.outlines.proofs.Fitting.{rows-few}
 use Rattle.outlines.proofs.ReadBack.{canonical, read-back}
 use Rattle.outlines.proofs.Replying.{opened-prepared}
 use Rattle.outlines.proofs.RestTells.{rest-below, rest-same, rested-prepared, rested-words, restedPlate, rows-below}
+use Rattle.outlines.specs.declared.opening.Which.{Which}
 use Rattle.outlines.specs.declared.opening.Which.the-variants.{Own}
-use Rattle.outlines.specs.Opening.{Opened, OpenedAs}
+use Rattle.outlines.specs.Opening.{kindAs, maskAs}
 use Rattle.outlines.specs.SheetText.{sheetOf}
-use Rattle.outlines.specs.Words.{PrintsSheet, SameWords, WordOf}
+use Rattle.outlines.specs.Words.{PrintsSheet, SameWords, WordOf, asSheet}
 use Rattle.plates.proofs.OnePlate.{one-plate}
 use Rattle.plates.proofs.SoundIsPrepared.{sound}
 use Rattle.plates.specs.declared.Kind.the-variants.{G}
@@ -95,30 +96,31 @@ module _ (a b : Plate) (p : IsPrepared a) (q : IsPrepared b) where
 
 -- ---- two inputs
 
--- the words of an input that is not refused are those of its plate
-module _ {input text : List ℕ} (s : PrintsSheet Own input text) (c : Contents) (r : reading input ≡ says c) where
+-- the words of an input that is not refused are those of its plate, its own or the dual's
+module _ {which : Which} {input text : List ℕ} (s : PrintsSheet which input text) (c : Contents) (r : reading input ≡ says c) where
   pub is-prepared : IsPrepared (s .prepared .plate)
   is-prepared = opened-prepared (s .opened) (s .accepted)
 
-  prepares : Prepares (c .n) (c .kind) (c .rows) (c .mask) (s .prepared)
+  pub prepares : Prepares (c .n) (kindAs which (c .kind)) (c .rows) (maskAs which (c .mask)) (s .prepared)
   prepares = rw r at (s .opened .is)
 
   pub length-is : s .prepared .plate .n ≡ c .n
-  length-is = accepted-length (c .n) (c .kind) (c .rows) (c .mask) (s .prepared) prepares (s .accepted)
+  length-is = accepted-length (c .n) (kindAs which (c .kind)) (c .rows) (maskAs which (c .mask)) (s .prepared) prepares (s .accepted)
 
-  pub words-are : (w : ℕ) → WordOf c w ↔ IsWord (s .prepared .plate) w
+  pub words-are : (w : ℕ) → WordOf (asSheet which c) w ↔ IsWord (s .prepared .plate) w
   words-are w =
-      subst (λ (m : ℕ). WordOf c w ↔ IsSum (rowsOf (s .prepared .plate)) (bitXor w m))
-      (sym (accepted-mask (c .n) (c .kind) (c .rows) (c .mask) (s .prepared) prepares (s .accepted)))
-      (accepted-code (c .n) (c .kind) (c .rows) (c .mask) (s .prepared) prepares (s .accepted) (bitXor w (c .mask)))
+      subst (λ (m : ℕ). WordOf (asSheet which c) w ↔ IsSum (rowsOf (s .prepared .plate)) (bitXor w m))
+      (sym (accepted-mask (c .n) (kindAs which (c .kind)) (c .rows) (maskAs which (c .mask)) (s .prepared) prepares (s .accepted)))
+      (accepted-code (c .n) (kindAs which (c .kind)) (c .rows) (maskAs which (c .mask)) (s .prepared) prepares (s .accepted)
+      (bitXor w (maskAs which (c .mask))))
 
-iff-then : {A B C : Type 0} → A ↔ B → B ↔ C → A ↔ C
+pub iff-then : {A B C : Type 0} → A ↔ B → B ↔ C → A ↔ C
 iff-then f g = ((λ a. g .0 (f .0 a)), λ c. f .1 (g .1 c))
 
 -- what is printed is read back as a sheet with the same words
-pub printed-words : {input text : List ℕ} (s : PrintsSheet Own input text) (c : Contents) → reading input ≡ says c
-    → (d : Contents) × (reading text ≡ says d) × SameWords c d
-printed-words {input} {text} s c r =
+pub printed-words : {which : Which} {input text : List ℕ} (s : PrintsSheet which input text) (c : Contents) → reading input ≡ says c
+    → (d : Contents) × (reading text ≡ says d) × SameWords (asSheet which c) d
+printed-words s c r =
     let plate = s .prepared .plate in
     let p = is-prepared s c r in (
       canonical G (plate .n) (restOf plate) (rowsOf plate),
