@@ -45,6 +45,8 @@ static uint64_t ask(uint64_t call, const uint64_t *n, const struct run *r) {
     case 11: return yendrufal_metric(RUN(0), RUN(1), RUN(2), RUN(3), RUN(4), RUN(5));
     case 12: return yendrufal_word(RUN(0), RUN(1), RUN(2), RUN(3), RUN(4), RUN(5), RUN(6));
     case 13: return yendrufal_why_not(RUN(0), RUN(1), n[0], RUN(2), RUN(3), RUN(4), RUN(5), RUN(6));
+    case 14: return yendrufal_decode_blocks(RUN(0), RUN(1), RUN(2), RUN(3), RUN(4), RUN(5), RUN(6), RUN(7));
+    case 15: return yendrufal_plate_of_sheet(RUN(0), RUN(1), RUN(2), RUN(3));
     default: return yendrufal_listing(RUN(0), RUN(1), RUN(2), RUN(3), RUN(4));
     }
 }

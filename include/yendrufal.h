@@ -6,13 +6,13 @@
  *   overlaps no other run. An empty run may be (NULL, 0): nothing is read or written through its
  *   pointer. No other pointer is NULL.
  * - The reply is YENDRUFAL_DONE, the number of a refusal, or one of the two codes above 99. Numbers that
- *   a call may reply are 1 to 9, 11 to 14, 21 and 23, each under the calls that name it; 10, 15 and 17 to 20
- *   stand in a listing's lines only, and the others belong to calls that this header does not have.
+ *   a call may reply are 1 to 15, 17 to 21 and 23, each under the calls that name it; the others belong to
+ *   calls that this header does not have.
  * - YENDRUFAL_SHAPE comes before everything else: a run is shorter than its use fixes, or `kind` is
  *   neither G nor H. A run may be longer than its use; the cells beyond are not touched.
  * - Unless the reply is YENDRUFAL_DONE nothing lent changes, but for `place` beside a refusal.
- * - `place` (one cell) receives the place of a refusal, and 0 when the call is done. Calls without it
- *   refuse with place 0 only.
+ * - `place` (one cell, of yendrufal_plate_of_sheet two) receives the place of a refusal, and 0 when the call is
+ *   done. Calls without it refuse with place 0 only.
  * - The words of a plate are the words of its code plus its mask, modulo 2; with mask 0 they are the code's own.
  *   Below, a codeword is a word of the plate.
  * - A word has position i at the bit of weight 2^i. A positive sample favours bit 0.
@@ -48,21 +48,21 @@ extern "C" {
 #define YENDRUFAL_ROW_BEYOND 3      /* a row has a one at n or beyond; place: the first such row */
 #define YENDRUFAL_TOO_WIDE 4        /* some profile entry exceeds 12; place: the first such depth */
 #define YENDRUFAL_NO_PLATE 5        /* the plate is not one that preparing gives */
-#define YENDRUFAL_SAMPLE_COUNT 6    /* the number of samples is not n */
+#define YENDRUFAL_SAMPLE_COUNT 6    /* the number of samples is not n, or not that of whole blocks */
 #define YENDRUFAL_SAMPLE_RANGE 7    /* a sample outside -2047 to 2047; place: the first such position */
 #define YENDRUFAL_METRIC_ROOM 8     /* metric room too short */
 #define YENDRUFAL_DECISION_ROOM 9   /* decision room too short */
-#define YENDRUFAL_SHEET_LINE 10     /* sheet line missing or not ended (in a listing only) */
+#define YENDRUFAL_SHEET_LINE 10     /* sheet line missing or not ended (of a sheet) */
 #define YENDRUFAL_LINE_ROOM 11      /* listing line longer than its room */
 #define YENDRUFAL_NO_STATE 12       /* depth n or more, state not present, or bit over 1 */
 #define YENDRUFAL_INFORMATION 13    /* information has a one at k or beyond */
 #define YENDRUFAL_NO_CODEWORD 14    /* word read back is no codeword */
-#define YENDRUFAL_SHEET_LENGTH 15   /* sheet over 32,768 bytes (in a listing only) */
+#define YENDRUFAL_SHEET_LENGTH 15   /* sheet over 32,768 bytes (of a sheet) */
 #define YENDRUFAL_ALIST_FAULT 16    /* fault in an alist text (by no call of this header) */
-#define YENDRUFAL_FIRST_FIELD 17    /* first field unknown or out of its turn (in a listing only) */
-#define YENDRUFAL_FIELD_COUNT 18    /* wrong number of fields; the first missing or extra (in a listing only) */
-#define YENDRUFAL_FIELD_VALUE 19    /* bad number, letter or order (in a listing only) */
-#define YENDRUFAL_ROW_FIELD 20      /* row or mask of wrong length or character (in a listing only) */
+#define YENDRUFAL_FIRST_FIELD 17    /* first field unknown or out of its turn (of a sheet) */
+#define YENDRUFAL_FIELD_COUNT 18    /* wrong number of fields; the first missing or extra (of a sheet) */
+#define YENDRUFAL_FIELD_VALUE 19    /* bad number, letter or order (of a sheet) */
+#define YENDRUFAL_ROW_FIELD 20      /* row or mask of wrong length or character (of a sheet) */
 #define YENDRUFAL_POSITION 21       /* the position is n or beyond */
 #define YENDRUFAL_WHOLE_SPACE 22    /* k is 64 (by no call of this header) */
 #define YENDRUFAL_MASK_BEYOND 23    /* the mask has a one at n or beyond */
@@ -73,6 +73,10 @@ extern "C" {
 #define YENDRUFAL_TOO_MANY_LINES 28 /* more than 1,024 branch lines (by no call of this header) */
 #define YENDRUFAL_NO_BRANCH 100     /* an ordinary reply: no branch with this bit leaves the state */
 #define YENDRUFAL_SHAPE 101         /* a run is too short for its fixed use, or `kind` is over 1 */
+
+/* Which position stands at the left of a sheet's rows and samples. */
+#define YENDRUFAL_ORDER_FIRST 0 /* position 0 */
+#define YENDRUFAL_ORDER_LAST 1  /* position n - 1 */
 
 /* How the rows of a matrix are meant. */
 #define YENDRUFAL_KIND_G 0 /* generator: the code is all sums of rows */
@@ -112,6 +116,14 @@ uint64_t yendrufal_prepare(uint64_t n, uint64_t kind, const uint64_t *rows, size
                            uint64_t mask, uint64_t *plate, size_t plate_length, uint64_t *place,
                            size_t place_length);
 
+/* The plate of a sheet, its rows and its mask taken in the order of its cover, and that order: samples that are handed
+   over as the sheet lists them have to be turned where it is YENDRUFAL_ORDER_LAST. The whole sheet is read, and refused
+   as in its listing: 15; 10 and 17 to 20, where `place` receives line and field of the sheet, both from 1, the field 0
+   for 10; 1; 2; 4. Of other refusals, and when the call is done, the second cell is 0. docs/REFUSALS.md has their order.
+   Fixed: plate 132, order 1, place 2. */
+uint64_t yendrufal_plate_of_sheet(const uint8_t *sheet, size_t sheet_length, uint64_t *plate, size_t plate_length,
+                                  uint64_t *order, size_t order_length, uint64_t *place, size_t place_length);
+
 /* The state that the branch with this bit leads to from a state of a depth, or YENDRUFAL_NO_BRANCH.
    Refusals 5, 12. Fixed: plate 132, next 1. */
 uint64_t yendrufal_branch(const uint64_t *plate, size_t plate_length, uint64_t depth,
@@ -134,6 +146,18 @@ uint64_t yendrufal_decode(const uint64_t *plate, size_t plate_length, const int1
                           size_t word_length, int32_t *metric, size_t metric_length,
                           uint64_t *counts, size_t counts_length, uint64_t *place,
                           size_t place_length);
+
+/* Many blocks of one plate in one call, which tests the plate once: block b is the n samples from b * n on, and its
+   codeword and metric, as decoding gives them, go to place b of `words` and of `scores`. There are as many blocks as
+   words lent and as many scores, or the refusal is 6; the place of 7 is that in the whole run of samples. The counts
+   are those of each block, and 0 where there is none. Both rooms are as for decoding one block, and are left as by it.
+   Refusals 5 to 9. Fixed: plate 132, counts 2, place 1. */
+uint64_t yendrufal_decode_blocks(const uint64_t *plate, size_t plate_length, const int16_t *samples,
+                                 size_t sample_count, int32_t *metrics, size_t metric_count,
+                                 uint64_t *decisions, size_t decision_count, uint64_t *words,
+                                 size_t word_count, int32_t *scores, size_t score_count,
+                                 uint64_t *counts, size_t counts_length, uint64_t *place,
+                                 size_t place_length);
 
 /* The greatest metric of any codeword, and the counts of additions and of comparisons, as decoding
    gives them; no word, and no decision room. For a receiver that tries several plates on one block.
@@ -241,6 +265,15 @@ typedef struct yendrufal_answer {
     uint64_t comparisons;
 } yendrufal_answer;
 
+/* What is lent for the answers of so many blocks, and the counts that are the same for each. */
+typedef struct yendrufal_batch {
+    uint64_t *words;
+    int32_t *scores;
+    size_t count;
+    uint64_t additions;
+    uint64_t comparisons;
+} yendrufal_batch;
+
 /* How firmly a position was received: fixed is 1 and value its bit, or fixed is 0 and value its margin. */
 typedef struct yendrufal_reading {
     uint64_t fixed;
@@ -289,6 +322,15 @@ static inline yendrufal_reply yendrufal_plate_prepare(uint64_t n, uint64_t kind,
     return yendrufal_reply_of(number, place);
 }
 
+/* `field` receives the field of a sheet's bad line, else 0; the reply's place is the line. */
+static inline yendrufal_reply yendrufal_plate_plate_of_sheet(const uint8_t *sheet, size_t sheet_length,
+                                                             yendrufal_plate *plate, uint64_t *order, uint64_t *field) {
+    uint64_t place[2] = {0, 0};
+    const uint64_t number = yendrufal_plate_of_sheet(sheet, sheet_length, plate->words, YENDRUFAL_PLATE_WORDS, order, 1, place, 2);
+    *field = place[1];
+    return yendrufal_reply_of(number, place[0]);
+}
+
 static inline yendrufal_reply yendrufal_plate_branch(const yendrufal_plate *plate, uint64_t depth, uint64_t state,
                                                      uint64_t bit, uint64_t *next) {
     return yendrufal_reply_of(yendrufal_branch(plate->words, YENDRUFAL_PLATE_WORDS, depth, state, bit, next, 1), 0);
@@ -313,6 +355,22 @@ static inline yendrufal_reply yendrufal_plate_decode(const yendrufal_plate *plat
     if (number == YENDRUFAL_DONE) {
         answer->additions = counts[0];
         answer->comparisons = counts[1];
+    }
+    return yendrufal_reply_of(number, place);
+}
+
+/* Word and metric of block b at place b of what `batch` lends. */
+static inline yendrufal_reply yendrufal_plate_decode_blocks(const yendrufal_plate *plate, const int16_t *samples,
+                                                            size_t sample_count, const yendrufal_rooms *rooms,
+                                                            yendrufal_batch *batch) {
+    uint64_t counts[2] = {0, 0}, place = 0;
+    const uint64_t number = yendrufal_decode_blocks(plate->words, YENDRUFAL_PLATE_WORDS, samples, sample_count,
+                                                    rooms->metrics, rooms->metric_count, rooms->decisions,
+                                                    rooms->decision_count, batch->words, batch->count, batch->scores,
+                                                    batch->count, counts, 2, &place, 1);
+    if (number == YENDRUFAL_DONE) {
+        batch->additions = counts[0];
+        batch->comparisons = counts[1];
     }
     return yendrufal_reply_of(number, place);
 }

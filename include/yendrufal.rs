@@ -32,6 +32,8 @@ pub mod raw {
     unsafe extern "C" {
         pub fn yendrufal_prepare(n: u64, kind: u64, rows: *const u64, row_count: usize, mask: u64, plate: *mut u64,
             plate_length: usize, place: *mut u64, place_length: usize) -> u64;
+        pub fn yendrufal_plate_of_sheet(sheet: *const u8, sheet_length: usize, plate: *mut u64, plate_length: usize,
+            order: *mut u64, order_length: usize, place: *mut u64, place_length: usize) -> u64;
         pub fn yendrufal_branch(plate: *const u64, plate_length: usize, depth: u64, state: u64, bit: u64, next: *mut u64,
             next_length: usize) -> u64;
         pub fn yendrufal_encode(plate: *const u64, plate_length: usize, information: u64, word: *mut u64,
@@ -41,6 +43,10 @@ pub mod raw {
         pub fn yendrufal_decode(plate: *const u64, plate_length: usize, samples: *const i16, sample_count: usize,
             metrics: *mut i32, metric_count: usize, decisions: *mut u64, decision_count: usize, word: *mut u64,
             word_length: usize, metric: *mut i32, metric_length: usize, counts: *mut u64, counts_length: usize,
+            place: *mut u64, place_length: usize) -> u64;
+        pub fn yendrufal_decode_blocks(plate: *const u64, plate_length: usize, samples: *const i16, sample_count: usize,
+            metrics: *mut i32, metric_count: usize, decisions: *mut u64, decision_count: usize, words: *mut u64,
+            word_count: usize, scores: *mut i32, score_count: usize, counts: *mut u64, counts_length: usize,
             place: *mut u64, place_length: usize) -> u64;
         pub fn yendrufal_metric(plate: *const u64, plate_length: usize, samples: *const i16, sample_count: usize,
             metrics: *mut i32, metric_count: usize, metric: *mut i32, metric_length: usize, counts: *mut u64,
@@ -150,6 +156,24 @@ pub enum Kind {
     H,
 }
 
+/// Which position stands at the left of a sheet's rows and samples.
+#[derive(Clone, Copy, Debug, PartialEq, Eq)]
+pub enum Order {
+    /// Position 0.
+    First,
+    /// Position n - 1: samples as the sheet lists them have to be turned.
+    Last,
+}
+
+/// Why a sheet was refused. For 10 and 17 to 20 the place of the refusal is a line of the sheet, from 1.
+#[derive(Clone, Copy, Debug, PartialEq, Eq)]
+pub struct SheetRefusal {
+    /// The number, and the line.
+    pub refusal: Refusal,
+    /// The field of that line, from 1; 0 for 10 and for refusals that are about no line.
+    pub field: u64,
+}
+
 /// Working rooms, lent to a call. Where it succeeds, what it needed of them is zero afterwards.
 pub struct Rooms<'a> {
     /// At least [`Plate::metrics_needed`].
@@ -215,6 +239,18 @@ impl Plate {
         let number =
             unsafe { raw::yendrufal_prepare(n, kind, row, count, mask, words, PLATE_WORDS, &mut place, 1) };
         replied(number, place, plate)
+    }
+
+    /// The plate of a sheet, its rows and its mask taken in the order of its cover, and that order. Refusals 15, 10, 17 to 20, 1, 2, 4.
+    #[rustfmt::skip]
+    pub fn of_sheet(sheet: &[u8]) -> core::result::Result<(Plate, Order), SheetRefusal> {
+        let (mut plate, mut order, mut place) = (Plate { words: [0; PLATE_WORDS] }, 0, [0; 2]);
+        let number = unsafe {
+            raw::yendrufal_plate_of_sheet(sheet.as_ptr(), sheet.len(), plate.words.as_mut_ptr(), PLATE_WORDS, &mut order, 1,
+                place.as_mut_ptr(), 2)
+        };
+        let order = if order == 0 { Order::First } else { Order::Last };
+        replied(number, place[0], (plate, order)).map_err(|refusal| SheetRefusal { refusal, field: place[1] })
     }
 
     /// A plate from its numbers, as [`Plate::words`] gave them.
@@ -303,6 +339,19 @@ impl Plate {
                 &mut word, 1, &mut metric, 1, counts.as_mut_ptr(), 2, &mut place, 1)
         };
         replied(number, place, Answer { word, metric, counts: counted(counts) })
+    }
+
+    /// Many blocks in one call: word and metric of block b, the n samples from b * n on, go to place b of `words` and `scores`, of which
+    /// there are as many as blocks. Gives the counts of each block, 0 where there is none. Refusals 5 to 9.
+    #[rustfmt::skip]
+    pub fn decode_blocks(&self, samples: &[i16], rooms: &mut Rooms, words: &mut [u64], scores: &mut [i32]) -> Result<Counts> {
+        let (mut counts, mut place) = ([0; 2], 0);
+        let number = unsafe {
+            raw::yendrufal_decode_blocks(self.words.as_ptr(), PLATE_WORDS, samples.as_ptr(), samples.len(),
+                rooms.metrics.as_mut_ptr(), rooms.metrics.len(), rooms.decisions.as_mut_ptr(), rooms.decisions.len(),
+                words.as_mut_ptr(), words.len(), scores.as_mut_ptr(), scores.len(), counts.as_mut_ptr(), 2, &mut place, 1)
+        };
+        replied(number, place, counted(counts))
     }
 
     /// The greatest metric alone, for a receiver that tries several plates. Refusals 5 to 8.

@@ -50,6 +50,18 @@ fn preparing_is_refused() {
 }
 
 #[test]
+fn a_sheet_has_its_plate() {
+    let sheet = include_bytes!("../examples/paper.sheet");
+    assert_eq!(Plate::of_sheet(sheet), Ok((paper(), Order::First)));
+    let turned = Plate::of_sheet(b"cover\t3\tG\tlast\nmask\t100\nrow\t011\nend\n");
+    assert_eq!(turned, Ok((Plate::prepare(3, Kind::G, &[3], 4).unwrap(), Order::Last)));
+    let refusal = |number, place, field| Err(SheetRefusal { refusal: Refusal { number, place }, field });
+    assert_eq!(Plate::of_sheet(b""), refusal(10, 1, 0));
+    assert_eq!(Plate::of_sheet(b"cover\t3\tG\tfirst\nrow\t01\nend\n"), refusal(20, 2, 2));
+    assert_eq!(Plate::of_sheet(b"cover\t0\tG\tfirst\nend\n"), refusal(1, 0, 0));
+}
+
+#[test]
 fn a_block_is_decoded() {
     let plate = paper();
     let counts = Counts { additions: 44, comparisons: 11 };
@@ -75,6 +87,27 @@ fn decoding_is_refused() {
     let none = Plate::from_words([0; 132]);
     let (found, metrics, decisions) = with(16, 8, |rooms| none.decode(&SAMPLES, rooms));
     assert_eq!((found, metrics, decisions), (refused(5, 0), vec![9; 16], vec![9; 8]));
+}
+
+#[test]
+fn blocks_are_decoded() {
+    let plate = paper();
+    let mut samples = SAMPLES.repeat(2);
+    samples.extend([1; 8]);
+    let (mut words, mut scores) = ([7; 3], [7; 3]);
+    let batch = |samples: &[i16], words: &mut [u64], scores: &mut [i32]| {
+        with(16, 8, |rooms| plate.decode_blocks(samples, rooms, words, scores)).0
+    };
+    let counts = Counts { additions: 44, comparisons: 11 };
+    assert_eq!(batch(&samples, &mut words, &mut scores), Ok(counts));
+    assert_eq!((words, scores), ([0x0f, 0x0f, 0], [19, 19, 8]));
+    assert_eq!(batch(&[], &mut [], &mut []), Ok(Counts::default()), "no block has no counts");
+    assert_eq!(batch(&samples[1..], &mut words, &mut scores), refused(6, 0));
+    assert_eq!(batch(&samples, &mut words[1..], &mut scores[1..]), refused(6, 0));
+    assert_eq!(batch(&samples, &mut words, &mut scores[1..]), refused(6, 0));
+    samples[17] = 2048;
+    assert_eq!(batch(&samples, &mut words, &mut scores), refused(7, 17), "the place in the whole run");
+    assert_eq!((words, scores), ([0x0f, 0x0f, 0], [19, 19, 8]), "a refusal changes nothing");
 }
 
 #[test]

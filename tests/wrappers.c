@@ -76,6 +76,29 @@ static void decodings(const struct block *b) {
          "word");
 }
 
+/* A batch: so many times the block, with as many answers lent, or one fewer. */
+static void batches(const struct block *b) {
+    enum { MOST = 3 };
+    const yendrufal_rooms rooms = {metrics[0], b->metrics, decisions[0], b->decisions};
+    int16_t samples[8 * MOST];
+    for (size_t i = 0; i < b->count * MOST; i++) samples[i] = b->samples[i % b->count];
+    for (size_t blocks = 0; blocks <= MOST; blocks++)
+        for (size_t count = blocks > 0 ? blocks - 1 : 0; count <= blocks; count++) {
+            uint64_t words[2][MOST] = {{7, 7, 7}, {7, 7, 7}}, counts[2] = {7, 7}, place = 0;
+            int32_t scores[2][MOST] = {{7, 7, 7}, {7, 7, 7}};
+            yendrufal_batch batch = {words[0], scores[0], count, 7, 7};
+            fill();
+            const yendrufal_reply reply = yendrufal_plate_decode_blocks(b->plate, samples, blocks * b->count, &rooms, &batch);
+            const uint64_t number =
+                yendrufal_decode_blocks(b->plate->words, PLATE, samples, blocks * b->count, metrics[1], b->metrics,
+                                        decisions[1], b->decisions, words[1], count, scores[1], count, counts, 2, &place, 1);
+            HOLD(reply.number == number && reply.place == place && batch.additions == counts[0] &&
+                     batch.comparisons == counts[1] && memcmp(words[0], words[1], sizeof words[0]) == 0 &&
+                     memcmp(scores[0], scores[1], sizeof scores[0]) == 0,
+                 "decode_blocks");
+        }
+}
+
 static void questions(const struct block *b) {
     const yendrufal_rooms rooms = {metrics[0], b->metrics, decisions[0], b->decisions};
     const uint64_t *plate = b->plate->words;
@@ -160,6 +183,24 @@ static void preparings(uint64_t n, uint64_t kind, const uint64_t *rows, size_t c
     HOLD(reply.number == number && reply.place == place && memcmp(&ours, &theirs, sizeof ours) == 0, "prepare");
 }
 
+static void sheets(void) {
+    static const char *const texts[] = {"", "cover\t3\tG\tfirst\nrow\t011\nend\n", "cover\t3\tH\tlast\nrow\t011\nend\n",
+                                        "cover\t3\tH\tlast\nrow\t01\nend\n", "cover\t3\tH\tfirst\n", "end\n"};
+    for (size_t i = 0; i < sizeof texts / sizeof texts[0]; i++) {
+        const uint8_t *text = (const uint8_t *)texts[i];
+        yendrufal_plate ours, theirs;
+        uint64_t order[2] = {7, 7}, field = 7, place[2] = {0, 0};
+        memset(&ours, 7, sizeof ours);
+        memset(&theirs, 7, sizeof theirs);
+        const yendrufal_reply reply = yendrufal_plate_plate_of_sheet(text, strlen(texts[i]), &ours, &order[0], &field);
+        const uint64_t number = yendrufal_plate_of_sheet(text, strlen(texts[i]), theirs.words, PLATE, &order[1], 1, place, 2);
+        fill();
+        HOLD(reply.number == number && reply.place == place[0] && field == place[1] && order[0] == order[1] &&
+                 memcmp(&ours, &theirs, sizeof ours) == 0,
+             "plate_of_sheet");
+    }
+}
+
 int main(void) {
     static const uint64_t rows[4] = {0x0f, 0x5a, 0x3c, 0xf0};
     static const int16_t good[8] = {-3, -2, 4, -1, 5, 6, -1, 7}, far[8] = {0, 0, 0, 2048, 0, 0, 0, 0};
@@ -177,12 +218,14 @@ int main(void) {
     const size_t m = yendrufal_plate_metrics_needed(&plates[0]), d = yendrufal_plate_decisions_needed(&plates[0]);
     fill();
     HOLD(m == YENDRUFAL_METRICS(3) && d == YENDRUFAL_DECISIONS(8, 3) && m <= METRICS && d <= DECISIONS, "needs");
+    sheets();
     for (int i = 0; i < 3; i++) {
         const struct block blocks[] = {{&plates[i], good, 8, m, d},     {&plates[i], good, 8, METRICS, DECISIONS},
                                        {&plates[i], good, 7, m, d},     {&plates[i], far, 8, m, d},
                                        {&plates[i], good, 8, m - 1, d}, {&plates[i], good, 8, m, d - 1}};
         for (size_t b = 0; b < sizeof blocks / sizeof blocks[0]; b++) {
             decodings(&blocks[b]);
+            batches(&blocks[b]);
             questions(&blocks[b]);
         }
         codings(&plates[i]);

@@ -68,6 +68,24 @@ fn library_replies(
     (reply, word, metric)
 }
 
+/// All blocks of a run of samples in one call of the library; the words and metrics go where they are lent.
+#[rustfmt::skip]
+pub fn batch_by_library(
+    plate: &[u64],
+    samples: &[i16],
+    rooms: (&mut [i32], &mut [u64]),
+    answers: (&mut [u64], &mut [i32]),
+) {
+    let ((metrics, decisions), (words, scores)) = (rooms, answers);
+    let (mut counts, mut place) = ([0; 2], 0);
+    let reply = unsafe {
+        library::yendrufal_decode_blocks(plate.as_ptr(), plate.len(), samples.as_ptr(), samples.len(),
+            metrics.as_mut_ptr(), metrics.len(), decisions.as_mut_ptr(), decisions.len(), words.as_mut_ptr(), words.len(),
+            scores.as_mut_ptr(), scores.len(), counts.as_mut_ptr(), 2, &mut place, 1)
+    };
+    assert_eq!(reply, 0);
+}
+
 /// The library's test of a plate: a block with a sample too many is refused once the plate has passed.
 pub fn plate_test(plate: &[u64]) {
     let block = [0; 65];

@@ -13,7 +13,7 @@ mod timing;
 mod yendrufal;
 
 use codes::{codes, Code};
-use contestants::{by_library, exhaustive, plate_test, same_verdict, DECODERS};
+use contestants::{batch_by_library, by_library, exhaustive, plate_test, same_verdict, DECODERS};
 use std::hint::black_box;
 use timing::{best, clock};
 use yendrufal::raw as library;
@@ -94,6 +94,22 @@ fn time_decoders(plate: &[u64], blocks: &[Vec<i16>], times: usize) -> [f64; DECO
     least
 }
 
+/// The least nanoseconds a block of the library, all blocks in one call.
+fn time_batch(plate: &[u64], blocks: &[Vec<i16>], times: usize) -> f64 {
+    let (mut metrics, mut decisions) = (vec![0; 8192], vec![0; 4096]);
+    let (samples, mut words, mut scores) = (blocks.concat(), vec![0; blocks.len()], vec![0; blocks.len()]);
+    let mut batch = |samples: &[i16]| {
+        let rooms = (&mut metrics[..], &mut decisions[..]);
+        batch_by_library(plate, samples, rooms, (&mut words, &mut scores));
+        black_box((&words, &scores));
+    };
+    let time = best(ROUNDS, || (0..times).for_each(|_| batch(black_box(&samples))));
+    for (block, answer) in blocks.iter().zip(words.into_iter().zip(scores)) {
+        assert_eq!(by_library(plate, block, &mut metrics, &mut decisions), answer, "a batch");
+    }
+    time / (times * blocks.len()) as f64
+}
+
 fn time_code(code: &Code, clock: f64) {
     let plate = prepare(code, 0);
     let masked = prepare(code, 0x9b3d_5a1e_c477_26f1 >> (64 - code.n));
@@ -109,6 +125,8 @@ fn time_code(code: &Code, clock: f64) {
     for ((name, _), time) in DECODERS.iter().zip(least) {
         row(name, time, least[0], per_branch(time));
     }
+    let batch = time_batch(&plate, &blocks, times);
+    row(&format!("library, a batch of {BLOCKS}"), batch, least[0], per_branch(batch));
     row("library, with a mask", with_mask[0], least[0], per_branch(with_mask[0]));
     row("library less its plate test", least[0] - tested, least[0], per_branch(least[0] - tested));
     #[cfg(liquid)]

@@ -35,6 +35,16 @@ pub fn prepare_masked(n: u64, kind: u64, rows: &[u64], mask: u64, rooms: Rooms) 
     Call { name: Name::Prepare, numbers: vec![n, kind, mask], runs }
 }
 
+pub fn plate_of_sheet(sheet: &[u8], rooms: Rooms) -> Call {
+    let runs = vec![
+        Run::of_bytes("sheet", sheet),
+        Run::room_words("plate", rooms.plate),
+        Run::room_words("order", rooms.single),
+        Run::room_words("line and field", rooms.counts),
+    ];
+    Call { name: Name::PlateOfSheet, numbers: vec![], runs }
+}
+
 pub fn branch(flat: &[u64], depth: u64, state: u64, bit: u64, rooms: Rooms) -> Call {
     let runs = vec![lent_plate(flat, rooms), Run::room_words("next", rooms.single)];
     Call { name: Name::Branch, numbers: vec![depth, state, bit], runs }
@@ -62,6 +72,27 @@ pub fn decode(flat: &[u64], samples: &[i16], metrics: usize, decisions: usize, r
         Run::room_words("place", rooms.place),
     ];
     Call { name: Name::Decode, numbers: vec![], runs }
+}
+
+/// `answers`: how many words and how many scores are lent.
+pub fn decode_blocks(
+    flat: &[u64],
+    samples: &[i16],
+    answers: (usize, usize),
+    working: (usize, usize),
+    rooms: Rooms,
+) -> Call {
+    let runs = vec![
+        lent_plate(flat, rooms),
+        Run::of_samples("samples", samples),
+        Run::room_metrics("metrics", working.0),
+        Run::room_words("decisions", working.1),
+        Run::room_words("words", answers.0),
+        Run::room_metrics("scores", answers.1),
+        Run::room_words("counts", rooms.counts),
+        Run::room_words("place", rooms.place),
+    ];
+    Call { name: Name::DecodeBlocks, numbers: vec![], runs }
 }
 
 pub fn metric(flat: &[u64], samples: &[i16], metrics: usize, rooms: Rooms) -> Call {

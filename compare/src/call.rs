@@ -21,6 +21,8 @@ pub enum Name {
     Metric,
     Word,
     WhyNot,
+    DecodeBlocks,
+    PlateOfSheet,
     Listing,
 }
 

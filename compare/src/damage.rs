@@ -32,6 +32,7 @@ fn every_call(comparison: &mut Comparison, random: &mut Random, sound: &Plate, f
     comparison.agree(asked::read_back(flat, 0, FIXED));
     let block = samples(random, sound.n);
     comparison.agree(asked::decode(flat, &block, metrics, decisions, FIXED));
+    comparison.agree(asked::decode_blocks(flat, &block, (1, 1), (metrics, decisions), FIXED));
     comparison.agree(asked::metric(flat, &block, metrics, FIXED));
     comparison.agree(asked::word(flat, &block, metrics, decisions, FIXED));
     comparison.agree(asked::firmness(flat, &block, 0, metrics, decisions, FIXED));
@@ -47,6 +48,7 @@ fn all_wrong(comparison: &mut Comparison, random: &mut Random, flat: &[u64]) {
     comparison.agree(asked::encode(flat, u64::MAX, FIXED));
     comparison.agree(asked::read_back(flat, random.next(), FIXED));
     comparison.agree(asked::decode(flat, &[200], 0, 0, FIXED));
+    comparison.agree(asked::decode_blocks(flat, &[200], (0, 1), (0, 0), FIXED));
     comparison.agree(asked::metric(flat, &[200], 0, FIXED));
     comparison.agree(asked::word(flat, &[200], 0, 0, FIXED));
     comparison.agree(asked::firmness(flat, &[200], 64, 0, 0, FIXED));

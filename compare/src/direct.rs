@@ -21,6 +21,11 @@ pub fn answer(call: &mut Call) -> u64 {
                 (lent!(r[0], words), lent!(r[1], words), lent!(r[2], words));
             unsafe { yendrufal_prepare(n[0], n[1], rows, a, n[2], plate, b, place, c) }
         }
+        Name::PlateOfSheet => {
+            let ((sheet, a), (plate, b)) = (lent!(r[0], bytes), lent!(r[1], words));
+            let ((order, c), (place, d)) = (lent!(r[2], words), lent!(r[3], words));
+            unsafe { yendrufal_plate_of_sheet(sheet, a, plate, b, order, c, place, d) }
+        }
         Name::Branch | Name::Encode | Name::ReadBack => {
             let ((plate, a), (cell, b)) = (lent!(r[0], words), lent!(r[1], words));
             match call.name {
@@ -30,6 +35,7 @@ pub fn answer(call: &mut Call) -> u64 {
             }
         }
         Name::Decode => decode(call),
+        Name::DecodeBlocks => decode_blocks(call),
         Name::Metric => metric(call),
         Name::Word => word(call),
         Name::Firmness => firmness(call),
@@ -57,6 +63,19 @@ fn decode(call: &mut Call) -> u64 {
     unsafe {
         yendrufal_decode(
             plate, a, samples, b, metrics, c, decisions, d, word, e, metric, f, counts, g, place, h,
+        )
+    }
+}
+
+fn decode_blocks(call: &mut Call) -> u64 {
+    let r = &mut call.runs[..];
+    let ((plate, a), (samples, b)) = (lent!(r[0], words), lent!(r[1], samples));
+    let ((metrics, c), (decisions, d)) = (lent!(r[2], metrics), lent!(r[3], words));
+    let ((words, e), (scores, f)) = (lent!(r[4], words), lent!(r[5], metrics));
+    let ((counts, g), (place, h)) = (lent!(r[6], words), lent!(r[7], words));
+    unsafe {
+        yendrufal_decode_blocks(
+            plate, a, samples, b, metrics, c, decisions, d, words, e, scores, f, counts, g, place, h,
         )
     }
 }

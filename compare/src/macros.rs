@@ -107,7 +107,16 @@ fn listings(comparison: &mut Comparison) {
     }
 }
 
-/// Refusals that stand in listings only.
+/// The order of a cover.
+fn orders(comparison: &mut Comparison) {
+    for (name, order) in [("ORDER_FIRST", "first"), ("ORDER_LAST", "last")] {
+        let sheet = format!("cover\t2\tG\t{order}\nrow\t01\nend\n");
+        let mut left = replies(comparison, "DONE", asked::plate_of_sheet(sheet.as_bytes(), FIXED));
+        assert_eq!(left.runs[2].words(), [number(name)], "{name}");
+    }
+}
+
+/// Refusals of a sheet.
 fn refused_sheets(comparison: &mut Comparison) {
     let cover = "cover\t1\tG\tfirst\n";
     let most = value("SHEET_MOST");
@@ -125,6 +134,7 @@ fn refused_sheets(comparison: &mut Comparison) {
         ("FIELD_VALUE", format!("{cover}block\tx\n")),
         ("ROW_FIELD", format!("{cover}row\t2\n")),
     ] {
+        replies(comparison, name, asked::plate_of_sheet(sheet.as_bytes(), FIXED));
         let listing = listed(comparison, &sheet);
         assert!(listing.starts_with(&format!("refused\t{}\t", number(name))), "{name}: {listing}");
     }
@@ -175,6 +185,7 @@ pub fn run(comparison: &mut Comparison) {
     }
     listings(comparison);
     refused_sheets(comparison);
+    orders(comparison);
     numbers(comparison);
     assert_eq!(unasked(), Vec::<String>::new(), "macros of the header that nothing is held to");
 }

@@ -4,6 +4,7 @@
 mod alone;
 mod asked;
 mod asking;
+mod batch;
 mod bridge;
 mod brute;
 mod call;

@@ -1,6 +1,7 @@
 //! Random matrices up to n = 64, and each call on the plates that they give.
 
 use crate::asked::{self, FIXED};
+use crate::batch;
 use crate::call::Call;
 use crate::coding::encode;
 use crate::comparison::Comparison;
@@ -80,6 +81,7 @@ fn questions(comparison: &mut Comparison, random: &mut Random, flat: &[u64]) {
     branches(comparison, random, &plate, flat);
     codings(comparison, random, &plate, flat);
     blocks(comparison, random, &plate, flat);
+    batch::some(comparison, random, &plate, flat);
     comparison.agree(asked::write_plate(flat, 256, FIXED));
     comparison.agree(asked::write_profile(flat, 256, FIXED));
     let values =

@@ -2,6 +2,7 @@
 
 use crate::alone;
 use crate::asking;
+use crate::batch;
 use crate::call::{Call, Name, Run};
 use crate::coding::{encode, read_back};
 use crate::decoding;
@@ -41,7 +42,7 @@ fn reply_into(answer: Result<u64, Refusal>, cell: &mut [u64]) -> u64 {
 }
 
 /// The reply of a refused call that has a cell for the place.
-fn refused_at(refusal: Refusal, place: &mut Run) -> u64 {
+pub fn refused_at(refusal: Refusal, place: &mut Run) -> u64 {
     place.words()[0] = refusal.place;
     refusal.number
 }
@@ -62,7 +63,7 @@ impl Model {
     }
 
     /// The plate that a run of words is, or refusal 5.
-    fn plate(&mut self, words: &[u64]) -> Result<Rc<Plate>, Refusal> {
+    pub fn plate(&mut self, words: &[u64]) -> Result<Rc<Plate>, Refusal> {
         let words = &words[..PLATE_WORDS];
         if self.last != words {
             self.last = words.to_vec();
@@ -79,6 +80,7 @@ impl Model {
         let numbers = call.numbers.clone();
         match (call.name, &mut call.runs[..]) {
             (Name::Prepare, [rows, plate, place]) => answer_prepare(&numbers, rows, plate, place),
+            (Name::PlateOfSheet, runs) => sheet::answer_plate(runs),
             (Name::Branch, [plate, next]) => self.answer_branch(&numbers, plate, next),
             (Name::Encode, [plate, word]) => {
                 reply_into(self.plate(plate.words()).and_then(|p| encode(&p, numbers[0])), word.words())
@@ -87,6 +89,7 @@ impl Model {
                 reply_into(self.plate(plate.words()).and_then(|p| read_back(&p, numbers[0])), word.words())
             }
             (Name::Decode, runs) => self.answer_decode(runs),
+            (Name::DecodeBlocks, runs) => batch::answer(self, runs),
             (Name::Metric, runs) => self.answer_metric(runs),
             (Name::Word, runs) => self.answer_word(runs),
             (Name::Firmness, runs) => self.answer_firmness(numbers[0], runs),
@@ -232,9 +235,11 @@ fn misshapen(call: &mut Call) -> bool {
     kind_unknown
         || call.runs.iter_mut().any(|run| match run.name {
             "plate" => run.words().len() < PLATE_WORDS,
-            "counts" | "reason" => run.words().len() < 2,
+            "counts" | "reason" | "line and field" => run.words().len() < 2,
             "metric" | "value" | "difference" => run.metrics().is_empty(),
-            "next" | "word" | "fixed" | "information" | "written" | "place" => run.words().is_empty(),
+            "next" | "word" | "order" | "fixed" | "information" | "written" | "place" => {
+                run.words().is_empty()
+            }
             _ => false,
         })
 }
@@ -252,7 +257,7 @@ fn answer_prepare(numbers: &[u64], rows: &mut Run, plate: &mut Run, place: &mut 
 }
 
 /// After decoding and judging, the needed part of both rooms is zero.
-fn clear_rooms(plate: &Plate, metrics: &mut [i32], decisions: &mut [u64]) {
+pub fn clear_rooms(plate: &Plate, metrics: &mut [i32], decisions: &mut [u64]) {
     metrics[..plate.metrics_needed()].fill(0);
     decisions[..plate.decisions_needed()].fill(0);
 }

@@ -1,6 +1,7 @@
 //! Short, exact and long rooms, extreme samples, and bad arguments in every order of refusals.
 
 use crate::asked::{self, Rooms, FIXED};
+use crate::batch;
 use crate::comparison::Comparison;
 use crate::header;
 use crate::listing::{end_line, plate_line, profile_line, refused_line, word_line};
@@ -187,10 +188,14 @@ fn shapes(comparison: &mut Comparison, plate: &Plate) {
         let length = [PLATE_WORDS, 0, PLATE_WORDS - 1, PLATE_WORDS + 1, 140][code % 5];
         let rooms = Rooms { plate: length, single: code / 5 % 3, counts: code / 15 % 4, place: code / 60 };
         comparison.agree(asked::branch(&flat, 0, 0, 0, rooms));
+        comparison.agree(asked::plate_of_sheet(b"cover\t2\tG\tlast\nmask\t10\nrow\t01\nend\n", rooms));
+        comparison.agree(asked::plate_of_sheet(b"cover\t2\tG\tlast\nrow\t1\nend\n", rooms));
         comparison.agree(asked::encode(&flat, 1, rooms));
         comparison.agree(asked::read_back(&flat, 0, rooms));
         comparison.agree(asked::decode(&flat, &block, metrics, decisions, rooms));
         comparison.agree(asked::decode(&flat, &[300], 0, 0, rooms));
+        comparison.agree(asked::decode_blocks(&flat, &block, (1, 1), (metrics, decisions), rooms));
+        comparison.agree(asked::decode_blocks(&flat, &[300], (0, 2), (0, 0), rooms));
         comparison.agree(asked::metric(&flat, &block, metrics, rooms));
         comparison.agree(asked::metric(&flat, &[300], 0, rooms));
         comparison.agree(asked::word(&flat, &block, metrics, decisions, rooms));
@@ -226,6 +231,7 @@ pub fn run(comparison: &mut Comparison, random: &mut Random) {
         working_rooms(comparison, random, &plate);
         bad_samples(comparison, random, &plate);
         plain_samples(comparison, &plate);
+        batch::bounds(comparison, random, &plate);
         positions(comparison, random, &plate);
         bad_arguments(comparison, &plate);
         lines(comparison, &plate);

@@ -1,8 +1,9 @@
 //! Sheets: the grammar with its refusals in the paper's order, and the whole listing. `last` turns mask, rows, samples and printed words.
 
+use crate::call::Run;
 use crate::decoding;
 use crate::listing::{end_line, plate_line, profile_line, refused_line, tally_line, word_line};
-use crate::plate::{prepare_masked, refuse, Kind, Plate, Refusal};
+use crate::plate::{prepare_masked, refuse, Kind, Plate, Refusal, PLATE_WORDS};
 use crate::tally::{self, Heard};
 
 pub const SHEET_MOST: usize = 32_768;
@@ -190,6 +191,21 @@ pub fn read(bytes: &[u8]) -> Result<Sheet, Refusal> {
     let Body { mask, rows, blocks } = body(&lines, unended, &cover)?;
     let plate = prepare_masked(cover.n as u64, cover.kind, &rows, mask)?;
     Ok(Sheet { first: cover.first, kind: cover.kind, rows, plate, blocks })
+}
+
+/// The model's reply to the call for a sheet's plate: the plate, the order, and place and field of a refusal.
+pub fn answer_plate(runs: &mut [Run]) -> u64 {
+    let [sheet, plate, order, place] = runs else { unreachable!("plate_of_sheet has four runs") };
+    let (reply, place_and_field) = match read(sheet.bytes()) {
+        Ok(found) => {
+            plate.words()[..PLATE_WORDS].copy_from_slice(&found.plate.flat());
+            order.words()[0] = u64::from(!found.first);
+            (0, [0, 0])
+        }
+        Err(refusal) => (refusal.number, [refusal.place, refusal.field]),
+    };
+    place.words()[..2].copy_from_slice(&place_and_field);
+    reply
 }
 
 /// The word as it is handed to the listing line, which prints position 0 at the left: under `last` position n-1 is to stand there.

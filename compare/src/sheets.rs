@@ -119,6 +119,7 @@ fn list(comparison: &mut Comparison, sheet: &[u8]) {
     let (metrics, decisions) = rooms_most();
     let call = asked::listing(sheet, metrics, decisions, listing_room(sheet), FIXED);
     assert_eq!(comparison.agree(call).0, DONE, "{}", sheet.escape_ascii());
+    comparison.agree(asked::plate_of_sheet(sheet, FIXED));
 }
 
 /// Short, exact and long rooms for a sheet whose listing has so many lines.

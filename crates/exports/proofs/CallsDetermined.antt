@@ -8,12 +8,15 @@ use Rattle.asking.proofs.WhyNotDetermined.{why-not-determined}
 use Rattle.asking.specs.declared.Verdict.{Verdict}
 use Rattle.coding.proofs.CodingDetermined.{encode-determined, read-back-determined}
 use Rattle.decoding.proofs.ApartDetermined.{metric-determined, word-determined}
+use Rattle.decoding.proofs.BatchDetermined.{blocks-determined}
 use Rattle.decoding.proofs.DecodeDetermined.{decode-determined}
 use Rattle.decoding.proofs.FirmnessDetermined.{firmness-determined}
 use Rattle.decoding.specs.declared.apart.Chosen.{Chosen}
 use Rattle.decoding.specs.declared.apart.Measured.{Measured}
+use Rattle.decoding.specs.declared.batch.Batch.{Batch}
 use Rattle.decoding.specs.declared.Decoded.{Decoded}
 use Rattle.decoding.specs.declared.firmness.Flagged.{Flagged}
+use Rattle.exports.specs.Batches.{BatchCells, BatchesTo, Batching, CallsDecodeBlocks}
 use Rattle.exports.specs.Calls.{Calls, Crossing, Replies, misshapen}
 use Rattle.exports.specs.Crossing.{DecodeCells, Decoding, Listing, ListingCells, Writing, listingCells}
 use Rattle.exports.specs.Explaining.{AsksTo, CallsWhyNot, Explaining, ReasonCells}
@@ -21,11 +24,13 @@ use Rattle.exports.specs.Flat.{plateOf}
 use Rattle.exports.specs.Judging.{CallsFirmness, FirmnessCells, Judging, JudgesTo}
 use Rattle.exports.specs.Parting.{CallsMetric, CallsWord, Choosing, ChoosesTo, Measuring, MeasuresTo, MetricCells, WordCells}
 use Rattle.exports.specs.Promises.{CallsBranch, CallsDecode, CallsEncode, CallsListing, CallsPrepare, CallsReadBack, CallsWrite, CallsWriteEnd, CallsWritePlate, CallsWriteProfile, CallsWriteRefused, CallsWriteWord, DecodesTo, kindOf}
+use Rattle.exports.specs.Sheeting.{CallsPlateOfSheet, SheetCells}
 use Rattle.listings.proofs.Determined.{write-end-determined, write-plate-determined, write-profile-determined, write-refused-determined, write-word-determined}
 use Rattle.listings.specs.declared.Written.{Written}
 use Rattle.listings.specs.Writing.{WritesEnd, WritesPlate, WritesProfile, WritesRefused, WritesWord}
 use Rattle.plates.proofs.PrepareDetermined.{prepare-determined}
 use Rattle.reports.proofs.ListingDetermined.{write-listing-determined}
+use Rattle.reports.proofs.StepDetermined.{open-determined}
 use Rattle.reports.specs.Listing.{WritesListing}
 use Rattle.reports.specs.Remaining.{Rooms}
 use Rattle.trellises.proofs.BranchDetermined.{branch-determined}
@@ -97,6 +102,19 @@ word-call-determined words samples lent a b r s = calls-determined one
         ap₂ (λ (u : Chosen) (m : List ℤ). record { reply = u; metrics = m; decisions = x .decisions }) (same .0) (same .1)
         ∙ ap (λ (d : List ℕ). record { reply = y .reply; metrics = y .metrics; decisions = d }) (same .2)
 
+pub decode-blocks-call-determined : (words : List ℕ) (samples : List ℤ) (lent a b : BatchCells) (r s : ℕ) → CallsDecodeBlocks words samples lent r a
+    → CallsDecodeBlocks words samples lent s b → _≡_ {A = Crossing BatchCells} (record { code = r; cells = a }) (record { code = s; cells = b })
+decode-blocks-call-determined words samples lent a b r s = calls-determined one
+  where
+    one : (x y : Batching) → BatchesTo (plateOf words) samples lent x → BatchesTo (plateOf words) samples lent y → x ≡ y
+    one x y p q =
+        let same =
+        blocks-determined (plateOf words) samples (lent .words) (lent .scores) (lent .metrics) (lent .decisions) (x .reply) (y .reply) (x .words) (y .words)
+        (x .scores) (y .scores) (x .metrics) (y .metrics) (x .decisions) (y .decisions) p q in
+        ap₂ (λ (u : Batch) (w : List ℕ). record { reply = u; words = w; scores = x .scores; metrics = x .metrics; decisions = x .decisions }) (same .0) (same .1)
+        ∙ ap₂ (λ (v m : List ℤ). record { reply = y .reply; words = y .words; scores = v; metrics = m; decisions = x .decisions }) (same .2) (same .3)
+        ∙ ap (λ (d : List ℕ). record { reply = y .reply; words = y .words; scores = y .scores; metrics = y .metrics; decisions = d }) (same .4)
+
 pub firmness-call-determined : (words : List ℕ) (samples : List ℤ) (position : ℕ) (lent a b : FirmnessCells) (r s : ℕ) → CallsFirmness words samples position lent r a
     → CallsFirmness words samples position lent s b → _≡_ {A = Crossing FirmnessCells} (record { code = r; cells = a }) (record { code = s; cells = b })
 firmness-call-determined words samples position lent a b r s = calls-determined one
@@ -159,3 +177,7 @@ listing-call-determined sheet working listing cell r s a b c d e f = calls-deter
         let same = write-listing-determined sheet working listing (x .reply) (y .reply) (x .working) (y .working) (x .listing) (y .listing) p q in
         ap₂ (λ (u : Written) (w : Rooms). record { reply = u; working = w; listing = x .listing }) (same .0) (same .1)
         ∙ ap (λ (l : List ℕ). record { reply = y .reply; working = y .working; listing = l }) (same .2)
+
+pub plate-of-sheet-call-determined : (sheet : List ℕ) (lent a b : SheetCells) (r s : ℕ) → CallsPlateOfSheet sheet lent r a → CallsPlateOfSheet sheet lent s b
+    → _≡_ {A = Crossing SheetCells} (record { code = r; cells = a }) (record { code = s; cells = b })
+plate-of-sheet-call-determined sheet lent a b r s = calls-determined (open-determined sheet)

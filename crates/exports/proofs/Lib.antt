@@ -4,6 +4,8 @@ pub mod CallsMade
 pub mod DecodeCrossed
 pub mod FirmnessCrossed
 pub mod PartsCrossed
+pub mod BatchCrossed
+pub mod SheetCrossed
 pub mod ReadingCells
 pub mod ReasonCrossed
 pub mod CallsDetermined

@@ -5,3 +5,5 @@ pub mod Promises
 pub mod Judging
 pub mod Parting
 pub mod Explaining
+pub mod Batches
+pub mod Sheeting

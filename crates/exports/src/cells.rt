@@ -2,6 +2,7 @@
 ghost use mathlib.Core.Path.{_≡_};
 ghost use Prim.Native.Nat.{_≤_};
 ghost use lib.ListN.{length};
+ghost use Rattle.exports.specs.Batches.{BatchTested};
 ghost use Rattle.exports.specs.Calls.{RefusedAt};
 ghost use Rattle.exports.specs.Crossing.{AnswerPut, LengthPut, countsPut};
 ghost use Rattle.exports.specs.Judging.{FirmnessTested, FixedFits, ReadingPut};
@@ -71,6 +72,19 @@ pub fn part_shaped(plate: usize, best: usize, counts: usize, at: usize) -> bool
     1 <= at
 }
 
+// Whether the runs that are lent to a batch are long enough for their fixed use.
+pub fn batch_shaped(plate: usize, counts: usize, at: usize) -> bool
+    ensures { λ r. ⌜ BatchTested plate counts at r ⌝ }
+{
+    if plate < 132 {
+        return false;
+    }
+    if counts < 2 {
+        return false;
+    }
+    1 <= at
+}
+
 // Whether the runs that are lent to firmness are long enough for their fixed use.
 pub fn firmness_shaped(plate: usize, fixed: usize, value: usize, at: usize) -> bool
     ensures { λ r. ⌜ FirmnessTested plate fixed value at r ⌝ }
@@ -88,7 +102,7 @@ pub fn firmness_shaped(plate: usize, fixed: usize, value: usize, at: usize) -> b
 }
 
 // The two counts into the first two cells.
-fn put_counts(counted: Counts, counts: &mut [u64])
+pub fn put_counts(counted: Counts, counts: &mut [u64])
     requires { ⌜ 2 ≤ length (now counts) ⌝ }
     ensures { λ _. ⌜ now (counts .exit) ≡ countsPut (now (counts .entry)) counted ⌝ }
 {

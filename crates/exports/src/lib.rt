@@ -11,6 +11,7 @@ mod cells;
 mod flat;
 mod reasons;
 mod receiving;
+mod sheeting;
 
 // The reply where a run is too short for its fixed use, or the kind is neither G nor H.
 const MISSHAPEN: u64 = 101;

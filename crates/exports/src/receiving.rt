@@ -1,5 +1,6 @@
-// The calls of a receiver over the C interface: a block decoded whole, its best metric or its best word alone, how firm
-// one position is, and why a word was not chosen.
+// The calls of a receiver over the C interface: a block decoded whole, its best metric or its best word alone, many blocks
+// in one call, how firm one position is, and why a word was not chosen.
+ghost use Rattle.exports.specs.Batches.{CallsDecodeBlocks, batchCells};
 ghost use Rattle.exports.specs.Explaining.{CallsWhyNot, reasonCells};
 ghost use Rattle.exports.specs.Judging.{CallsFirmness, firmnessCells};
 ghost use Rattle.exports.specs.Parting.{CallsMetric, CallsWord, metricCells, wordCells};
@@ -12,6 +13,7 @@ use asking::Verdict;
 use decoding::Decoded;
 use decoding::apart::Chosen;
 use decoding::apart::Measured;
+use decoding::batch::Batch;
 use decoding::firmness::Flagged;
 
 // The codeword of greatest metric.
@@ -121,6 +123,44 @@ pub extern "C" fn yendrufal_word(
             0
         }
         Chosen::Refused(refusal) => cells::refused_at(refusal, at),
+    }
+}
+
+// Many blocks of one plate: each one's codeword of greatest metric, and that metric.
+#[no_mangle]
+pub extern "C" fn yendrufal_decode_blocks(
+    plate: &[u64],
+    samples: &[i16],
+    metrics: &mut [i32],
+    decisions: &mut [u64],
+    words: &mut [u64],
+    scores: &mut [i32],
+    counts: &mut [u64],
+    at: &mut [u64],
+) -> u64
+    ensures { λ r. ⌜ CallsDecodeBlocks (now (plate .entry)) (now (samples .entry)) (batchCells (now (metrics .entry)) (now (decisions .entry)) (now (words .entry)) (now (scores .entry)) (now (counts .entry)) (now (at .entry))) r (batchCells (now (metrics .exit)) (now (decisions .exit)) (now (words .exit)) (now (scores .exit)) (now (counts .exit)) (now (at .exit))) ⌝ }
+{
+    if !cells::batch_shaped(plate.len(), counts.len(), at.len()) {
+        return MISSHAPEN;
+    }
+    match decoding::batch::decode_blocks(
+        plate[0] as usize,
+        plate[1] as usize,
+        plate[MASK],
+        &plate[2..66],
+        &plate[66..131],
+        samples,
+        words,
+        scores,
+        metrics,
+        decisions,
+    ) {
+        Batch::Found(counted) => {
+            cells::put_counts(counted, counts);
+            at[0] = 0;
+            0
+        }
+        Batch::Refused(refusal) => cells::refused_at(refusal, at),
     }
 }
 
