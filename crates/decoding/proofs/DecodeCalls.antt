@@ -34,9 +34,6 @@ by-parts plate samples metrics decisions metrics′ decisions′ r same d =
     same d
 
 module _ (plate : Plate) (samples metrics : List ℤ) (decisions : List ℕ) where
-  abbrev conditions : List (Refusal → Type 0)
-  conditions = decodeConditions plate samples metrics decisions
-
   pub refused-5 : (IsPrepared plate → ⊥) → Decodes plate samples metrics decisions metrics decisions (Refused NotPrepared)
   refused-5 n = (inl (n, refl), refl, refl)
 

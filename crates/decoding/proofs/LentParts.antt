@@ -14,16 +14,10 @@ module _ {ℓ} {A : Type ℓ} (xs ys : List A) (a k : ℕ) (size : length ys ≡
   length-front : length (take a xs) ≡ a
   length-front = length-take-le a xs (omega arith)
 
-  pub part-length : length (take k (drop a xs)) ≡ k
-  part-length = length-take-le k (drop a xs) (omega (arith, length-drop a xs))
-
   pub back-length : length back ≡ length xs
   back-length =
       length-append (take a xs) (ys ++ drop k (drop a xs))
       ∙ omega (arith, length-front, length-append ys (drop k (drop a xs)), length-drop k (drop a xs), length-drop a xs, size)
-
-  pub back-before : (i : ℕ) → i < a → getD back i z ≡ getD xs i z
-  back-before i h = List·getD-append (take a xs) (ys ++ drop k (drop a xs)) z i (omega (arith, length-front)) ∙ getD-take a xs i z h
 
   pub back-inside : (i : ℕ) → i < k → getD back (a + i) z ≡ getD ys i z
   back-inside i h =

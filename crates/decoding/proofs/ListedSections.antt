@@ -37,9 +37,6 @@ low-seven : (x r m : ℕ) → x ≡ r + 128 * m → r < 128 → x % 128 ≡ r
 low-seven x r m e h = omega (arith, e, h)
 
 module _ {c : Section} (fits : PackFits c) {b e : ℕ} (begins : b ≡ flagOf (c .begins)) (ends : e ≡ flagOf (c .ends)) where
-  pub word-small : c .live + 64 * c .ending + 16 * (b + 2 * e) + 8192 * c .column < 2 ^ 32
-  word-small = omega (arith, fits .live, fits .ending, fits .column, flag-small (c .begins), flag-small (c .ends), begins, ends)
-
   pub packs : (w : ℕ) → w ≡ c .live + 64 * c .ending + 16 * (b + 2 * e) + 8192 * c .column → sectionIn w ≡ c
   packs w is =
       let x : b < 2 = omega (arith, begins, flag-small (c .begins)) in
