@@ -58,7 +58,7 @@ fn say_words(number: u64) {
         17 => say(b"first field unknown or out of its turn"),
         18 => say(b"wrong number of fields"),
         19 => say(b"bad number, letter or order"),
-        20 => say(b"row of wrong length or character"),
+        20 => say(b"row or mask of wrong length or character"),
         22 => say(b"k is 64"),
         23 => say(b"mask has a one beyond its length"),
         _ => say(b"refused"),
