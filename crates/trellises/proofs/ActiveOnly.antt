@@ -17,3 +17,12 @@ active-only (row ∷ rows) t = go (isActive t row) refl (active-only rows t)
         → sectionOf (keep a row (activeRows rows t)) t ≡ cond a (withActive t row (sectionOf rows t)) (sectionOf rows t)
     go true e ih = rw e (ap (withActive t row) ih)
     go false e ih = ih
+
+-- there are as many of them as the trellis has
+pub active-length : (rows : List ℕ) (t : ℕ) → length (activeRows rows t) ≡ activeAt rows t
+active-length [] t = refl
+active-length (row ∷ rows) t = go (isActive t row) (active-length rows t)
+  where
+    go : (a : Bool) {n : ℕ} → length (activeRows rows t) ≡ n → length (keep a row (activeRows rows t)) ≡ more a n
+    go true e = ap suc e
+    go false e = e
