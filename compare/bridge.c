@@ -47,6 +47,10 @@ static uint64_t ask(uint64_t call, const uint64_t *n, const struct run *r) {
     case 13: return yendrufal_why_not(RUN(0), RUN(1), n[0], RUN(2), RUN(3), RUN(4), RUN(5), RUN(6));
     case 14: return yendrufal_decode_blocks(RUN(0), RUN(1), RUN(2), RUN(3), RUN(4), RUN(5), RUN(6), RUN(7));
     case 15: return yendrufal_plate_of_sheet(RUN(0), RUN(1), RUN(2), RUN(3));
+    case 16: return yendrufal_write_tally(n[0], n[1], n[2], n[3], n[4], n[5], n[6], n[7], n[8], RUN(0), RUN(1));
+    case 17: return yendrufal_write_weight(n[0], n[1], RUN(0), RUN(1));
+    case 18: return yendrufal_write_least(n[0], RUN(0), RUN(1));
+    case 19: return yendrufal_write_no_least(RUN(0), RUN(1));
     default: return yendrufal_listing(RUN(0), RUN(1), RUN(2), RUN(3), RUN(4));
     }
 }

@@ -201,8 +201,7 @@ uint64_t yendrufal_why_not(const uint64_t *plate, size_t plate_length, const int
                            uint64_t *reason, size_t reason_length, int32_t *difference,
                            size_t difference_length, uint64_t *place, size_t place_length);
 
-/* Listing lines, but for `tally`, which yendrufal_listing writes for a sheet of heard lines and no call
-   writes alone. Each begins at the start of `line`; `written` receives its bytes,
+/* Listing lines. Each begins at the start of `line`; `written` receives its bytes,
    the line feed included. Refusals 5 (where a plate is taken), 11. Fixed: plate 132, written 1.
    A refused line has number and place; the place of 10 and of 17 to 20 is a line and a field of the
    sheet, both from 1, the field 0 for 10. Of other numbers `field` is not looked at. */
@@ -218,6 +217,21 @@ uint64_t yendrufal_write_refused(uint64_t number, uint64_t place, uint64_t field
                                  size_t line_length, uint64_t *written, size_t written_length);
 uint64_t yendrufal_write_end(uint64_t count, uint8_t *line, size_t line_length, uint64_t *written,
                              size_t written_length);
+
+/* The line `tally` of heard lines: the numbers that yendrufal_listing names, the sum of metrics as what those above 0
+   add to and what those below 0 do, without their sign; the number decoded stands at the end once more. Refusal 11.
+   Fixed: written 1. */
+uint64_t yendrufal_write_tally(uint64_t decoded, uint64_t refused, uint64_t repeated, uint64_t late, uint64_t missing,
+                               uint64_t opposing, uint64_t zeros, uint64_t above, uint64_t below, uint8_t *line,
+                               size_t line_length, uint64_t *written, size_t written_length);
+
+/* The lines of the program `plate_weights` that are not a listing's: how many codewords have a weight, and the smallest
+   weight above 0, or that there is none. Refusal 11. Fixed: written 1. */
+uint64_t yendrufal_write_weight(uint64_t weight, uint64_t count, uint8_t *line, size_t line_length, uint64_t *written,
+                                size_t written_length);
+uint64_t yendrufal_write_least(uint64_t weight, uint8_t *line, size_t line_length, uint64_t *written,
+                               size_t written_length);
+uint64_t yendrufal_write_no_least(uint8_t *line, size_t line_length, uint64_t *written, size_t written_length);
 
 /* The whole listing of a sheet, as the program `trellis` prints it: what the sheet or a block of it
    is refused for stands in the listing, and the reply is YENDRUFAL_DONE. A sheet of heard lines has

@@ -72,6 +72,15 @@ pub mod raw {
             written: *mut u64, written_length: usize) -> u64;
         pub fn yendrufal_write_end(count: u64, line: *mut u8, line_length: usize, written: *mut u64,
             written_length: usize) -> u64;
+        pub fn yendrufal_write_tally(decoded: u64, refused: u64, repeated: u64, late: u64, missing: u64, opposing: u64,
+            zeros: u64, above: u64, below: u64, line: *mut u8, line_length: usize, written: *mut u64,
+            written_length: usize) -> u64;
+        pub fn yendrufal_write_weight(weight: u64, count: u64, line: *mut u8, line_length: usize, written: *mut u64,
+            written_length: usize) -> u64;
+        pub fn yendrufal_write_least(weight: u64, line: *mut u8, line_length: usize, written: *mut u64,
+            written_length: usize) -> u64;
+        pub fn yendrufal_write_no_least(line: *mut u8, line_length: usize, written: *mut u64,
+            written_length: usize) -> u64;
         pub fn yendrufal_listing(sheet: *const u8, sheet_length: usize, metrics: *mut i32, metric_count: usize,
             decisions: *mut u64, decision_count: usize, listing: *mut u8, listing_length: usize, written: *mut u64,
             written_length: usize) -> u64;
@@ -451,6 +460,54 @@ pub fn write_refused(refusal: Refusal, field: u64, line: &mut [u8]) -> Result<us
 pub fn write_end(count: u64, line: &mut [u8]) -> Result<usize> {
     let (room, size) = (line.as_mut_ptr(), line.len());
     written(|bytes| unsafe { raw::yendrufal_write_end(count, room, size, bytes, 1) })
+}
+
+/// The numbers of a tally of heard lines.
+#[derive(Clone, Copy, Debug, Default, PartialEq, Eq)]
+pub struct Tally {
+    /// Lines decoded.
+    pub decoded: u64,
+    /// Lines refused.
+    pub refused: u64,
+    /// Lines repeated.
+    pub repeated: u64,
+    /// Lines out of turn.
+    pub late: u64,
+    /// Counters that are missing.
+    pub missing: u64,
+    /// Positions where the answer opposes its sample.
+    pub opposing: u64,
+    /// Zero samples.
+    pub zeros: u64,
+    /// What the metrics above 0 add to.
+    pub above: u64,
+    /// What the metrics below 0 add to, without their sign.
+    pub below: u64,
+}
+
+/// The line `tally`. Refusal 11.
+#[rustfmt::skip]
+pub fn write_tally(tally: &Tally, line: &mut [u8]) -> Result<usize> {
+    let Tally { decoded, refused, repeated, late, missing, opposing, zeros, above, below } = *tally;
+    let (room, size) = (line.as_mut_ptr(), line.len());
+    written(|bytes| unsafe {
+        raw::yendrufal_write_tally(decoded, refused, repeated, late, missing, opposing, zeros, above, below, room, size, bytes, 1)
+    })
+}
+
+/// The line `weight`: how many codewords have a weight. Refusal 11.
+pub fn write_weight(weight: u64, count: u64, line: &mut [u8]) -> Result<usize> {
+    let (room, size) = (line.as_mut_ptr(), line.len());
+    written(|bytes| unsafe { raw::yendrufal_write_weight(weight, count, room, size, bytes, 1) })
+}
+
+/// The line `least`: the smallest weight above 0, or that there is none. Refusal 11.
+pub fn write_least(weight: Option<u64>, line: &mut [u8]) -> Result<usize> {
+    let (room, size) = (line.as_mut_ptr(), line.len());
+    written(|bytes| match weight {
+        Some(weight) => unsafe { raw::yendrufal_write_least(weight, room, size, bytes, 1) },
+        None => unsafe { raw::yendrufal_write_no_least(room, size, bytes, 1) },
+    })
 }
 
 /// The room that the listing of a sheet needs at most: [`LINE_MOST`] bytes for each line of the sheet and four more.

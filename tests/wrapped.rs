@@ -177,6 +177,21 @@ fn lines_are_written() {
 }
 
 #[test]
+fn summaries_are_written() {
+    let mut line = [0; LINE_MOST];
+    let tally = Tally { decoded: 3, refused: 1, late: 2, zeros: 5, above: 7, below: 19, ..Tally::default() };
+    let size = write_tally(&tally, &mut line).unwrap();
+    assert_eq!(&line[..size], b"tally\t3\t1\t0\t2\t0\t0\t5\t-12\t3\n");
+    let size = write_weight(4, 14, &mut line).unwrap();
+    assert_eq!(&line[..size], b"weight\t4\t14\n");
+    let size = write_least(Some(4), &mut line).unwrap();
+    assert_eq!(&line[..size], b"least\t4\n");
+    let size = write_least(None, &mut line).unwrap();
+    assert_eq!(&line[..size], b"least\tnone\n");
+    assert_eq!(write_least(None, &mut line[..10]), refused(11, 0));
+}
+
+#[test]
 fn words() {
     for number in 1.. {
         let refusal = Refusal { number, place: 3 };

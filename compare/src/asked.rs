@@ -191,6 +191,11 @@ pub fn write_end(count: u64, line: usize, rooms: Rooms) -> Call {
     Call { name: Name::WriteEnd, numbers: vec![count], ..write_refused(refusal, line, rooms) }
 }
 
+/// A line of numbers alone: `tally`, `weight` or `least`.
+pub fn write_numbers(name: Name, numbers: &[u64], line: usize, rooms: Rooms) -> Call {
+    Call { name, numbers: numbers.to_vec(), ..write_end(0, line, rooms) }
+}
+
 pub fn listing(sheet: &[u8], metrics: usize, decisions: usize, listing: usize, rooms: Rooms) -> Call {
     let runs = vec![
         Run::of_bytes("sheet", sheet),

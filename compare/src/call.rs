@@ -23,6 +23,10 @@ pub enum Name {
     WhyNot,
     DecodeBlocks,
     PlateOfSheet,
+    WriteTally,
+    WriteWeight,
+    WriteLeast,
+    WriteNoLeast,
     Listing,
 }
 

@@ -40,6 +40,19 @@ pub fn answer(call: &mut Call) -> u64 {
         Name::Word => word(call),
         Name::Firmness => firmness(call),
         Name::WhyNot => why_not(call),
+        Name::WriteTally | Name::WriteWeight | Name::WriteLeast | Name::WriteNoLeast => {
+            let ((line, a), (written, b)) = (lent!(r[0], bytes), lent!(r[1], words));
+            match call.name {
+                Name::WriteTally => unsafe {
+                    yendrufal_write_tally(
+                        n[0], n[1], n[2], n[3], n[4], n[5], n[6], n[7], n[8], line, a, written, b,
+                    )
+                },
+                Name::WriteWeight => unsafe { yendrufal_write_weight(n[0], n[1], line, a, written, b) },
+                Name::WriteLeast => unsafe { yendrufal_write_least(n[0], line, a, written, b) },
+                _ => unsafe { yendrufal_write_no_least(line, a, written, b) },
+            }
+        }
         Name::WriteRefused | Name::WriteEnd => {
             let ((line, a), (written, b)) = (lent!(r[0], bytes), lent!(r[1], words));
             match call.name {

@@ -1,5 +1,6 @@
 //! The kinds of listing line.
 
+use crate::call::Name;
 use crate::plate::{Plate, Refusal};
 use crate::words::printed;
 
@@ -33,4 +34,19 @@ pub fn end_line(count: u64) -> String {
 pub fn tally_line(numbers: &[i64; 9]) -> String {
     let fields: String = numbers.iter().map(|number| format!("\t{number}")).collect();
     format!("tally{fields}\n")
+}
+
+/// The lines of numbers alone, by what stands before them. The sum of metrics is given as what is above 0 and what is below.
+pub fn numbers_line(name: Name, numbers: &[u64]) -> String {
+    match name {
+        Name::WriteTally => {
+            let sum = i128::from(numbers[7]) - i128::from(numbers[8]);
+            let counts: Vec<String> = numbers[..7].iter().map(u64::to_string).collect();
+            format!("tally\t{}\t{sum}\t{}\n", counts.join("\t"), numbers[0])
+        }
+        Name::WriteWeight => format!("weight\t{}\t{}\n", numbers[0], numbers[1]),
+        Name::WriteLeast => format!("least\t{}\n", numbers[0]),
+        Name::WriteNoLeast => "least\tnone\n".to_string(),
+        _ => unreachable!("no line of numbers alone"),
+    }
 }

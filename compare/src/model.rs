@@ -7,7 +7,7 @@ use crate::call::{Call, Name, Run};
 use crate::coding::{encode, read_back};
 use crate::decoding;
 use crate::firmness::{self, Reading};
-use crate::listing::{end_line, plate_line, profile_line, refused_line, word_line};
+use crate::listing::{end_line, numbers_line, plate_line, profile_line, refused_line, word_line};
 use crate::plate::{prepare_masked, Kind, Plate, Refusal, PLATE_WORDS};
 use crate::sheet;
 use crate::trellis::branch;
@@ -102,6 +102,9 @@ impl Model {
                 put_line(Ok(end_line(numbers[0])), line.bytes(), written.words())
             }
             (Name::Listing, runs) => answer_listing(runs),
+            (name, [line, written]) => {
+                put_line(Ok(numbers_line(name, &numbers)), line.bytes(), written.words())
+            }
             (name, [plate, line, written]) => {
                 let text = self.plate(plate.words()).map(|p| line_of_plate(name, &p, &numbers));
                 put_line(text, line.bytes(), written.words())

@@ -2,9 +2,10 @@
 
 use crate::asked::{self, Rooms, FIXED};
 use crate::batch;
+use crate::call::Name;
 use crate::comparison::Comparison;
 use crate::header;
-use crate::listing::{end_line, plate_line, profile_line, refused_line, word_line};
+use crate::listing::{end_line, numbers_line, plate_line, profile_line, refused_line, word_line};
 use crate::plate::{prepare_masked, Kind, Plate, Refusal, PLATE_WORDS};
 use crate::random::{samples, Random};
 use crate::words::ones_before;
@@ -165,6 +166,26 @@ fn plain_lines(comparison: &mut Comparison) {
     }
 }
 
+/// Lines of numbers alone, over numbers of every length, in rooms of every length up to some bytes more than they need.
+fn number_lines(comparison: &mut Comparison) {
+    let tens = (0..20).map(|i| 10u64.pow(i));
+    for value in tens.flat_map(|ten| [ten - 1, ten]).chain([u64::MAX]) {
+        let other = u64::MAX - value;
+        for (name, numbers) in [
+            (Name::WriteTally, vec![value, other, value, 0, 1, other, 10, value, other]),
+            (Name::WriteTally, vec![other, value, 0, value, other, 9, value, other, value]),
+            (Name::WriteTally, vec![0, 1, 2, 3, 4, 5, 6, value, value]),
+            (Name::WriteWeight, vec![value, other]),
+            (Name::WriteLeast, vec![value]),
+            (Name::WriteNoLeast, vec![]),
+        ] {
+            for room in 0..numbers_line(name, &numbers).len() + 4 {
+                comparison.agree(asked::write_numbers(name, &numbers, room, FIXED));
+            }
+        }
+    }
+}
+
 /// The mask at its bounds: 23 after 3 and before 4, wherever the one beyond n stands.
 fn masks(comparison: &mut Comparison) {
     let pairs = (0..13).map(|i| 1 << i | 1 << (i + 13)).collect::<Vec<u64>>();
@@ -209,6 +230,10 @@ fn shapes(comparison: &mut Comparison, plate: &Plate) {
         comparison.agree(asked::write_word(&flat, (0, 0, 0, 0), 256, rooms));
         comparison.agree(asked::write_refused(Refusal { number: 1, place: 0, field: 0 }, 256, rooms));
         comparison.agree(asked::write_end(1, 256, rooms));
+        comparison.agree(asked::write_numbers(Name::WriteTally, &[1; 9], 256, rooms));
+        comparison.agree(asked::write_numbers(Name::WriteWeight, &[1, 2], 256, rooms));
+        comparison.agree(asked::write_numbers(Name::WriteLeast, &[1], 256, rooms));
+        comparison.agree(asked::write_numbers(Name::WriteNoLeast, &[], 256, rooms));
         for (n, kind, rows, mask) in [
             (8, 0, &[3, 5][..], 0),
             (8, 1, &[3, 5], 129),
@@ -226,6 +251,7 @@ fn shapes(comparison: &mut Comparison, plate: &Plate) {
 pub fn run(comparison: &mut Comparison, random: &mut Random) {
     comparison.begin("rooms, samples and arguments at their bounds");
     plain_lines(comparison);
+    number_lines(comparison);
     masks(comparison);
     for plate in plates() {
         working_rooms(comparison, random, &plate);

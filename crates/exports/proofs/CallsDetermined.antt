@@ -25,9 +25,11 @@ use Rattle.exports.specs.Judging.{CallsFirmness, FirmnessCells, Judging,
 use Rattle.exports.specs.Parting.{CallsMetric, CallsWord, Choosing, ChoosesTo, Measuring, MeasuresTo, MetricCells, WordCells}
 use Rattle.exports.specs.Promises.{CallsBranch, CallsDecode, CallsEncode, CallsListing, CallsPrepare, CallsReadBack, CallsWrite, CallsWriteEnd, CallsWritePlate, CallsWriteProfile, CallsWriteRefused, CallsWriteWord, DecodesTo, kindOf}
 use Rattle.exports.specs.Sheeting.{CallsPlateOfSheet, SheetCells}
-use Rattle.listings.proofs.Determined.{write-end-determined, write-plate-determined, write-profile-determined, write-refused-determined, write-word-determined}
+use Rattle.exports.specs.Summaries.{CallsWriteLeast, CallsWriteNoLeast, CallsWriteTally, CallsWriteWeight}
+use Rattle.listings.proofs.Determined.{write-end-determined, write-least-determined, write-no-least-determined, write-plate-determined, write-profile-determined, write-refused-determined, write-tally-determined, write-weight-determined, write-word-determined}
+use Rattle.listings.specs.declared.Tally.{Tally}
 use Rattle.listings.specs.declared.Written.{Written}
-use Rattle.listings.specs.Writing.{WritesEnd, WritesPlate, WritesProfile, WritesRefused, WritesWord}
+use Rattle.listings.specs.Writing.{WritesEnd, WritesLeast, WritesNoLeast, WritesPlate, WritesProfile, WritesRefused, WritesTally, WritesWeight, WritesWord}
 use Rattle.plates.proofs.PrepareDetermined.{prepare-determined}
 use Rattle.reports.proofs.ListingDetermined.{write-listing-determined}
 use Rattle.reports.proofs.StepDetermined.{open-determined}
@@ -156,6 +158,21 @@ module _ (room cell : List ℕ) (r s : ℕ) (a b c d : List ℕ) where
   pub write-end-call-determined : (blocks : ℕ) → CallsWriteEnd blocks room cell r a b → CallsWriteEnd blocks room cell s c d
       → SameRuns r s a b c d
   write-end-call-determined blocks = write-call-determined _ (WritesEnd blocks) (λ x y e f. write-end-determined blocks)
+
+  pub write-weight-call-determined : (weight count : ℕ) → CallsWriteWeight weight count room cell r a b → CallsWriteWeight weight count room cell s c d
+      → SameRuns r s a b c d
+  write-weight-call-determined weight count = write-call-determined _ (WritesWeight weight count) (λ x y e f. write-weight-determined weight count)
+
+  pub write-least-call-determined : (weight : ℕ) → CallsWriteLeast weight room cell r a b → CallsWriteLeast weight room cell s c d
+      → SameRuns r s a b c d
+  write-least-call-determined weight = write-call-determined _ (WritesLeast weight) (λ x y e f. write-least-determined weight)
+
+  pub write-no-least-call-determined : CallsWriteNoLeast room cell r a b → CallsWriteNoLeast room cell s c d → SameRuns r s a b c d
+  write-no-least-call-determined = write-call-determined _ WritesNoLeast (λ x y e f. write-no-least-determined)
+
+  pub write-tally-call-determined : (tally : Tally) → CallsWriteTally tally room cell r a b → CallsWriteTally tally room cell s c d
+      → SameRuns r s a b c d
+  write-tally-call-determined tally = write-call-determined _ (WritesTally tally) (λ x y e f. write-tally-determined tally)
 
 pub why-not-call-determined : (words : List ℕ) (samples : List ℤ) (word : ℕ) (lent a b : ReasonCells) (r s : ℕ) → CallsWhyNot words samples word lent r a
     → CallsWhyNot words samples word lent s b → _≡_ {A = Crossing ReasonCells} (record { code = r; cells = a }) (record { code = s; cells = b })

@@ -7,3 +7,4 @@ pub mod Parting
 pub mod Explaining
 pub mod Batches
 pub mod Sheeting
+pub mod Summaries

@@ -12,6 +12,7 @@ mod flat;
 mod reasons;
 mod receiving;
 mod sheeting;
+mod summaries;
 
 // The reply where a run is too short for its fixed use, or the kind is neither G nor H.
 const MISSHAPEN: u64 = 101;
