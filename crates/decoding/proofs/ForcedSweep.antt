@@ -17,6 +17,7 @@ use Rattle.decoding.specs.Backward.{best}
 use Rattle.decoding.specs.declared.sweep.Sizes.{Sizes}
 use Rattle.decoding.specs.declared.sweep.Standing.{Standing}
 use Rattle.decoding.specs.Forcing.{BestForced, forcing}
+use Rattle.decoding.specs.LiveRows.{EndsAre}
 use Rattle.decoding.specs.Stepping.{gainLimit}
 use Rattle.decoding.specs.Sweeping.{RoomsFit, SectionSwept, SizesFit}
 use Rattle.decoding.specs.Taking.{signed}
@@ -52,16 +53,16 @@ module _ (table : List ℕ) (z : Sizes) (samples metrics : List ℤ) (decisions 
       decision-room = rooms .decision-room;
     })
 
-    module _ (metrics′ : List ℤ) (decisions′ : List ℕ) (s : Standing)
+    module _ (ends : List ℕ) (ends-are : EndsAre (take (z .k) table) ends) (metrics′ : List ℤ) (decisions′ : List ℕ) (s : Standing)
         (w : SectionSwept table z (turnedBy (z .rest) (set samples p g)) 0 metrics decisions metrics′ decisions′ s) where
       best-is : getD metrics′ (s .from) (pos 0) ≡ best (sectionOf (take (z .k) table)) (turnedBy (z .rest) (set samples p g)) 0 0
-      best-is = metric-is table z (turnedBy (z .rest) (set samples p g)) metrics decisions fit rooms-forced metrics′ decisions′ s w
+      best-is = metric-is table z (turnedBy (z .rest) (set samples p g)) metrics decisions fit rooms-forced ends ends-are metrics′ decisions′ s w
 
       pub from-there : s .from < length metrics′
-      from-there = metric-there table z (turnedBy (z .rest) (set samples p g)) metrics decisions fit rooms-forced metrics′ decisions′ s w
+      from-there = metric-there table z (turnedBy (z .rest) (set samples p g)) metrics decisions fit rooms-forced ends ends-are metrics′ decisions′ s w
 
       pub from-few : s .from ≤ z .half
-      from-few = from-small table z (turnedBy (z .rest) (set samples p g)) metrics decisions fit rooms-forced metrics′ decisions′ s w
+      from-few = from-small table z (turnedBy (z .rest) (set samples p g)) metrics decisions fit rooms-forced ends ends-are metrics′ decisions′ s w
 
       pub best-small : natAbs (getD metrics′ (s .from) (pos 0)) ≤ 2 ^ 26
       best-small =

@@ -33,7 +33,6 @@ pub mod EndsFound
 pub mod PassedRows
 pub mod MarkCounts
 pub mod PassedBack
-pub mod ListedSections
 pub mod TakenRows
 pub mod WalkSection
 pub mod WalkEnds

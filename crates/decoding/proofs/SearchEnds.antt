@@ -49,10 +49,10 @@ swept-unforced {table} {z} {samples} {metrics} {metrics′} {decisions} {decisio
     subst (λ (ys : List ℤ). SectionSwept table z ys 0 metrics decisions metrics′ decisions′ s) (none-forced z samples (r .size)) w
 
 module _ (table : List ℕ) (z : Sizes) (samples metrics : List ℤ) (decisions : List ℕ) (fit : SizesFit table z) (rooms : RoomsFit z samples metrics decisions)
-    (metrics′ : List ℤ) (decisions′ : List ℕ) (s : Standing)
+    (ends : List ℕ) (ends-are : EndsAre (take (z .k) table) ends) (metrics′ : List ℤ) (decisions′ : List ℕ) (s : Standing)
     (w : SectionSwept table z samples 0 metrics decisions metrics′ decisions′ s) where
-  pub walk-fits : (ends : List ℕ) → EndsAre (take (z .k) table) ends → 0 < z .words → WalkFits table z ends samples decisions′
-  walk-fits ends ends-are wanted = record {
+  pub walk-fits : 0 < z .words → WalkFits table z ends samples decisions′
+  walk-fits wanted = record {
     fit = fit;
     wanted = wanted;
     ends-are = ends-are;
@@ -79,13 +79,13 @@ module _ (table : List ℕ) (z : Sizes) (samples metrics : List ℤ) (decisions 
 
 -- the same of a sweep whose samples are turned by the rest
 module _ (table : List ℕ) (z : Sizes) (samples metrics : List ℤ) (decisions : List ℕ) (fit : SizesFit table z) (rooms : RoomsFit z samples metrics decisions)
-    (metrics′ : List ℤ) (decisions′ : List ℕ) (s : Standing)
+    (ends : List ℕ) (ends-are : EndsAre (take (z .k) table) ends) (metrics′ : List ℤ) (decisions′ : List ℕ) (s : Standing)
     (w : SectionSwept table z (turnedBy (z .rest) samples) 0 metrics decisions metrics′ decisions′ s) where
   pub searched : (a : Answer) → a .word ≡ bitXor (wordFrom (sectionOf (take (z .k) table)) (turnedBy (z .rest) samples) 0 0) (z .rest)
       → a .metric ≡ getD metrics′ (s .from) (pos 0) → a .counts ≡ s .counts → Searched table z samples metrics decisions metrics′ decisions′ a
   searched a e m k = record {
     word = e;
-    metric = m ∙ metric-is table z (turnedBy (z .rest) samples) metrics decisions fit (rooms-turned (z .rest) rooms) metrics′ decisions′ s w;
+    metric = m ∙ metric-is table z (turnedBy (z .rest) samples) metrics decisions fit (rooms-turned (z .rest) rooms) ends ends-are metrics′ decisions′ s w;
     counts = k ∙ w .swept .counts;
     kept = w .kept;
   }

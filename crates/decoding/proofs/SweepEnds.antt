@@ -12,7 +12,7 @@ use Prim.Native.Nat.{_-_, _<_, _^_, suc, ℕ, _≤_}
 use Rattle.decoding.specs.Backward.{best, counted}
 use Rattle.decoding.specs.declared.sweep.Sizes.{Sizes}
 use Rattle.decoding.specs.declared.sweep.Standing.{Standing}
-use Rattle.decoding.specs.Listed.{Listed}
+use Rattle.decoding.specs.LiveRows.{EndsAre}
 use Rattle.decoding.specs.Stepping.{olds}
 use Rattle.decoding.specs.Sweeping.{BeforeSection, Kept, RoomsFit, SectionSwept, SizesFit, Swept}
 use Rattle.trellises.specs.SectionOf.{sectionOf}
@@ -51,10 +51,11 @@ module _ (table : List ℕ) (z : Sizes) (samples metrics : List ℤ) (decisions 
 
   -- at the far end there is one state, with metric 0
   pub sweep-start : SectionSwept table z samples (z .n) metrics decisions (set metrics 0 (pos 0)) decisions
-      (record { from = 0; counts = record { additions = 0; comparisons = 0 } })
+      (record { from = 0; live = record { marks = 0; next = z .k }; counts = record { additions = 0; comparisons = 0 } })
   sweep-start = record {
     swept = record {
       side = inl refl;
+      live = record { marks-are = sym (fit .end-live); next-is = sym (fit .all-begun) };
       metric = λ i h. only i (omega (arith, h, ap (λ (x : ℕ). 2 ^ x) (fit .end-state))) ∙ ap (λ (ys : List ℤ). best (sectionOf (take (z .k) table)) ys (z .n) i) (sym no-samples);
       decision = λ d u h k. absurd (omega arith);
       counts = ap (λ (ys : List ℤ). counted (sectionOf (take (z .k) table)) ys (z .n)) (sym no-samples);
@@ -71,11 +72,11 @@ module _ (table : List ℕ) (z : Sizes) (samples metrics : List ℤ) (decisions 
       only i e = ap (λ (x : ℕ). olds (set metrics 0 (pos 0)) 0 x) e ∙ getD-set-same metrics 0 (pos 0) (pos 0) room-start
 
   -- one section on, from what the sweep had
-  pub before-section : (listed : List ℕ) → Listed (take (z .k) table) (z .n) listed → (t : ℕ) → 0 < t → t ≤ z .n → (metrics′ : List ℤ) (decisions′ : List ℕ) (s : Standing)
-      → SectionSwept table z samples t metrics decisions metrics′ decisions′ s → BeforeSection table z listed samples (t - 1) metrics′ decisions′ s
-  before-section listed e t p h metrics′ decisions′ s w = record {
+  pub before-section : (ends : List ℕ) → EndsAre (take (z .k) table) ends → (t : ℕ) → 0 < t → t ≤ z .n → (metrics′ : List ℤ) (decisions′ : List ℕ) (s : Standing)
+      → SectionSwept table z samples t metrics decisions metrics′ decisions′ s → BeforeSection table z ends samples (t - 1) metrics′ decisions′ s
+  before-section ends e t p h metrics′ decisions′ s w = record {
     fit = fit;
-    sections-are = e;
+    ends-are = e;
     rooms = rooms-kept (w .kept) rooms;
     depth = omega arith;
     swept = let d : t ≡ suc (t - 1) = omega arith in subst (λ (u : ℕ). Swept (take (z .k) table) z samples u metrics′ decisions′ s) d (w .swept);

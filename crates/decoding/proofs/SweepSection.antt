@@ -17,6 +17,8 @@ use Rattle.decoding.specs.Backward.{best, counted, decided}
 use Rattle.decoding.specs.declared.Counts.{Counts}
 use Rattle.decoding.specs.declared.sweep.Sizes.{Sizes}
 use Rattle.decoding.specs.declared.sweep.Standing.{Standing}
+use Rattle.decoding.specs.declared.live.Live.{Live}
+use Rattle.decoding.specs.LiveRows.{LiveAt}
 use Rattle.decoding.specs.Stepping.{StepFits, Stepped, gainLimit, olds}
 use Rattle.decoding.specs.Sweeping.{RoomsFit, SectionSwept, SizesFit, Swept}
 use Rattle.decoding.specs.Taking.{Taken, atState, counting}
@@ -121,7 +123,8 @@ module _ (table : List ℕ) (z : Sizes) (samples metrics : List ℤ) (decisions 
   same-choice i k = choice-same (sections t) sample (olds metrics (s .from)) (best sections behind (suc t)) i k (λ x l. w .metric (leadsTo (sections t) x) (fit .chain .leads t h x l))
 
   module _ (metrics′ : List ℤ) (part′ : List ℕ) (k′ : Counts)
-      (did : Stepped metrics (s .from) (z .half - s .from) (take (t * z .words + z .words - t * z .words) (drop (t * z .words) decisions)) (sectionOf (take (z .k) table) t) (getD samples t (pos 0)) (s .counts) metrics′ part′ k′) where
+      (did : Stepped metrics (s .from) (z .half - s .from) (take (t * z .words + z .words - t * z .words) (drop (t * z .words) decisions)) (sectionOf (take (z .k) table) t) (getD samples t (pos 0)) (s .counts) metrics′ part′ k′)
+      (live′ : Live) (live-is′ : LiveAt (take (z .k) table) t live′) where
     abbrev decisions′ : List ℕ
     decisions′ = take begin decisions ++ (part′ ++ drop (begin + z .words - begin) (drop begin decisions))
 
@@ -165,9 +168,9 @@ module _ (table : List ℕ) (z : Sizes) (samples metrics : List ℤ) (decisions 
         ∙ counting-same (sections t) sample (olds metrics (s .from)) (best sections behind (suc t)) (2 ^ (sections t) .live) (counted sections behind (suc t))
         ∙ ap (λ (ys : List ℤ). counted sections ys t) (sym samples-split)
 
-    section-swept : SectionSwept table z samples t metrics decisions metrics′ decisions′ (record { from = z .half - s .from; counts = k′ })
+    section-swept : SectionSwept table z samples t metrics decisions metrics′ decisions′ (record { from = z .half - s .from; live = live′; counts = k′ })
     section-swept = record {
-      swept = record { side = other-side (w .side); metric = metric′; decision = decision′; counts = counts′ };
+      swept = record { side = other-side (w .side); live = live-is′; metric = metric′; decision = decision′; counts = counts′ };
       kept = record {
         metrics-size = did .size;
         metrics-rest = λ i k. did .others i (inr (omega (arith, fit .half-room t (omega arith), k)));
@@ -179,9 +182,11 @@ module _ (table : List ℕ) (z : Sizes) (samples metrics : List ℤ) (decisions 
   -- the same of the section and the sample as the code has them
   pub section-done : (c : Section) → c ≡ sectionOf (take (z .k) table) t → (y : ℤ) → y ≡ getD samples t (pos 0) → (metrics′ : List ℤ) (part′ : List ℕ) (k′ : Counts)
       → Stepped metrics (s .from) (z .half - s .from) (take (t * z .words + z .words - t * z .words) (drop (t * z .words) decisions)) c y (s .counts) metrics′ part′ k′
+      → (live′ : Live) → LiveAt (take (z .k) table) t live′
       → SectionSwept table z samples t metrics decisions metrics′ (take (t * z .words) decisions ++ (part′ ++ drop (t * z .words + z .words - t * z .words) (drop (t * z .words) decisions)))
-      (record { from = z .half - s .from; counts = k′ })
-  section-done c e y f metrics′ part′ k′ did =
+      (record { from = z .half - s .from; live = live′; counts = k′ })
+  section-done c e y f metrics′ part′ k′ did live′ l =
       section-swept metrics′ part′ k′
       (subst (λ (x : ℤ). Stepped metrics (s .from) (z .half - s .from) part (sections t) x (s .counts) metrics′ part′ k′) f
       (subst (λ (d : Section). Stepped metrics (s .from) (z .half - s .from) part d y (s .counts) metrics′ part′ k′) e did))
+      live′ l

@@ -9,6 +9,7 @@ use Rattle.decoding.proofs.SearchEnds.{metric-is, rooms-turned}
 use Rattle.decoding.specs.declared.apart.Measure.{Measure}
 use Rattle.decoding.specs.declared.sweep.Sizes.{Sizes}
 use Rattle.decoding.specs.declared.sweep.Standing.{Standing}
+use Rattle.decoding.specs.LiveRows.{EndsAre}
 use Rattle.decoding.specs.Searching.{MetricSearched}
 use Rattle.decoding.specs.Sweeping.{Kept, RoomsFit, SectionSwept, SizesFit, undecided}
 use Rattle.decoding.specs.Turning.{turnedBy}
@@ -42,11 +43,11 @@ undecided-keeps k = record {
 }
 
 module _ (table : List ℕ) (z : Sizes) (samples metrics : List ℤ) (fit : SizesFit table z) (rooms : RoomsFit (undecided z) samples metrics [])
-    (metrics′ : List ℤ) (decisions′ : List ℕ) (s : Standing)
+    (ends : List ℕ) (ends-are : EndsAre (take (z .k) table) ends) (metrics′ : List ℤ) (decisions′ : List ℕ) (s : Standing)
     (w : SectionSwept table (undecided z) (turnedBy (z .rest) samples) 0 metrics [] metrics′ decisions′ s) where
   pub metric-searched : (m : Measure) → m .metric ≡ getD metrics′ (s .from) (pos 0) → m .counts ≡ s .counts → MetricSearched table z samples metrics metrics′ m
   metric-searched m e k = record {
-    metric = e ∙ metric-is table (undecided z) (turnedBy (z .rest) samples) metrics [] (undecided-fits fit) (rooms-turned (z .rest) rooms) metrics′ decisions′ s w;
+    metric = e ∙ metric-is table (undecided z) (turnedBy (z .rest) samples) metrics [] (undecided-fits fit) (rooms-turned (z .rest) rooms) ends ends-are metrics′ decisions′ s w;
     counts = k ∙ w .swept .counts;
     size = w .kept .metrics-size;
     rest = w .kept .metrics-rest;

@@ -6,7 +6,6 @@ pub mod Metric
 pub mod Backward
 pub mod Decode
 pub mod LiveRows
-pub mod Listed
 pub mod Sweeping
 pub mod Choosing
 pub mod Running

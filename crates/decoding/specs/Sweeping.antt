@@ -12,8 +12,7 @@ use Rattle.decoding.specs.declared.sweep.Sizes.{Sizes}
 use Rattle.decoding.specs.declared.sweep.Standing.{Standing}
 use Rattle.decoding.specs.declared.walk.Walk.{Walk}
 use Rattle.decoding.specs.Backward.{Chain, best, counted, decided, wordFrom}
-use Rattle.decoding.specs.Listed.{Listed}
-use Rattle.decoding.specs.LiveRows.{EndsAre, PlateRows, Taken, begunBefore, liveMarks}
+use Rattle.decoding.specs.LiveRows.{EndsAre, LiveAt, PlateRows, Taken, begunBefore, liveMarks}
 use Rattle.decoding.specs.Stepping.{gainLimit, olds}
 use Rattle.decoding.specs.Turning.{turnedBy}
 
@@ -51,9 +50,10 @@ pub record RoomsFit (z : Sizes) (samples metrics : List ℤ) (decisions : List �
   pub decision-room : z .n * z .words ≤ length decisions
 
 -- what the sweep has when it has come to depth t: the best metrics of its states, the decisions of the sections from t on where they are
--- wanted, and what was counted
+-- wanted, the live rows, and what was counted
 pub record Swept (rows : List ℕ) (z : Sizes) (samples : List ℤ) (t : ℕ) (metrics : List ℤ) (decisions : List ℕ) (s : Standing) : Type 0 where
   pub side : (s .from ≡ 0) ⊎ (s .from ≡ z .half)
+  pub live : LiveAt rows t (s .live)
   pub metric : (i : ℕ) → i < 2 ^ (sectionOf rows t) .live → olds metrics (s .from) i ≡ best (sectionOf rows) (drop t samples) t i
   pub decision : 0 < z .words → (u : ℕ) → t ≤ u → u < z .n → (i : ℕ) → i < 2 ^ (sectionOf rows u) .live
       → bit (getD decisions (u * z .words + i / 64) 0) (i % 64) ≡ decided (sectionOf rows) (getD samples u (pos 0)) (drop (suc u) samples) u i
@@ -99,10 +99,10 @@ pub record WalkFits (table : List ℕ) (z : Sizes) (ends : List ℕ) (samples : 
       → bit (getD decisions (t * z .words + i / 64) 0) (i % 64) ≡ decided (sectionOf (take (z .k) table)) (getD samples t (pos 0)) (drop (suc t) samples) t i
 
 -- what section t of the sweep asks: the sweep has come to its far side
-pub record BeforeSection (table : List ℕ) (z : Sizes) (listed : List ℕ) (samples : List ℤ) (t : ℕ) (metrics : List ℤ) (decisions : List ℕ)
+pub record BeforeSection (table : List ℕ) (z : Sizes) (ends : List ℕ) (samples : List ℤ) (t : ℕ) (metrics : List ℤ) (decisions : List ℕ)
     (s : Standing) : Type 0 where
   pub fit : SizesFit table z
-  pub sections-are : Listed (take (z .k) table) (z .n) listed
+  pub ends-are : EndsAre (take (z .k) table) ends
   pub rooms : RoomsFit z samples metrics decisions
   pub depth : t < z .n
   pub swept : Swept (take (z .k) table) z samples (suc t) metrics decisions s

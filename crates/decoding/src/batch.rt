@@ -1,21 +1,23 @@
 // Many blocks of one plate in one call: each is decoded for itself, and the plate is tested once.
+use crate::Answer;
 use crate::Counts;
-use crate::listed::sections_of;
 use crate::live::ending_rows;
 use crate::rooms::clear_decisions;
 use crate::rooms::clear_metrics;
 use crate::rooms::sizes_of;
 use crate::samples::first_over;
-use crate::search::search;
+use crate::sweep::Forced;
 use crate::sweep::Sizes;
+use crate::sweep::sweep;
+use crate::walk::read_off;
 use plates::Refusal;
 ghost use lib.ListN.{length, take};
 ghost use Prim.Native.Nat.{_<_};
 ghost use Rattle.decoding.specs.Batch.{DecodesBlocks};
 ghost use Rattle.decoding.specs.Batching.{AreBlocks, BlockFits, BlockPut, BlocksFit, BlocksPut};
-ghost use Rattle.decoding.specs.Listed.{Listed};
 ghost use Rattle.decoding.specs.LiveRows.{EndsAre};
-ghost use Rattle.decoding.specs.Sweeping.{SizesFit};
+ghost use Rattle.decoding.specs.Searching.{Searched};
+ghost use Rattle.decoding.specs.Sweeping.{RoomsFit, SizesFit};
 ghost use Rattle.plates.specs.Prepare.{IsPrepared, ofParts};
 
 // What the steps counted for each of the blocks, or why none is decoded.
@@ -38,12 +40,51 @@ fn are_blocks(samples: usize, n: usize, words: usize, scores: usize) -> bool
     scores == words
 }
 
+// The same as `search`, which decoding alone calls: a function that is called from one place is compiled into its caller and has no stack of
+// its own, which decoding on the controller cannot spare.
+fn search_block(
+    rows: &[u64],
+    sizes: Sizes,
+    ends: &[u8; 64],
+    samples: &[i16],
+    metrics: &mut [i32],
+    decisions: &mut [u64],
+) -> Answer
+    requires { ⌜ SizesFit (now rows) sizes ⌝ }
+    requires { ⌜ EndsAre (take (sizes .k) (now rows)) (now ends) ⌝ }
+    requires { ⌜ RoomsFit sizes (now samples) (now metrics) (now decisions) ⌝ }
+    requires { ⌜ 0 < sizes .words ⌝ }
+    ensures { λ r. ⌜ Searched (now (rows .entry)) sizes (now (samples .entry)) (now (metrics .entry)) (now (decisions .entry)) (now (metrics .exit)) (now (decisions .exit)) r ⌝ }
+{
+    let none = Forced {
+        position: sizes.n,
+        gain: 0,
+    };
+    let at = sweep(
+        rows,
+        sizes,
+        ends,
+        samples,
+        none,
+        &mut *metrics,
+        &mut *decisions,
+    );
+    let word = read_off(rows, sizes, ends, samples, &*decisions);
+    let from = at.from;
+    let metric = metrics[from];
+    let counts = at.counts;
+    Answer {
+        word,
+        metric,
+        counts,
+    }
+}
+
 // A block searched: its word and metric are stored at their place, and its counts replied.
 fn put_block(
     rows: &[u64],
     sizes: Sizes,
     ends: &[u8; 64],
-    listed: &[u32; 64],
     block: &[i16],
     at: usize,
     found: &mut [u64],
@@ -53,26 +94,17 @@ fn put_block(
 ) -> Counts
     requires { ⌜ SizesFit (now rows) sizes ⌝ }
     requires { ⌜ EndsAre (take (sizes .k) (now rows)) (now ends) ⌝ }
-    requires { ⌜ Listed (take (sizes .k) (now rows)) (sizes .n) (now listed) ⌝ }
     requires { ⌜ BlockFits sizes (now block) at (now found) (now scores) (now metrics) (now decisions) ⌝ }
     ensures { λ r. ⌜ BlockPut (now (rows .entry)) sizes (now (block .entry)) at (now (found .entry)) (now (scores .entry)) (now (metrics .entry)) (now (decisions .entry)) (now (found .exit)) (now (scores .exit)) (now (metrics .exit)) (now (decisions .exit)) r ⌝ }
 {
-    let answer = search(
-        rows,
-        sizes,
-        ends,
-        listed,
-        block,
-        &mut *metrics,
-        &mut *decisions,
-    );
+    let answer = search_block(rows, sizes, ends, block, &mut *metrics, &mut *decisions);
     let metric = answer.metric;
     found[at] = answer.word;
     scores[at] = metric;
     answer.counts
 }
 
-// All blocks, from the first to the last; the sections are found once.
+// All blocks, from the first to the last; where the rows end is found once.
 fn put_blocks(
     rows: &[u64],
     sizes: Sizes,
@@ -87,7 +119,6 @@ fn put_blocks(
     ensures { λ r. ⌜ BlocksPut (now (rows .entry)) sizes (now (samples .entry)) (now (found .entry)) (now (scores .entry)) (now (metrics .entry)) (now (decisions .entry)) (length (now (found .entry))) (now (found .exit)) (now (scores .exit)) (now (metrics .exit)) (now (decisions .exit)) r ⌝ }
 {
     let ends = ending_rows(rows, sizes.k);
-    let listed = sections_of(rows, sizes, &ends);
     let mut counts = Counts {
         additions: 0,
         comparisons: 0,
@@ -100,7 +131,6 @@ fn put_blocks(
             rows,
             sizes,
             &ends,
-            &listed,
             &samples[begin..end],
             at,
             &mut *found,

@@ -1,6 +1,5 @@
 // How firmly one position of a block was received.
 use crate::choices::sign_of;
-use crate::listed::sections_of;
 use crate::live::ending_rows;
 use crate::rooms::clear_decisions;
 use crate::rooms::clear_metrics;
@@ -15,7 +14,7 @@ ghost use lib.ListN.{length, take};
 ghost use Prim.Native.Nat.{_<_, _≤_};
 ghost use Rattle.decoding.specs.Firmness.{TellsFirmness};
 ghost use Rattle.decoding.specs.Forcing.{BestForced, FirstWith, ReadAt};
-ghost use Rattle.decoding.specs.Listed.{Listed};
+ghost use Rattle.decoding.specs.LiveRows.{EndsAre};
 ghost use Rattle.decoding.specs.Sweeping.{RoomsFit, SizesFit};
 ghost use Rattle.plates.specs.Prepare.{ofParts};
 
@@ -59,7 +58,7 @@ fn first_with(rows: &[u64], k: usize, position: usize) -> usize
 fn best_with(
     rows: &[u64],
     sizes: Sizes,
-    listed: &[u32; 64],
+    ends: &[u8; 64],
     samples: &[i16],
     position: usize,
     bit: u64,
@@ -67,7 +66,7 @@ fn best_with(
     decisions: &mut [u64],
 ) -> i32
     requires { ⌜ SizesFit (now rows) sizes ⌝ }
-    requires { ⌜ Listed (take (sizes .k) (now rows)) (sizes .n) (now listed) ⌝ }
+    requires { ⌜ EndsAre (take (sizes .k) (now rows)) (now ends) ⌝ }
     requires { ⌜ RoomsFit sizes (now samples) (now metrics) (now decisions) ⌝ }
     requires { ⌜ position < sizes .n ⌝ }
     ensures { λ r. ⌜ BestForced (now (rows .entry)) sizes (now (samples .entry)) position bit (now (metrics .entry)) (now (decisions .entry)) (now (metrics .exit)) (now (decisions .exit)) r ⌝ }
@@ -80,7 +79,7 @@ fn best_with(
     let at = sweep(
         rows,
         sizes,
-        listed,
+        ends,
         samples,
         forced,
         &mut *metrics,
@@ -110,7 +109,6 @@ fn reading_at(
         return Reading::Fixed(words::bit_at(sizes.rest, position));
     }
     let ends = ending_rows(rows, sizes.k);
-    let listed = sections_of(rows, sizes, &ends);
     let undecided = Sizes {
         n: sizes.n,
         k: sizes.k,
@@ -121,7 +119,7 @@ fn reading_at(
     let zero = best_with(
         rows,
         undecided,
-        &listed,
+        &ends,
         samples,
         position,
         0,
@@ -131,7 +129,7 @@ fn reading_at(
     let one = best_with(
         rows,
         undecided,
-        &listed,
+        &ends,
         samples,
         position,
         1,

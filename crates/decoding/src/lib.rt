@@ -11,7 +11,6 @@ mod blocks;
 mod choices;
 pub mod cosets;
 pub mod firmness;
-mod listed;
 mod live;
 mod patterns;
 mod prepared;

@@ -1,6 +1,5 @@
 // Decoding of a plate that has been tested.
 use crate::Decoded;
-use crate::listed::sections_of;
 use crate::live::ending_rows;
 use crate::rooms::clear_decisions;
 use crate::rooms::clear_metrics;
@@ -42,16 +41,7 @@ pub fn decode_prepared<'a>(
         return Decoded::Refused(Refusal::DecisionRoom);
     }
     let ends = ending_rows(rows, sizes.k);
-    let listed = sections_of(rows, sizes, &ends);
-    let answer = search(
-        rows,
-        sizes,
-        &ends,
-        &listed,
-        samples,
-        &mut *metrics,
-        &mut *decisions,
-    );
+    let answer = search(rows, sizes, &ends, samples, &mut *metrics, &mut *decisions);
     clear_metrics(&mut *metrics, metric_need);
     clear_decisions(&mut *decisions, decision_need);
     Decoded::Found(answer)

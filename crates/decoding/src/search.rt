@@ -1,7 +1,6 @@
 // The best word of a plate, or its metric alone, before the rooms are put to zero.
 use crate::Answer;
 use crate::apart::Measure;
-use crate::listed::sections_of;
 use crate::live::ending_rows;
 use crate::sweep::Forced;
 use crate::sweep::Sizes;
@@ -10,7 +9,6 @@ use crate::walk::read_off;
 ghost use lib.ListN.{take};
 ghost use mathlib.Core.List.{[]};
 ghost use Prim.Native.Nat.{_<_};
-ghost use Rattle.decoding.specs.Listed.{Listed};
 ghost use Rattle.decoding.specs.LiveRows.{EndsAre};
 ghost use Rattle.decoding.specs.Searching.{MetricSearched, Searched};
 ghost use Rattle.decoding.specs.Sweeping.{RoomsFit, SizesFit, undecided};
@@ -20,14 +18,12 @@ pub fn search(
     rows: &[u64],
     sizes: Sizes,
     ends: &[u8; 64],
-    listed: &[u32; 64],
     samples: &[i16],
     metrics: &mut [i32],
     decisions: &mut [u64],
 ) -> Answer
     requires { ⌜ SizesFit (now rows) sizes ⌝ }
     requires { ⌜ EndsAre (take (sizes .k) (now rows)) (now ends) ⌝ }
-    requires { ⌜ Listed (take (sizes .k) (now rows)) (sizes .n) (now listed) ⌝ }
     requires { ⌜ RoomsFit sizes (now samples) (now metrics) (now decisions) ⌝ }
     requires { ⌜ 0 < sizes .words ⌝ }
     ensures { λ r. ⌜ Searched (now (rows .entry)) sizes (now (samples .entry)) (now (metrics .entry)) (now (decisions .entry)) (now (metrics .exit)) (now (decisions .exit)) r ⌝ }
@@ -39,7 +35,7 @@ pub fn search(
     let at = sweep(
         rows,
         sizes,
-        listed,
+        ends,
         samples,
         none,
         &mut *metrics,
@@ -63,7 +59,6 @@ pub fn search_metric(rows: &[u64], sizes: Sizes, samples: &[i16], metrics: &mut 
     ensures { λ r. ⌜ MetricSearched (now (rows .entry)) sizes (now (samples .entry)) (now (metrics .entry)) (now (metrics .exit)) r ⌝ }
 {
     let ends = ending_rows(rows, sizes.k);
-    let listed = sections_of(rows, sizes, &ends);
     let undecided = Sizes {
         n: sizes.n,
         k: sizes.k,
@@ -79,7 +74,7 @@ pub fn search_metric(rows: &[u64], sizes: Sizes, samples: &[i16], metrics: &mut 
     let at = sweep(
         rows,
         undecided,
-        &listed,
+        &ends,
         samples,
         none,
         &mut *metrics,

@@ -1,13 +1,14 @@
 // The sections of a plate taken one after the other, from the far end to the start.
 use crate::Counts;
 use crate::choices::sign_of;
-use crate::listed::unpacked;
+use crate::live::Live;
+use crate::live::pass_back;
 use crate::step::step;
 ghost use lib.IntN.{natAbs, pos};
 ghost use lib.ListN.{getD, length, take};
 ghost use mathlib.Core.Path.{_≡_};
 ghost use Prim.Native.Nat.{_^_, _<_, _≤_};
-ghost use Rattle.decoding.specs.Listed.{Listed};
+ghost use Rattle.decoding.specs.LiveRows.{EndsAre};
 ghost use Rattle.decoding.specs.Sweeping.{BeforeSection, RoomsFit, SectionSwept, SizesFit, forcedTo, gainsOf};
 
 // How large a decode is: positions, rows, metrics in each half of the room, and decision words a section; and the rest, which codewords are
@@ -20,9 +21,10 @@ pub struct Sizes {
     pub rest: u64,
 }
 
-// Where the sweep stands: where the metrics of its depth begin, and what was counted.
+// Where the sweep stands: where the metrics of its depth begin, the rows live there, and what was counted.
 pub struct Standing {
     pub from: usize,
+    pub live: Live,
     pub counts: Counts,
 }
 
@@ -66,7 +68,7 @@ fn gain_at(samples: &[i16], sizes: Sizes, forced: Forced, t: usize) -> i32
 fn sweep_section(
     rows: &[u64],
     sizes: Sizes,
-    listed: &[u32; 64],
+    ends: &[u8; 64],
     samples: &[i16],
     forced: Forced,
     t: usize,
@@ -74,9 +76,10 @@ fn sweep_section(
     decisions: &mut [u64],
     at: Standing,
 ) -> Standing
-    requires { ⌜ BeforeSection (now rows) sizes (now listed) (gainsOf sizes (now samples) forced) t (now metrics) (now decisions) at ⌝ }
+    requires { ⌜ BeforeSection (now rows) sizes (now ends) (gainsOf sizes (now samples) forced) t (now metrics) (now decisions) at ⌝ }
     ensures { λ r. ⌜ SectionSwept (now (rows .entry)) sizes (gainsOf sizes (now (samples .entry)) forced) t (now (metrics .entry)) (now (decisions .entry)) (now (metrics .exit)) (now (decisions .exit)) r ⌝ }
 {
+    let passed = pass_back(rows, sizes.k, ends, at.live, t);
     let to = sizes.half - at.from;
     let begin = t * sizes.words;
     let end = begin + sizes.words;
@@ -85,31 +88,40 @@ fn sweep_section(
         at.from,
         to,
         &mut decisions[begin..end],
-        unpacked(listed[t]),
+        passed.section,
         gain_at(samples, sizes, forced, t),
         at.counts,
     );
-    Standing { from: to, counts }
+    let live = passed.live;
+    Standing {
+        from: to,
+        live,
+        counts,
+    }
 }
 
 // All sections, the forced one with its own gain.
 pub fn sweep(
     rows: &[u64],
     sizes: Sizes,
-    listed: &[u32; 64],
+    ends: &[u8; 64],
     samples: &[i16],
     forced: Forced,
     metrics: &mut [i32],
     decisions: &mut [u64],
 ) -> Standing
     requires { ⌜ SizesFit (now rows) sizes ⌝ }
-    requires { ⌜ Listed (take (sizes .k) (now rows)) (sizes .n) (now listed) ⌝ }
+    requires { ⌜ EndsAre (take (sizes .k) (now rows)) (now ends) ⌝ }
     requires { ⌜ RoomsFit sizes (gainsOf sizes (now samples) forced) (now metrics) (now decisions) ⌝ }
     ensures { λ r. ⌜ SectionSwept (now (rows .entry)) sizes (gainsOf sizes (now (samples .entry)) forced) 0 (now (metrics .entry)) (now (decisions .entry)) (now (metrics .exit)) (now (decisions .exit)) r ⌝ }
 {
     metrics[0] = 0;
     let mut at = Standing {
         from: 0,
+        live: Live {
+            marks: 0,
+            next: sizes.k,
+        },
         counts: Counts {
             additions: 0,
             comparisons: 0,
@@ -121,7 +133,7 @@ pub fn sweep(
         at = sweep_section(
             rows,
             sizes,
-            listed,
+            ends,
             samples,
             forced,
             t,

@@ -36,22 +36,22 @@ sweep-requires c κs =
 mul-best : tie.Need-mul-best
 mul-best c =
     let s = c .before .before .before .before .before .before .before .before .before .before .before .before in
-    record { fits = omega (arith, from-few (s .args .rows .now) (s .args .sizes) (s .args .samples .now) (s .args .metrics .now) (s .args .decisions .now) (s .pre .0) (s .pre .1 .1 .0) (s .args .position) (s .args .bit) (s .pre .1 .1 .1) _ (sign-copy (s .args .bit) (pos forcing) _ (omega arith) (c .before .before .before .before .before .before .before .before .before .sign-of .ensures)) _ _ _ (c .before .before .before .sweep .ensures), s .pre .0 .half-small) }
+    record { fits = omega (arith, from-few (s .args .rows .now) (s .args .sizes) (s .args .samples .now) (s .args .metrics .now) (s .args .decisions .now) (s .pre .0) (s .pre .1 .1 .0) (s .args .position) (s .args .bit) (s .pre .1 .1 .1) _ (sign-copy (s .args .bit) (pos forcing) _ (omega arith) (c .before .before .before .before .before .before .before .before .before .sign-of .ensures)) (s .args .ends .now) (s .pre .1 .0) _ _ _ (c .before .before .before .sweep .ensures), s .pre .0 .half-small) }
 
 slice-copy-out-best : tie.Need-slice-copy-out-best
 slice-copy-out-best c =
     let s = c .before .before .before .before .before .before .before .before .before .before .before .before in
-    from-there (s .args .rows .now) (s .args .sizes) (s .args .samples .now) (s .args .metrics .now) (s .args .decisions .now) (s .pre .0) (s .pre .1 .1 .0) (s .args .position) (s .args .bit) (s .pre .1 .1 .1) _ (sign-copy (s .args .bit) (pos forcing) _ (omega arith) (c .before .before .before .before .before .before .before .before .before .sign-of .ensures)) _ _ _ (c .before .before .before .sweep .ensures)
+    from-there (s .args .rows .now) (s .args .sizes) (s .args .samples .now) (s .args .metrics .now) (s .args .decisions .now) (s .pre .0) (s .pre .1 .1 .0) (s .args .position) (s .args .bit) (s .pre .1 .1 .1) _ (sign-copy (s .args .bit) (pos forcing) _ (omega arith) (c .before .before .before .before .before .before .before .before .before .sign-of .ensures)) (s .args .ends .now) (s .pre .1 .0) _ _ _ (c .before .before .before .sweep .ensures)
 
 sub-result : tie.Need-sub-result
 sub-result c =
     let s = c .before .before .before .before .before .before .before .before .before .before .before .before .before in
-    less-fits (s .args .rows .now) (s .args .sizes) (s .args .samples .now) (s .args .metrics .now) (s .args .decisions .now) (s .pre .0) (s .pre .1 .1 .0) (s .args .position) (s .args .bit) (s .pre .1 .1 .1) _ (sign-copy (s .args .bit) (pos forcing) _ (omega arith) (c .before .before .before .before .before .before .before .before .before .before .sign-of .ensures)) _ _ _ (c .before .before .before .before .sweep .ensures)
+    less-fits (s .args .rows .now) (s .args .sizes) (s .args .samples .now) (s .args .metrics .now) (s .args .decisions .now) (s .pre .0) (s .pre .1 .1 .0) (s .args .position) (s .args .bit) (s .pre .1 .1 .1) _ (sign-copy (s .args .bit) (pos forcing) _ (omega arith) (c .before .before .before .before .before .before .before .before .before .before .sign-of .ensures)) (s .args .ends .now) (s .pre .1 .0) _ _ _ (c .before .before .before .before .sweep .ensures)
 
 add-result : tie.Need-add-result
 add-result c =
     let s = c .before .before .before .before .before .before .before .before .before .before .before .before .before in
-    total-fits (s .args .rows .now) (s .args .sizes) (s .args .samples .now) (s .args .metrics .now) (s .args .decisions .now) (s .pre .0) (s .pre .1 .1 .0) (s .args .position) (s .args .bit) (s .pre .1 .1 .1) _ (sign-copy (s .args .bit) (pos forcing) _ (omega arith) (c .before .before .before .before .before .before .before .before .before .before .sign-of .ensures)) _ _ _ (c .before .before .before .before .sweep .ensures) _ (own-copy (s .args .rows .now) (s .args .sizes) (s .args .samples .now) (s .args .metrics .now) (s .args .decisions .now) (s .pre .0) (s .pre .1 .1 .0) (s .args .position) (s .args .bit) (s .pre .1 .1 .1) _ _ (c .before .before .before .before .before .before .before .before .gain .ensures ∙ toZ-ofZ {w = w16} (record { sfits = c .before .before .before .before .before .before .before .before .before .gain-arg .given })) (c .before .before .before .before .before .before .before .sign-of2 .ensures))
+    total-fits (s .args .rows .now) (s .args .sizes) (s .args .samples .now) (s .args .metrics .now) (s .args .decisions .now) (s .pre .0) (s .pre .1 .1 .0) (s .args .position) (s .args .bit) (s .pre .1 .1 .1) _ (sign-copy (s .args .bit) (pos forcing) _ (omega arith) (c .before .before .before .before .before .before .before .before .before .before .sign-of .ensures)) (s .args .ends .now) (s .pre .1 .0) _ _ _ (c .before .before .before .before .sweep .ensures) _ (own-copy (s .args .rows .now) (s .args .sizes) (s .args .samples .now) (s .args .metrics .now) (s .args .decisions .now) (s .pre .0) (s .pre .1 .1 .0) (s .args .position) (s .args .bit) (s .pre .1 .1 .1) _ _ (c .before .before .before .before .before .before .before .before .gain .ensures ∙ toZ-ofZ {w = w16} (record { sfits = c .before .before .before .before .before .before .before .before .before .gain-arg .given })) (c .before .before .before .before .before .before .before .sign-of2 .ensures))
 
 same-length : tie.Need-same-length
 same-length c = c .before .before .before .before .sweep .ensures .kept .metrics-size
@@ -62,7 +62,7 @@ same-length-2 c = c .before .before .before .before .sweep .ensures .kept .decis
 returns : tie.Need-returns
 returns c =
     let s = c .before .before .before .before .before .before .before .before .before .before .before .before .before in
-    best-forced (s .args .rows .now) (s .args .sizes) (s .args .samples .now) (s .args .metrics .now) (s .args .decisions .now) (s .pre .0) (s .pre .1 .1 .0) (s .args .position) (s .args .bit) (s .pre .1 .1 .1) _ (sign-copy (s .args .bit) (pos forcing) _ (omega arith) (c .before .before .before .before .before .before .before .before .before .before .sign-of .ensures)) _ _ _ (c .before .before .before .before .sweep .ensures) _ (own-copy (s .args .rows .now) (s .args .sizes) (s .args .samples .now) (s .args .metrics .now) (s .args .decisions .now) (s .pre .0) (s .pre .1 .1 .0) (s .args .position) (s .args .bit) (s .pre .1 .1 .1) _ _ (c .before .before .before .before .before .before .before .before .gain .ensures ∙ toZ-ofZ {w = w16} (record { sfits = c .before .before .before .before .before .before .before .before .before .gain-arg .given })) (c .before .before .before .before .before .before .before .sign-of2 .ensures))
+    best-forced (s .args .rows .now) (s .args .sizes) (s .args .samples .now) (s .args .metrics .now) (s .args .decisions .now) (s .pre .0) (s .pre .1 .1 .0) (s .args .position) (s .args .bit) (s .pre .1 .1 .1) _ (sign-copy (s .args .bit) (pos forcing) _ (omega arith) (c .before .before .before .before .before .before .before .before .before .before .sign-of .ensures)) (s .args .ends .now) (s .pre .1 .0) _ _ _ (c .before .before .before .before .sweep .ensures) _ (own-copy (s .args .rows .now) (s .args .sizes) (s .args .samples .now) (s .args .metrics .now) (s .args .decisions .now) (s .pre .0) (s .pre .1 .1 .0) (s .args .position) (s .args .bit) (s .pre .1 .1 .1) _ _ (c .before .before .before .before .before .before .before .before .gain .ensures ∙ toZ-ofZ {w = w16} (record { sfits = c .before .before .before .before .before .before .before .before .before .gain-arg .given })) (c .before .before .before .before .before .before .before .sign-of2 .ensures))
 
 pub best-with-spec : {M : Type 1} → statement M
 best-with-spec =

@@ -22,18 +22,15 @@ returns c =
 ending-rows-requires : tie.Need-ending-rows-requires
 ending-rows-requires c κs = search needs
 
-sections-of-requires : tie.Need-sections-of-requires
-sections-of-requires c κs = let s = c .before .before .before .before .before .before .before in (s .pre .0, c .before .ending-rows .ensures)
-
 best-with-requires : tie.Need-best-with-requires
 best-with-requires c κs =
-    let s = c .before .before .before .before .before .before .before .before .before .before .before in
-    (undecided-fits (s .pre .0), (c .before .before .before .sections-of .ensures, (undecided-rooms (s .pre .1 .0), s .pre .1 .1)))
+    let s = c .before .before .before .before .before .before .before .before .before in
+    (undecided-fits (s .pre .0), (c .before .before .before .ending-rows .ensures, (undecided-rooms (s .pre .1 .0), s .pre .1 .1)))
 
 best-with-requires-2 : tie.Need-best-with-requires-2
 best-with-requires-2 c κs =
-    let s = c .before .before .before .before .before .before .before .before .before .before .before .before .before .before .before .before .before .before in
-    (undecided-fits (s .pre .0), (c .before .before .before .before .before .before .before .before .before .before .sections-of .ensures, (rooms-kept (c .before .before .before .before .before .before .best-with .ensures .kept) (undecided-rooms (s .pre .1 .0)), s .pre .1 .1)))
+    let s = c .before .before .before .before .before .before .before .before .before .before .before .before .before .before .before .before in
+    (undecided-fits (s .pre .0), (c .before .before .before .before .before .before .before .before .before .before .ending-rows .ensures, (rooms-kept (c .before .before .before .before .before .before .best-with .ensures .kept) (undecided-rooms (s .pre .1 .0)), s .pre .1 .1)))
 
 sub-margin : tie.Need-sub-margin
 sub-margin c = margin-fits (c .before .before .before .before .before .before .before .before .before .before .best-with .result) (c .before .before .before .best-with2 .result) (c .before .before .before .before .before .before .before .before .before .before .best-with .ensures .small) (c .before .before .before .best-with2 .ensures .small)
@@ -46,8 +43,8 @@ same-length-2 c = c .before .before .before .best-with2 .ensures .kept .decision
 
 returns-2 : tie.Need-returns-2
 returns-2 c =
-    let s = c .before .before .before .before .before .before .before .before .before .before .before .before .before .before .before .before .before .before .before .before .before .before in
-    open-read (s .args .rows .now) (s .args .sizes) (s .args .samples .now) (s .args .metrics .now) (s .args .decisions .now) (s .args .position) (c .before .before .before .before .before .before .before .before .before .before .before .before .before .before .before .before .before .before .before .first-with .result) (c .before .before .before .before .before .before .before .before .before .before .before .before .before .before .before .before .before .before .before .first-with .ensures) (c .before .before .before .before .before .before .before .before .before .before .before .before .before .before .before .before .before .if1 .left) _ _ _ _ _ _ (c .before .before .before .before .before .before .before .before .before .before .best-with .ensures) (c .before .before .before .best-with2 .ensures)
+    let s = c .before .before .before .before .before .before .before .before .before .before .before .before .before .before .before .before .before .before .before .before in
+    open-read (s .args .rows .now) (s .args .sizes) (s .args .samples .now) (s .args .metrics .now) (s .args .decisions .now) (s .args .position) (c .before .before .before .before .before .before .before .before .before .before .before .before .before .before .before .before .before .first-with .result) (c .before .before .before .before .before .before .before .before .before .before .before .before .before .before .before .before .before .first-with .ensures) (c .before .before .before .before .before .before .before .before .before .before .before .before .before .before .before .if1 .left) _ _ _ _ _ _ (c .before .before .before .before .before .before .before .before .before .before .best-with .ensures) (c .before .before .before .best-with2 .ensures)
 
 pub reading-at-spec : {M : Type 1} → statement M
 reading-at-spec =
@@ -57,7 +54,6 @@ reading-at-spec =
     bit-at-requires
     returns
     ending-rows-requires
-    sections-of-requires
     best-with-requires
     best-with-requires-2
     sub-margin

@@ -84,54 +84,47 @@ ending-rows-requires c κs =
     let e = sizes-are plate (s .pre) (c .before .before .before .before .sizes-of .result) (c .before .before .before .before .sizes-of .ensures) in
     subst (λ (z : Sizes). PlateRows (s .args .rows .now) (z .k)) (sym e) (plate-sizes-fit plate (s .pre) .plate)
 
-sections-of-requires : tie.Need-sections-of-requires
-sections-of-requires c κs =
-    let s = c .before .before .before .before .before .before .before .before .before .before .before .before .before in
-    let plate = ofParts (s .args .n) (s .args .k) (s .args .mask) (s .args .rows .now) (s .args .profile .now) in
-    let e = sizes-are plate (s .pre) (c .before .before .before .before .before .before .sizes-of .result) (c .before .before .before .before .before .before .sizes-of .ensures) in
-    (subst (SizesFit (s .args .rows .now)) (sym e) (plate-sizes-fit plate (s .pre)), c .before .ending-rows .ensures)
-
 search-requires : tie.Need-search-requires
 search-requires c κs =
-    let s = c .before .before .before .before .before .before .before .before .before .before .before .before .before .before .before .before .before .before in
+    let s = c .before .before .before .before .before .before .before .before .before .before .before .before .before .before .before in
     let plate = ofParts (s .args .n) (s .args .k) (s .args .mask) (s .args .rows .now) (s .args .profile .now) in
     let given = s .pre in
-    let e = sizes-are plate given (c .before .before .before .before .before .before .before .before .before .before .before .sizes-of .result) (c .before .before .before .before .before .before .before .before .before .before .before .sizes-of .ensures) in
-    let m : metricNeed plate ≤ length (s .args .metrics .now) = omega (arith, c .before .before .before .before .before .before .before .before .if3 .left, ap (λ (z : Sizes). z .half) e) in
-    let d : decisionNeed plate ≤ length (s .args .decisions .now) = subst (λ (x : ℕ). s .args .n * x ≤ length (s .args .decisions .now)) (ap (λ (z : Sizes). z .words) e) (omega (arith, c .before .before .before .before .before .before .before .if4 .left)) in
+    let e = sizes-are plate given (c .before .before .before .before .before .before .before .before .sizes-of .result) (c .before .before .before .before .before .before .before .before .sizes-of .ensures) in
+    let m : metricNeed plate ≤ length (s .args .metrics .now) = omega (arith, c .before .before .before .before .before .if3 .left, ap (λ (z : Sizes). z .half) e) in
+    let d : decisionNeed plate ≤ length (s .args .decisions .now) = subst (λ (x : ℕ). s .args .n * x ≤ length (s .args .decisions .now)) (ap (λ (z : Sizes). z .words) e) (omega (arith, c .before .before .before .before .if4 .left)) in
     let f = subst (λ (z : Sizes). SizesFit (s .args .rows .now) z × (RoomsFit z (s .args .samples .now) (s .args .metrics .now) (s .args .decisions .now) × (0 < z .words))) (sym e)
-    (plate-sizes-fit plate given, (rooms-fit plate (s .args .samples .now) (s .args .metrics .now) (s .args .decisions .now) given ((c .before .before .before .before .before .before .before .before .before .before .before .before .before .before .if1 .left)) (c .before .before .before .before .before .before .before .before .before .before .before .before .before .first-over .result) (c .before .before .before .before .before .before .before .before .before .before .before .before .before .first-over .ensures) (λ h. omega (arith, h, c .before .before .before .before .before .before .before .before .before .before .before .before .if2 .left)) m d, omega arith)) in
-    (f .0, (c .before .before .before .before .before .before .ending-rows .ensures, (c .before .before .before .before .sections-of .ensures, f .1)))
+    (plate-sizes-fit plate given, (rooms-fit plate (s .args .samples .now) (s .args .metrics .now) (s .args .decisions .now) given ((c .before .before .before .before .before .before .before .before .before .before .before .if1 .left)) (c .before .before .before .before .before .before .before .before .before .before .first-over .result) (c .before .before .before .before .before .before .before .before .before .before .first-over .ensures) (λ h. omega (arith, h, c .before .before .before .before .before .before .before .before .before .if2 .left)) m d, omega arith)) in
+    (f .0, (c .before .before .before .ending-rows .ensures, f .1))
 
 clear-metrics-requires : tie.Need-clear-metrics-requires
-clear-metrics-requires c κs = omega (arith, c .before .before .before .before .before .before .before .before .before .before .before .before .before .if3 .left, c .before .before .before .before .search .ensures .kept .metrics-size)
+clear-metrics-requires c κs = omega (arith, c .before .before .before .before .before .before .before .before .before .before .if3 .left, c .before .before .before .before .search .ensures .kept .metrics-size)
 
 clear-decisions-requires : tie.Need-clear-decisions-requires
-clear-decisions-requires c κs = omega (arith, c .before .before .before .before .before .before .before .before .before .before .before .before .before .before .before .if4 .left, c .before .before .before .before .before .before .before .search .ensures .kept .decisions-size)
+clear-decisions-requires c κs = omega (arith, c .before .before .before .before .before .before .before .before .before .before .before .before .if4 .left, c .before .before .before .before .before .before .before .search .ensures .kept .decisions-size)
 
 same-length : tie.Need-same-length
 same-length c =
-    let z = c .before .before .before .before .before .before .before .before .before .before .before .before .before .before .before .before .before .before .before .before .before .before .sizes-of .result in
-    let h : z .half + z .half ≤ length (c .before .before .before .before .before .before .before .before .before .before .search .last .1 .1 .1 .1 .1 .0) = omega (arith, c .before .before .before .before .before .before .before .before .before .before .before .before .before .before .before .before .before .before .before .if3 .left, c .before .before .before .before .before .before .before .before .before .before .search .ensures .kept .metrics-size) in
-    length-filled (pos 0) (c .before .before .before .before .before .before .before .before .before .before .search .last .1 .1 .1 .1 .1 .0) _ (z .half + z .half) (c .before .before .before .before .before .clear-metrics .ensures) h ∙ c .before .before .before .before .before .before .before .before .before .before .search .ensures .kept .metrics-size
+    let z = c .before .before .before .before .before .before .before .before .before .before .before .before .before .before .before .before .before .before .before .sizes-of .result in
+    let h : z .half + z .half ≤ length (c .before .before .before .before .before .before .before .before .before .before .search .last .1 .1 .1 .1 .0) = omega (arith, c .before .before .before .before .before .before .before .before .before .before .before .before .before .before .before .before .if3 .left, c .before .before .before .before .before .before .before .before .before .before .search .ensures .kept .metrics-size) in
+    length-filled (pos 0) (c .before .before .before .before .before .before .before .before .before .before .search .last .1 .1 .1 .1 .0) _ (z .half + z .half) (c .before .before .before .before .before .clear-metrics .ensures) h ∙ c .before .before .before .before .before .before .before .before .before .before .search .ensures .kept .metrics-size
 
 same-length-2 : tie.Need-same-length-2
 same-length-2 c =
-    let s = c .before .before .before .before .before .before .before .before .before .before .before .before .before .before .before .before .before .before .before .before .before .before .before .before .before .before .before .before .before in
-    let z = c .before .before .before .before .before .before .before .before .before .before .before .before .before .before .before .before .before .before .before .before .before .before .sizes-of .result in
-    let h : s .args .n * z .words ≤ length (c .before .before .before .before .before .before .before .before .before .before .search .last .1 .1 .1 .1 .1 .1 .0) = omega (arith, c .before .before .before .before .before .before .before .before .before .before .before .before .before .before .before .before .before .before .if4 .left, c .before .before .before .before .before .before .before .before .before .before .search .ensures .kept .decisions-size) in
-    length-filled 0 (c .before .before .before .before .before .before .before .before .before .before .search .last .1 .1 .1 .1 .1 .1 .0) _ (s .args .n * z .words) (c .before .before .clear-decisions .ensures) h ∙ c .before .before .before .before .before .before .before .before .before .before .search .ensures .kept .decisions-size
+    let s = c .before .before .before .before .before .before .before .before .before .before .before .before .before .before .before .before .before .before .before .before .before .before .before .before .before .before in
+    let z = c .before .before .before .before .before .before .before .before .before .before .before .before .before .before .before .before .before .before .before .sizes-of .result in
+    let h : s .args .n * z .words ≤ length (c .before .before .before .before .before .before .before .before .before .before .search .last .1 .1 .1 .1 .1 .0) = omega (arith, c .before .before .before .before .before .before .before .before .before .before .before .before .before .before .before .if4 .left, c .before .before .before .before .before .before .before .before .before .before .search .ensures .kept .decisions-size) in
+    length-filled 0 (c .before .before .before .before .before .before .before .before .before .before .search .last .1 .1 .1 .1 .1 .0) _ (s .args .n * z .words) (c .before .before .clear-decisions .ensures) h ∙ c .before .before .before .before .before .before .before .before .before .before .search .ensures .kept .decisions-size
 
 returns-5 : tie.Need-returns-5
 returns-5 c =
-    let s = c .before .before .before .before .before .before .before .before .before .before .before .before .before .before .before .before .before .before .before .before .before .before .before .before .before .before .before .before .before in
+    let s = c .before .before .before .before .before .before .before .before .before .before .before .before .before .before .before .before .before .before .before .before .before .before .before .before .before .before in
     let plate = ofParts (s .args .n) (s .args .k) (s .args .mask) (s .args .rows .now) (s .args .profile .now) in
     let given = s .pre in
-    let e = sizes-are plate given (c .before .before .before .before .before .before .before .before .before .before .before .before .before .before .before .before .before .before .before .before .before .before .sizes-of .result) (c .before .before .before .before .before .before .before .before .before .before .before .before .before .before .before .before .before .before .before .before .before .before .sizes-of .ensures) in
-    let m : metricNeed plate ≤ length (s .args .metrics .now) = omega (arith, c .before .before .before .before .before .before .before .before .before .before .before .before .before .before .before .before .before .before .before .if3 .left, ap (λ (z : Sizes). z .half) e) in
-    let d : decisionNeed plate ≤ length (s .args .decisions .now) = subst (λ (x : ℕ). s .args .n * x ≤ length (s .args .decisions .now)) (ap (λ (z : Sizes). z .words) e) (omega (arith, c .before .before .before .before .before .before .before .before .before .before .before .before .before .before .before .before .before .before .if4 .left)) in
-    decoded plate (s .args .samples .now) (s .args .metrics .now) (s .args .decisions .now) given ((c .before .before .before .before .before .before .before .before .before .before .before .before .before .before .before .before .before .before .before .before .before .before .before .before .before .if1 .left)) (c .before .before .before .before .before .before .before .before .before .before .before .before .before .before .before .before .before .before .before .before .before .before .before .before .first-over .result) (c .before .before .before .before .before .before .before .before .before .before .before .before .before .before .before .before .before .before .before .before .before .before .before .before .first-over .ensures) (λ h. omega (arith, h, c .before .before .before .before .before .before .before .before .before .before .before .before .before .before .before .before .before .before .before .before .before .before .before .if2 .left)) m d (c .before .before .before .before .before .before .before .before .before .before .search .last .1 .1 .1 .1 .1 .0) (c .before .before .before .before .before .before .before .before .before .before .search .last .1 .1 .1 .1 .1 .1 .0) (c .before .before .before .before .before .before .before .before .before .before .search .result)
-    (subst (λ (z : Sizes). Searched (s .args .rows .now) z (s .args .samples .now) (s .args .metrics .now) (s .args .decisions .now) (c .before .before .before .before .before .before .before .before .before .before .search .last .1 .1 .1 .1 .1 .0) (c .before .before .before .before .before .before .before .before .before .before .search .last .1 .1 .1 .1 .1 .1 .0) (c .before .before .before .before .before .before .before .before .before .before .search .result)) e (c .before .before .before .before .before .before .before .before .before .before .search .ensures)) _ _
+    let e = sizes-are plate given (c .before .before .before .before .before .before .before .before .before .before .before .before .before .before .before .before .before .before .before .sizes-of .result) (c .before .before .before .before .before .before .before .before .before .before .before .before .before .before .before .before .before .before .before .sizes-of .ensures) in
+    let m : metricNeed plate ≤ length (s .args .metrics .now) = omega (arith, c .before .before .before .before .before .before .before .before .before .before .before .before .before .before .before .before .if3 .left, ap (λ (z : Sizes). z .half) e) in
+    let d : decisionNeed plate ≤ length (s .args .decisions .now) = subst (λ (x : ℕ). s .args .n * x ≤ length (s .args .decisions .now)) (ap (λ (z : Sizes). z .words) e) (omega (arith, c .before .before .before .before .before .before .before .before .before .before .before .before .before .before .before .if4 .left)) in
+    decoded plate (s .args .samples .now) (s .args .metrics .now) (s .args .decisions .now) given ((c .before .before .before .before .before .before .before .before .before .before .before .before .before .before .before .before .before .before .before .before .before .before .if1 .left)) (c .before .before .before .before .before .before .before .before .before .before .before .before .before .before .before .before .before .before .before .before .before .first-over .result) (c .before .before .before .before .before .before .before .before .before .before .before .before .before .before .before .before .before .before .before .before .before .first-over .ensures) (λ h. omega (arith, h, c .before .before .before .before .before .before .before .before .before .before .before .before .before .before .before .before .before .before .before .before .if2 .left)) m d (c .before .before .before .before .before .before .before .before .before .before .search .last .1 .1 .1 .1 .0) (c .before .before .before .before .before .before .before .before .before .before .search .last .1 .1 .1 .1 .1 .0) (c .before .before .before .before .before .before .before .before .before .before .search .result)
+    (subst (λ (z : Sizes). Searched (s .args .rows .now) z (s .args .samples .now) (s .args .metrics .now) (s .args .decisions .now) (c .before .before .before .before .before .before .before .before .before .before .search .last .1 .1 .1 .1 .0) (c .before .before .before .before .before .before .before .before .before .before .search .last .1 .1 .1 .1 .1 .0) (c .before .before .before .before .before .before .before .before .before .before .search .result)) e (c .before .before .before .before .before .before .before .before .before .before .search .ensures)) _ _
     (ap (λ (z : Sizes). z .half + z .half) e ∙ omega arith) (ap (λ (z : Sizes). s .args .n * z .words) e) _ (c .before .before .before .before .before .clear-metrics .ensures) _ (c .before .before .clear-decisions .ensures)
 
 pub decode-prepared-spec : {M : Type 1} → statement M
@@ -147,7 +140,6 @@ decode-prepared-spec =
     returns-3
     returns-4
     ending-rows-requires
-    sections-of-requires
     search-requires
     clear-metrics-requires
     clear-decisions-requires

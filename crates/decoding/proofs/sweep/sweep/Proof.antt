@@ -11,10 +11,10 @@ use Rattle.decoding.proofs.sweep.sweep.Statement.{statement}
 use Rattle.decoding.proofs.sweep.sweep.Tie as tie
 
 abbrev Inv-loop : tie.InvT-loop
-Inv-loop rows sizes listed samples forced metrics₀ decisions₀ at₀ t₀ metrics decisions at t = (t ≤ sizes .n) × SectionSwept rows sizes (gainsOf sizes samples forced) t metrics₀ decisions₀ metrics decisions at
+Inv-loop rows sizes ends samples forced metrics₀ decisions₀ at₀ t₀ metrics decisions at t = (t ≤ sizes .n) × SectionSwept rows sizes (gainsOf sizes samples forced) t metrics₀ decisions₀ metrics decisions at
 
 abbrev μ-loop : tie.MeasureT-loop
-μ-loop rows sizes listed samples forced metrics₀ decisions₀ at₀ t₀ metrics decisions at t = t
+μ-loop rows sizes ends samples forced metrics₀ decisions₀ at₀ t₀ metrics decisions at t = t
 
 slice-set-of-metrics : tie.Need-slice-set-of-metrics Inv-loop μ-loop
 slice-set-of-metrics c = let s = c .before .before in room-start (s .args .rows .now) (s .args .sizes) (gainsOf (s .args .sizes) (s .args .samples .now) (s .args .forced)) (s .args .metrics .now) (s .args .decisions .now) (s .pre .0) (s .pre .1 .1)
@@ -32,7 +32,7 @@ sweep-section-requires c κs =
     let s = c .before .before .before .before .before .before in
     let l = c .before .before .before .loop in
     before-section (s .args .rows .now) (s .args .sizes) (gainsOf (s .args .sizes) (s .args .samples .now) (s .args .forced)) _ _ (s .pre .0)
-    (rooms-kept ((sweep-start (s .args .rows .now) (s .args .sizes) (gainsOf (s .args .sizes) (s .args .samples .now) (s .args .forced)) (s .args .metrics .now) (s .args .decisions .now) (s .pre .0) (s .pre .1 .1)) .kept) (s .pre .1 .1)) (s .args .listed .now) (s .pre .1 .0) (l .t) (c .before .before .loop-test .taken) (l .inv .0) _ _ _ (l .inv .1)
+    (rooms-kept ((sweep-start (s .args .rows .now) (s .args .sizes) (gainsOf (s .args .sizes) (s .args .samples .now) (s .args .forced)) (s .args .metrics .now) (s .args .decisions .now) (s .pre .0) (s .pre .1 .1)) .kept) (s .pre .1 .1)) (s .args .ends .now) (s .pre .1 .0) (l .t) (c .before .before .loop-test .taken) (l .inv .0) _ _ _ (l .inv .1)
 
 loop-less : tie.Need-loop-less Inv-loop μ-loop
 loop-less c = search needs
