@@ -101,7 +101,11 @@ fn weights(bytes: &[u8]) -> Result<String, Refusal> {
     }
     let checks = even_with_all(&rows, n);
     let counts = if rows.len() <= MOST_ROWS { count(&rows, n) } else { count_by_dual(&checks, n) };
-    let lines = counts.iter().enumerate().filter(|(_, &number)| number != 0).map(|(weight, number)| format!("weight\t{weight}\t{number}\n"));
+    let lines = counts
+        .iter()
+        .enumerate()
+        .filter(|(_, &number)| number != 0)
+        .map(|(weight, number)| format!("weight\t{weight}\t{number}\n"));
     let least = counts.iter().skip(1).position(|&number| number != 0);
     Ok(lines.collect::<String>() + &least.map_or("least\tnone\n".into(), |at| format!("least\t{}\n", at + 1)))
 }
@@ -128,6 +132,7 @@ pub fn run(verb: &str, files: &[String], into: &str) {
         let bytes = std::fs::read(file).expect("the file is there");
         let (text, status) = answer(verb, &bytes).expect("a verb of the model");
         let name = std::path::Path::new(file).file_name().unwrap().to_str().unwrap().to_owned();
-        std::fs::write(format!("{into}/{name}.{verb}"), format!("{text}status {status}\n")).expect("the answer is written");
+        std::fs::write(format!("{into}/{name}.{verb}"), format!("{text}status {status}\n"))
+            .expect("the answer is written");
     }
 }
