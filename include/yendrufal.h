@@ -20,8 +20,9 @@
  *   own. So calls may run at once, in several threads or in an interrupt, where none writes a run that
  *   another is lent; runs that are only read may be shared.
  * - Every call ends, and no function calls itself, so the stack of a call is bounded whatever the input: on
- *   x86-64 under 11 KiB for yendrufal_listing and at most 2,048 bytes for every other call, beside what
- *   memcpy and memset of the C library take (docs/PERFORMANCE.md has each call's bytes).
+ *   x86-64 under 12 KiB for yendrufal_listing, under 4 KiB for yendrufal_plate_of_sheet and at most 2,048
+ *   bytes for every other call, beside what memcpy and memset of the C library take (docs/PERFORMANCE.md
+ *   has each call's bytes).
  *
  * Below the calls stand types for plates, rooms and answers, and each call that takes a plate once more with these, as an
  * inline function; and the words of a refusal. docs/REFUSALS.md has all refusals: number, words, when, place, and which
