@@ -14,9 +14,9 @@ use Prim.Native.Nat.{◌%◌, ◌+◌, ◌-◌, ◌<◌, ◌^◌, suc, zero, zer
 use Rattle.alists.proofs.NumbersFound.{both}
 use Rattle.alists.proofs.OnesBack.{low-on}
 use Rattle.alists.proofs.OnesRead.{index-fits, one_more}
-use Rattle.alists.specs.Lists.{onesFrom, padded}
-use Rattle.alists.specs.OwnForm.{ascendFrom}
-use Rattle.alists.specs.Reading.{fits, onesOf, word, word_of, wrong, zerosOnly}
+use Rattle.alists.specs.Lists.{ones_from, padded}
+use Rattle.alists.specs.OwnForm.{ascend_from}
+use Rattle.alists.specs.Reading.{fits, ones_of, word, word_of, wrong, zeros_only}
 use Rattle.words.proofs.Word.{bit-cases}
 use Rattle.words.specs.Word.{bit}
 
@@ -28,17 +28,17 @@ pub record FirstIndex (size used x : ℕ) (xs : List ℕ) (w : ℕ) : Type 0 whe
   pub low : 1 ≤ x
   pub high : x ≤ size
   pub new : bit used (x - 1) ≡ 0
-  pub others : onesOf size (used + 2 ^ (x - 1)) xs ≡ word w
+  pub others : ones_of size (used + 2 ^ (x - 1)) xs ≡ word w
 
-pub first-index : (size used x : ℕ) (xs : List ℕ) (w : ℕ) → onesOf size used (x ∷ xs) ≡ word w → FirstIndex size used x xs w
+pub first-index : (size used x : ℕ) (xs : List ℕ) (w : ℕ) → ones_of size used (x ∷ xs) ≡ word w → FirstIndex size used x xs w
 first-index size used x xs w e = go (fits size used x) refl e
   where
-    go : (t : Bool) → fits size used x ≡ t → cond t (onesOf size (used + 2 ^ (x - 1)) xs) wrong ≡ word w → FirstIndex size used x xs w
+    go : (t : Bool) → fits size used x ≡ t → cond t (ones_of size (used + 2 ^ (x - 1)) xs) wrong ≡ word w → FirstIndex size used x xs w
     go true f d = let i = index-fits size used x f in record { fit = f; low = i.low; high = i.high; new = i.new; others = d }
     go false f d = absurd (let z : ◌≡◌ {A = ℕ} 0 1 = cc in omega arith)
 
 -- the word of indices up to a size is below its power of 2
-pub ones_below : (size : ℕ) (xs : List ℕ) (used w : ℕ) → used < 2 ^ size → onesOf size used xs ≡ word w → w < 2 ^ size
+pub ones_below : (size : ℕ) (xs : List ℕ) (used w : ℕ) → used < 2 ^ size → ones_of size used xs ≡ word w → w < 2 ^ size
 ones_below size [] used w h e = let d : used ≡ w = cc in rw (← d) h
 ones_below size (x ∷ xs) used w h e =
     let f = first-index size used x xs w e in
@@ -49,10 +49,10 @@ ones_below size (x ∷ xs) used w h e =
 -- ---- ascending indices
 
 -- an index above 0 is above the last, and those after it are above it
-pub above : (last x : ℕ) (xs : List ℕ) → 1 ≤ x → ascendFrom last (x ∷ xs) ≡ true → (last < x) × (ascendFrom x xs ≡ true)
+pub above : (last x : ℕ) (xs : List ℕ) → 1 ≤ x → ascend_from last (x ∷ xs) ≡ true → (last < x) × (ascend_from x xs ≡ true)
 above last x xs h e =
-    let d : (ltb last x && ascendFrom x xs) ≡ true = rw (ne_eqb x 0 (λ z. omega (arith, z, h))) at e in
-    let p = both (ltb last x) (ascendFrom x xs) d in
+    let d : (ltb last x && ascend_from x xs) ≡ true = rw (ne_eqb x 0 (λ z. omega (arith, z, h))) at e in
+    let p = both (ltb last x) (ascend_from x xs) d in
     (ltb-true last x p.0, p.1)
 
 -- the last position of a word modulo a power of 2
@@ -75,7 +75,7 @@ last-zero w p used h e = go (bit-cases w p)
 
 -- the ones of the word from a position on, where the word below it is what was used
 abbrev Known : ℕ → ℕ → ℕ → ℕ → List ℕ → Type 0
-Known w p k used xs = (xs ≡ onesFrom w p k) × (w % 2 ^ p ≡ used)
+Known w p k used xs = (xs ≡ ones_from w p k) × (w % 2 ^ p ≡ used)
 
 known-one : (w p k used : ℕ) (xs : List ℕ) → used < 2 ^ p → Known w (suc p) k (used + 2 ^ p) xs → Known w p (suc k) used (suc p ∷ xs)
 known-one w p k used xs h g =
@@ -92,15 +92,15 @@ double : (p used : ℕ) → used < 2 ^ p → (used < 2 ^ suc p) × (used + 2 ^ p
 double p used h = let e = pow-suc 2 p in (omega (arith, e, h), omega (arith, e, h))
 
 -- the first index is the next position or a later one
-known_on : (size w p k used x : ℕ) (xs : List ℕ) → used < 2 ^ p → ascendFrom p (x ∷ xs) ≡ true → onesOf size used (x ∷ xs) ≡ word w
-    → ((u : ℕ) (ys : List ℕ) → u < 2 ^ suc p → ascendFrom (suc p) ys ≡ true → onesOf size u ys ≡ word w → Known w (suc p) k u ys)
+known_on : (size w p k used x : ℕ) (xs : List ℕ) → used < 2 ^ p → ascend_from p (x ∷ xs) ≡ true → ones_of size used (x ∷ xs) ≡ word w
+    → ((u : ℕ) (ys : List ℕ) → u < 2 ^ suc p → ascend_from (suc p) ys ≡ true → ones_of size u ys ≡ word w → Known w (suc p) k u ys)
     → Known w p (suc k) used (x ∷ xs)
 known_on size w p k used x xs h a e on = go (ℕ_discrete x (suc p))
   where
     f : FirstIndex size used x xs w
     f = first-index size used x xs w e
 
-    m : (p < x) × (ascendFrom x xs ≡ true)
+    m : (p < x) × (ascend_from x xs ≡ true)
     m = above p x xs f.low a
 
     go : Dec (x ≡ suc p) → Known w p (suc k) used (x ∷ xs)
@@ -110,13 +110,13 @@ known_on size w p k used x xs h a e on = go (ℕ_discrete x (suc p))
         rw q (known-one w p k used xs h (on (used + 2 ^ p) xs (double p used h).1 (rw q at m.1) o))
     go (no q) = known-zero w p k used (x ∷ xs) h (on used (x ∷ xs) (double p used h).0 later e)
       where
-        later : ascendFrom (suc p) (x ∷ xs) ≡ true
+        later : ascend_from (suc p) (x ∷ xs) ≡ true
         later =
             let l = f.low in
             let b = m.0 in
             rw (ne_eqb x 0 (λ z. omega (arith, z, l)), lt-ltb (suc p) x (omega (arith, q, b))) m.1
 
-pub ones-known : (size w p k used : ℕ) (xs : List ℕ) → size ≤ p + k → used < 2 ^ p → ascendFrom p xs ≡ true → onesOf size used xs ≡ word w
+pub ones-known : (size w p k used : ℕ) (xs : List ℕ) → size ≤ p + k → used < 2 ^ p → ascend_from p xs ≡ true → ones_of size used xs ≡ word w
     → Known w p k used xs
 ones-known size w p zero used [] s h a e = let d : used ≡ w = cc in (refl, rw (← d) (mod-eq_of_lt h))
 ones-known size w p zero used (x ∷ xs) s h a e =
@@ -131,11 +131,11 @@ ones-known size w p (suc k) used (x ∷ xs) s h a e = known_on size w p k used x
 -- ---- a list
 
 -- zeros behind the first numbers pad them
-pub padded-known : (k : ℕ) (xs : List ℕ) → k ≤ length xs → zerosOnly (drop k xs) ≡ true → padded (length xs) (take k xs) ≡ xs
+pub padded-known : (k : ℕ) (xs : List ℕ) → k ≤ length xs → zeros_only (drop k xs) ≡ true → padded (length xs) (take k xs) ≡ xs
 padded-known zero [] h z = refl
 padded-known zero (x ∷ xs) h z = go (eqb x 0) refl z (padded-known zero xs zero-le)
   where
-    go : (t : Bool) → eqb x 0 ≡ t → cond t (zerosOnly xs) false ≡ true → (zerosOnly xs ≡ true → padded (length xs) [] ≡ xs)
+    go : (t : Bool) → eqb x 0 ≡ t → cond t (zeros_only xs) false ≡ true → (zeros_only xs ≡ true → padded (length xs) [] ≡ xs)
         → (0 ∷ padded (length xs) []) ≡ (x ∷ xs)
     go true q d r = let n = eqb-true x 0 q in rw (n, r d)
     go false q d r = absurd (let z : ◌≡◌ {A = ℕ} 0 1 = cc in omega arith)
@@ -145,14 +145,14 @@ padded-known (suc k) (x ∷ xs) h z = ap (λ (r : List ℕ). x ∷ r) (padded-kn
 -- a list that is judged as a word has its weight in indices, then zeros
 pub record OnesAre (size count : ℕ) (xs : List ℕ) (w : ℕ) : Type 0 where
   pub long : count ≤ length xs
-  pub zeros : zerosOnly (drop count xs) ≡ true
-  pub ones : onesOf size 0 (take count xs) ≡ word w
+  pub zeros : zeros_only (drop count xs) ≡ true
+  pub ones : ones_of size 0 (take count xs) ≡ word w
 
 pub word-judged : (size count : ℕ) (xs : List ℕ) (w : ℕ) → word_of size count xs ≡ word w → OnesAre size count xs w
-word-judged size count xs w e = go (leb count (length xs)) refl (zerosOnly (drop count xs)) refl e
+word-judged size count xs w e = go (leb count (length xs)) refl (zeros_only (drop count xs)) refl e
   where
-    go : (s : Bool) → leb count (length xs) ≡ s → (t : Bool) → zerosOnly (drop count xs) ≡ t
-        → cond s (cond t (onesOf size 0 (take count xs)) wrong) wrong ≡ word w → OnesAre size count xs w
+    go : (s : Bool) → leb count (length xs) ≡ s → (t : Bool) → zeros_only (drop count xs) ≡ t
+        → cond s (cond t (ones_of size 0 (take count xs)) wrong) wrong ≡ word w → OnesAre size count xs w
     go true l true z d = record { long = leb-true count (length xs) l; zeros = z; ones = d }
     go true l false z d = absurd (let f : ◌≡◌ {A = ℕ} 0 1 = cc in omega arith)
     go false l t z d = absurd (let f : ◌≡◌ {A = ℕ} 0 1 = cc in omega arith)

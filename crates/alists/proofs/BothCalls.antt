@@ -13,12 +13,12 @@ use Rattle.alists.proofs.OwnFormKeeps.{own-form-keeps}
 use Rattle.alists.proofs.ReadsBack.{written-reads-back}
 use Rattle.alists.proofs.Replies.{as_line}
 use Rattle.alists.specs.Accepted.{Sized}
-use Rattle.alists.specs.Calls.{Answers, Reads, WritesAlist, writeConditions}
+use Rattle.alists.specs.Calls.{Answers, Reads, WritesAlist, write_conditions}
 use Rattle.alists.specs.declared.Alist.{Alist}
 use Rattle.alists.specs.declared.Alist.TheVariants.{Matrix}
 use Rattle.alists.specs.OwnForm.{OwnForm}
-use Rattle.alists.specs.Reading.{Reading, faultIn, matrix, reading}
-use Rattle.alists.specs.Text.{alistText}
+use Rattle.alists.specs.Reading.{Reading, fault_in, matrix, reading}
+use Rattle.alists.specs.Text.{alist_text}
 use Rattle.alists.specs.Working.{FirstBeyond}
 use Rattle.listings.proofs.Conditions.{fits-room}
 use Rattle.listings.specs.declared.Written.{Written}
@@ -31,13 +31,13 @@ use Rattle.plates.specs.Refusals.{Passes}
 -- ---- read and written
 
 -- a matrix of such sizes is written where there is room
-sized-written : (n : ℕ) (rows room : List ℕ) → Sized n rows → length (alistText n rows) ≤ length room
-    → WritesAlist n rows room (Bytes (length (alistText n rows))) (alistText n rows ++ drop (length (alistText n rows)) room)
+sized-written : (n : ℕ) (rows room : List ℕ) → Sized n rows → length (alist_text n rows) ≤ length room
+    → WritesAlist n rows room (Bytes (length (alist_text n rows))) (alist_text n rows ++ drop (length (alist_text n rows)) room)
 sized-written n rows room z h =
     let a = z.least in
     let b = z.some in
     let f : FirstBeyond n rows (length rows) = record { before = z.below; within = omega arith; there = λ l. absurd (omega (arith, l)) } in
-    as_line n rows room (λ e. omega (arith, e, a)) z.most z.few f (omega arith) (λ e. omega (arith, e, b)) (fits-room (alistText n rows) room h)
+    as_line n rows room (λ e. omega (arith, e, a)) z.most z.few f (omega arith) (λ e. omega (arith, e, b)) (fits-room (alist_text n rows) room h)
 
 -- what a reply with a matrix means
 record MatrixRead (text : List ℕ) (n count : ℕ) (table' : List ℕ) : Type 0 where
@@ -53,7 +53,7 @@ matrix-read text table n count table' x = go (reading text) refl x
         let b : count ≡ length rows = cc in
         let t : take count table' ≡ rows = rw (b, y.leaves) (take-append_seam rows (replicate (64 - length rows) 0)) in
         record { is = d ∙ rw (a, t) }
-    go (faultIn l) d y = absurd (let r = y.replies in let z : ◌≡◌ {A = ℕ} 0 1 = cc in omega arith)
+    go (fault_in l) d y = absurd (let r = y.replies in let z : ◌≡◌ {A = ℕ} 0 1 = cc in omega arith)
 
 -- a text in our form that is read as a matrix and written, with room for it, keeps its bytes
 pub read-and-written : (text table : List ℕ) (n count : ℕ) (table' room : List ℕ) {r : Written} {room' : List ℕ} → OwnForm text
@@ -81,7 +81,7 @@ rows-below n rows none (suc i) j h l = go (dec_lt j i) (rows-below n rows none i
         absurd (none (R.RowBeyond j) (record { row = j; there = l; over = omega (arith, d); first = first; is = refl }))
 
 -- what is written has such sizes
-written-sized : (n : ℕ) (rows room : List ℕ) → Passes (writeConditions n rows room) → Sized n rows
+written-sized : (n : ℕ) (rows room : List ℕ) → Passes (write_conditions n rows room) → Sized n rows
 written-sized n rows room p = record {
   least = above (dec_lt 0 n);
   most = within (dec_lt 64 n);
@@ -112,7 +112,7 @@ pub written-and-read : (n : ℕ) (rows room : List ℕ) (size : ℕ) (room' tabl
     → Reads (take size room') table r table' → (r ≡ Matrix n (length rows)) × (table' ≡ rows ++ replicate (64 - length rows) 0)
 written-and-read n rows room size room' table {r} {table'} w x =
     let p = w.reply in
-    let t : take size room' ≡ alistText n rows = rw (p.1, p.2) (take-append_seam (alistText n rows) (drop (length (alistText n rows)) room)) in
+    let t : take size room' ≡ alist_text n rows = rw (p.1, p.2) (take-append_seam (alist_text n rows) (drop (length (alist_text n rows)) room)) in
     let e : reading (take size room') ≡ matrix n rows = ap reading t ∙ written-reads-back n rows (written-sized n rows room p.0) in
     let y : Answers (matrix n rows) table r table' = rw e at x in
     (y.replies, y.leaves)

@@ -8,8 +8,8 @@ use mathlib.Core.Path.{◌≡◌, ap, refl, sym, ◌∙◌}
 use native.Mathlib.Omega.{arith}
 use Prim.Native.Nat.{◌%◌, ◌*◌, ◌+◌, ◌/◌, suc, zero, ℕ, ◌≤◌}
 use Rattle.alists.proofs.ListsPut.{largest-few}
-use Rattle.alists.specs.Lists.{columnsFrom, indices, largest, list_of, padded}
-use Rattle.alists.specs.Text.{decimal, following, line, lists_of, matrixText, text_of, weights}
+use Rattle.alists.specs.Lists.{columns_from, indices, largest, list_of, padded}
+use Rattle.alists.specs.Text.{decimal, following, line, lists_of, matrix_text, text_of, weights}
 
 -- ---- lengths
 
@@ -54,7 +54,7 @@ pub length-weights : (ws : List ℕ) → length (weights ws) ≡ length ws
 length-weights [] = refl
 length-weights (w ∷ ws) = ap suc (length-weights ws)
 
-pub columns-length : (rows : List ℕ) (i k : ℕ) → length (columnsFrom rows i k) ≡ k
+pub columns-length : (rows : List ℕ) (i k : ℕ) → length (columns_from rows i k) ≡ k
 columns-length rows i zero = refl
 columns-length rows i (suc k) = ap suc (columns-length rows (suc i) k)
 
@@ -65,22 +65,22 @@ text-append [] b = refl
 text-append (l ∷ a) b = ap (λ (r : List ℕ). line l ++ r) (text-append a b) ∙ sym (append_assoc (line l) (text_of a) (text_of b))
 
 module _ (cols rows : List ℕ) where
-  abbrev pub sizesPart : List ℕ
-  sizesPart = line (length cols ∷ length rows ∷ [])
+  abbrev pub sizes_part : List ℕ
+  sizes_part = line (length cols ∷ length rows ∷ [])
 
-  abbrev pub mostPart : List ℕ
-  mostPart = line (largest (weights cols) ∷ largest (weights rows) ∷ [])
+  abbrev pub most_part : List ℕ
+  most_part = line (largest (weights cols) ∷ largest (weights rows) ∷ [])
 
-  abbrev pub lastParts : List ℕ
-  lastParts = text_of (lists_of cols) ++ text_of (lists_of rows)
+  abbrev pub last_parts : List ℕ
+  last_parts = text_of (lists_of cols) ++ text_of (lists_of rows)
 
   abbrev pub parts : List ℕ
-  parts = sizesPart ++ (mostPart ++ (line (weights cols) ++ (line (weights rows) ++ lastParts)))
+  parts = sizes_part ++ (most_part ++ (line (weights cols) ++ (line (weights rows) ++ last_parts)))
 
-  pub text-parts : matrixText cols rows ≡ parts
-  unfolding matrixText
+  pub text-parts : matrix_text cols rows ≡ parts
+  unfolding matrix_text
   text-parts =
-      ap (λ (r : List ℕ). sizesPart ++ (mostPart ++ (line (weights cols) ++ (line (weights rows) ++ r)))) (text-append (lists_of cols) (lists_of rows))
+      ap (λ (r : List ℕ). sizes_part ++ (most_part ++ (line (weights cols) ++ (line (weights rows) ++ r)))) (text-append (lists_of cols) (lists_of rows))
 
   pub text-short : length cols ≤ 64 → length rows ≤ 64 → 0 + length parts ≤ 32768
   text-short h k =
@@ -92,10 +92,10 @@ module _ (cols rows : List ℕ) where
       let f = lists-short (largest (weights rows)) (largest-few rows) rows in
       let l = length-weights cols in
       let m = length-weights rows in
-      let s₁ = length-append sizesPart (mostPart ++ (line (weights cols) ++ (line (weights rows) ++ lastParts))) in
-      let s₂ = length-append mostPart (line (weights cols) ++ (line (weights rows) ++ lastParts)) in
-      let s₃ = length-append (line (weights cols)) (line (weights rows) ++ lastParts) in
-      let s₄ = length-append (line (weights rows)) lastParts in
+      let s₁ = length-append sizes_part (most_part ++ (line (weights cols) ++ (line (weights rows) ++ last_parts))) in
+      let s₂ = length-append most_part (line (weights cols) ++ (line (weights rows) ++ last_parts)) in
+      let s₃ = length-append (line (weights cols)) (line (weights rows) ++ last_parts) in
+      let s₄ = length-append (line (weights rows)) last_parts in
       let s₅ = length-append (text_of (lists_of cols)) (text_of (lists_of rows)) in
       omega (arith, a, b, c, d, e, f, l, m, s₁, s₂, s₃, s₄, s₅, h, k)
 

@@ -13,8 +13,8 @@ use Rattle.alists.specs.Calls.{Answers}
 use Rattle.alists.specs.declared.Alist.TheVariants.{Matrix, Refused}
 use Rattle.alists.specs.Lines.{Line, faulty, line_of, reads}
 use Rattle.alists.specs.Lists.{largest}
-use Rattle.alists.specs.Reading.{Listed, Lists, Reading, faultIn, faultyAt, inSize, listAt, listed, listedOn, lists, listsFrom, onColumnWeights, onColumns, onMost, onRowWeights, onRows, onto, reading, shows, unlisted}
-use Rattle.alists.specs.Working.{faultOf, laid, laidFrom}
+use Rattle.alists.specs.Reading.{Listed, Lists, Reading, fault_in, faulty_at, in_size, list_at, listed, listed_on, lists, lists_from, on_column_weights, on_columns, on_most, on_row_weights, on_rows, onto, reading, shows, unlisted}
+use Rattle.alists.specs.Working.{fault_of, laid, laid_from}
 use Rattle.plates.specs.declared.Refusal.TheVariants.{AlistFault}
 
 -- ---- the lists that a table holds
@@ -29,48 +29,48 @@ pub record WordsRead (l : Lists) (count : ℕ) (table' s : List ℕ) : Type 0 wh
 -- there are as many words as weights
 abbrev Long : ℕ → Lists → Type 0
 Long n (lists ws s) = length ws ≡ n
-Long n (faultyAt i) = Unit {0}
+Long n (faulty_at i) = Unit {0}
 
 onto-long : (n w : ℕ) (l : Lists) → Long n l → Long (suc n) (onto w l)
 onto-long n w (lists ws s) h = ap suc h
-onto-long n w (faultyAt i) h = tt
+onto-long n w (faulty_at i) h = tt
 
-shown-long : (n w i : ℕ) (l : Lists) (t : Bool) → Long n l → Long (suc n) (cond t (onto w l) (faultyAt i))
+shown-long : (n w i : ℕ) (l : Lists) (t : Bool) → Long n l → Long (suc n) (cond t (onto w l) (faulty_at i))
 shown-long n w i l true h = onto-long n w l h
 shown-long n w i l false h = tt
 
-listed-long : (n : ℕ) (d : Listed) (seen : List ℕ) (i : ℕ) (on : List ℕ → Lists) → ((s : List ℕ) → Long n (on s)) → Long (suc n) (listedOn d seen i on)
+listed-long : (n : ℕ) (d : Listed) (seen : List ℕ) (i : ℕ) (on : List ℕ → Lists) → ((s : List ℕ) → Long n (on s)) → Long (suc n) (listed_on d seen i on)
 listed-long n (listed w s) seen i on h = shown-long n w i (on s) (shows seen i w) (h s)
 listed-long n unlisted seen i on h = tt
 
-pub lists-long : (most size : ℕ) (seen : List ℕ) (i : ℕ) (ws s : List ℕ) → Long (length ws) (listsFrom most size seen i ws s)
+pub lists-long : (most size : ℕ) (seen : List ℕ) (i : ℕ) (ws s : List ℕ) → Long (length ws) (lists_from most size seen i ws s)
 lists-long most size seen i [] s = refl
 lists-long most size seen i (w ∷ ws) s =
-    listed-long (length ws) (listAt most size w s) seen i (listsFrom most size seen (suc i) ws) (λ t. lists-long most size seen (suc i) ws t)
+    listed-long (length ws) (list_at most size w s) seen i (lists_from most size seen (suc i) ws) (λ t. lists-long most size seen (suc i) ws t)
 
-pub words-read : (l : Lists) (n : ℕ) → Long n l → (table' s : List ℕ) → laidFrom (replicate 64 0) 0 l ≡ laid table' s → WordsRead l n table' s
+pub words-read : (l : Lists) (n : ℕ) → Long n l → (table' s : List ℕ) → laid_from (replicate 64 0) 0 l ≡ laid table' s → WordsRead l n table' s
 words-read (lists ws t) n h table' s e =
     let a : sets (replicate 64 0) 0 ws ≡ table' = cc in
     let b : t ≡ s = cc in
     record { words = ws; is = rw b; stands = sym a; long = h }
-words-read (faultyAt i) n h table' s e = absurd (let z : ◌≡◌ {A = ℕ} 0 1 = cc in omega arith)
+words-read (faulty_at i) n h table' s e = absurd (let z : ◌≡◌ {A = ℕ} 0 1 = cc in omega arith)
 
-pub fault-read : (l : Lists) (table : List ℕ) (i : ℕ) → laidFrom table 0 l ≡ faultOf i → l ≡ faultyAt i
+pub fault-read : (l : Lists) (table : List ℕ) (i : ℕ) → laid_from table 0 l ≡ fault_of i → l ≡ faulty_at i
 fault-read (lists ws t) table i e = absurd (let z : ◌≡◌ {A = ℕ} 0 1 = cc in omega arith)
-fault-read (faultyAt j) table i e = let a : j ≡ i = cc in rw a
+fault-read (faulty_at j) table i e = let a : j ≡ i = cc in rw a
 
 -- ---- the replies
 
-pub answer-fault : {r : Reading} (l : ℕ) (table : List ℕ) → r ≡ faultIn l → Answers r table (Refused (AlistFault l)) table
+pub answer-fault : {r : Reading} (l : ℕ) (table : List ℕ) → r ≡ fault_in l → Answers r table (Refused (AlistFault l)) table
 answer-fault l table e = rw e (record { replies = refl; leaves = refl })
 
 module _ (n : ℕ) {l : Lists} {count : ℕ} {table' : List ℕ} (text : List ℕ) (next : ℕ) (w : WordsRead l count table' (drop next text)) where
   -- something stands after the last line
-  pub rows-extra : next < length text → onRows n l ≡ faultIn (5 + n + count)
+  pub rows-extra : next < length text → on_rows n l ≡ fault_in (5 + n + count)
   rows-extra h = let g = w.long in rw (w.is, here text next h, g)
 
   -- nothing does
-  pub rows-done : count ≤ 64 → length text ≤ next → (table : List ℕ) → Answers (onRows n l) table (Matrix n count) table'
+  pub rows-done : count ≤ 64 → length text ≤ next → (table : List ℕ) → Answers (on_rows n l) table (Matrix n count) table'
   rows-done f h table =
       let g = w.long in
       let d : sets (replicate 64 0) 0 w.words ≡ w.words ++ drop (0 + length w.words) (replicate 64 0) = sets-eq w.words (replicate 64 0) 0 (omega (arith, f, g, length-replicate {A = ℕ} 64 0)) in
@@ -87,65 +87,65 @@ module _ (table text : List ℕ) where
   sizes-faulty e = rw e (record { replies = refl; leaves = refl })
 
   -- sizes that are none, in the first or the second place
-  pub size_none : (vs s : List ℕ) → line_of 2 text ≡ reads vs s → inSize (get_or vs 0 0) ≡ false → Answers (reading text) table (Refused (AlistFault 1)) table
+  pub size_none : (vs s : List ℕ) → line_of 2 text ≡ reads vs s → in_size (get_or vs 0 0) ≡ false → Answers (reading text) table (Refused (AlistFault 1)) table
   unfolding reading
   size_none vs s e f = rw (e, f) (record { replies = refl; leaves = refl })
 
-  pub size-none-second : (vs s : List ℕ) → line_of 2 text ≡ reads vs s → inSize (get_or vs 0 0) ≡ true → inSize (get_or vs 1 0) ≡ false
+  pub size-none-second : (vs s : List ℕ) → line_of 2 text ≡ reads vs s → in_size (get_or vs 0 0) ≡ true → in_size (get_or vs 1 0) ≡ false
       → Answers (reading text) table (Refused (AlistFault 1)) table
   unfolding reading
   size-none-second vs s e f g = rw (e, f, g) (record { replies = refl; leaves = refl })
 
 module _ (table : List ℕ) where
-  pub most-faulty : (n m : ℕ) {l : Line} → l ≡ faulty → Answers (onMost n m l) table (Refused (AlistFault 2)) table
+  pub most-faulty : (n m : ℕ) {l : Line} → l ≡ faulty → Answers (on_most n m l) table (Refused (AlistFault 2)) table
   most-faulty n m e = rw e (record { replies = refl; leaves = refl })
 
   -- largest weights that do not fit
-  pub tall-over : (n m : ℕ) {l : Line} (vs s : List ℕ) → l ≡ reads vs s → m < get_or vs 0 0 → Answers (onMost n m l) table (Refused (AlistFault 2)) table
+  pub tall-over : (n m : ℕ) {l : Line} (vs s : List ℕ) → l ≡ reads vs s → m < get_or vs 0 0 → Answers (on_most n m l) table (Refused (AlistFault 2)) table
   tall-over n m vs s e h = rw (e, lt-leb (get_or vs 0 0) m h) (record { replies = refl; leaves = refl })
 
-  pub wide-over : (n m : ℕ) {l : Line} (vs s : List ℕ) → l ≡ reads vs s → get_or vs 0 0 ≤ m → n < get_or vs 1 0 → Answers (onMost n m l) table (Refused (AlistFault 2)) table
+  pub wide-over : (n m : ℕ) {l : Line} (vs s : List ℕ) → l ≡ reads vs s → get_or vs 0 0 ≤ m → n < get_or vs 1 0 → Answers (on_most n m l) table (Refused (AlistFault 2)) table
   wide-over n m vs s e h k = rw (e, le-leb (get_or vs 0 0) m h, lt-leb (get_or vs 1 0) n k) (record { replies = refl; leaves = refl })
 
 -- lines that are good
-pub sizes-good : (text vs s : List ℕ) → line_of 2 text ≡ reads vs s → inSize (get_or vs 0 0) ≡ true → inSize (get_or vs 1 0) ≡ true
-    → reading text ≡ onMost (get_or vs 0 0) (get_or vs 1 0) (line_of 2 s)
+pub sizes-good : (text vs s : List ℕ) → line_of 2 text ≡ reads vs s → in_size (get_or vs 0 0) ≡ true → in_size (get_or vs 1 0) ≡ true
+    → reading text ≡ on_most (get_or vs 0 0) (get_or vs 1 0) (line_of 2 s)
 unfolding reading
 sizes-good text vs s e f g = rw (e, f, g)
 
 pub most-good : (n m : ℕ) {l : Line} (vs s : List ℕ) → l ≡ reads vs s → get_or vs 0 0 ≤ m → get_or vs 1 0 ≤ n
-    → onMost n m l ≡ onColumnWeights n m (get_or vs 0 0) (get_or vs 1 0) (line_of n s)
+    → on_most n m l ≡ on_column_weights n m (get_or vs 0 0) (get_or vs 1 0) (line_of n s)
 most-good n m vs s e h k = rw (e, le-leb (get_or vs 0 0) m h, le-leb (get_or vs 1 0) n k)
 
 module _ (n m tall wide : ℕ) {l : Line} where
-  pub heights-faulty : l ≡ faulty → onColumnWeights n m tall wide l ≡ faultIn 3
+  pub heights-faulty : l ≡ faulty → on_column_weights n m tall wide l ≡ fault_in 3
   heights-faulty e = rw e
 
-  pub heights-unmet : (ws s : List ℕ) → l ≡ reads ws s → (largest ws ≡ tall → ⊥) → onColumnWeights n m tall wide l ≡ faultIn 3
+  pub heights-unmet : (ws s : List ℕ) → l ≡ reads ws s → (largest ws ≡ tall → ⊥) → on_column_weights n m tall wide l ≡ fault_in 3
   heights-unmet ws s e h = rw (e, ne_eqb (largest ws) tall h)
 
-  pub heights-met : (ws s : List ℕ) → l ≡ reads ws s → largest ws ≡ tall → onColumnWeights n m tall wide l ≡ onRowWeights n m tall wide ws (line_of m s)
+  pub heights-met : (ws s : List ℕ) → l ≡ reads ws s → largest ws ≡ tall → on_column_weights n m tall wide l ≡ on_row_weights n m tall wide ws (line_of m s)
   heights-met ws s e h = rw (e, eq-eqb (largest ws) tall h)
 
   module _ (heights : List ℕ) where
-    pub widths-faulty : l ≡ faulty → onRowWeights n m tall wide heights l ≡ faultIn 4
+    pub widths-faulty : l ≡ faulty → on_row_weights n m tall wide heights l ≡ fault_in 4
     widths-faulty e = rw e
 
-    pub widths-unmet : (ws s : List ℕ) → l ≡ reads ws s → (largest ws ≡ wide → ⊥) → onRowWeights n m tall wide heights l ≡ faultIn 4
+    pub widths-unmet : (ws s : List ℕ) → l ≡ reads ws s → (largest ws ≡ wide → ⊥) → on_row_weights n m tall wide heights l ≡ fault_in 4
     widths-unmet ws s e h = rw (e, ne_eqb (largest ws) wide h)
 
     pub widths-met : (ws s : List ℕ) → l ≡ reads ws s → largest ws ≡ wide
-        → onRowWeights n m tall wide heights l ≡ onColumns n wide ws (listsFrom tall m [] 0 heights s)
+        → on_row_weights n m tall wide heights l ≡ on_columns n wide ws (lists_from tall m [] 0 heights s)
     widths-met ws s e h = rw (e, eq-eqb (largest ws) wide h)
 
 -- ---- the lists
 
-pub rows-fault : (n : ℕ) (l : Lists) (i : ℕ) → l ≡ faultyAt i → onRows n l ≡ faultIn (5 + n + i)
+pub rows-fault : (n : ℕ) (l : Lists) (i : ℕ) → l ≡ faulty_at i → on_rows n l ≡ fault_in (5 + n + i)
 rows-fault n l i e = rw e
 
 module _ (n wide : ℕ) (widths : List ℕ) (l : Lists) where
-  pub columns-fault : (i : ℕ) → l ≡ faultyAt i → onColumns n wide widths l ≡ faultIn (5 + i)
+  pub columns-fault : (i : ℕ) → l ≡ faulty_at i → on_columns n wide widths l ≡ fault_in (5 + i)
   columns-fault i e = rw e
 
-  pub columns-good : (cols s : List ℕ) → l ≡ lists cols s → onColumns n wide widths l ≡ onRows n (listsFrom wide n cols 0 widths s)
+  pub columns-good : (cols s : List ℕ) → l ≡ lists cols s → on_columns n wide widths l ≡ on_rows n (lists_from wide n cols 0 widths s)
   columns-good cols s e = rw e

@@ -4,9 +4,9 @@ use mathlib.Core.Logic.{inl, inr, ◌⊎◌}
 use mathlib.Core.Path.{◌≡◌, ap, sym, ◌∙◌}
 use native.Mathlib.Omega.{arith}
 use Prim.Native.Nat.{◌<◌, ℕ}
-use Rattle.alists.specs.Calls.{Reads, WritesAlist, writeConditions}
+use Rattle.alists.specs.Calls.{Reads, WritesAlist, write_conditions}
 use Rattle.alists.specs.declared.Alist.{Alist}
-use Rattle.alists.specs.Text.{alistText}
+use Rattle.alists.specs.Text.{alist_text}
 use Rattle.listings.proofs.Determined.{Same, determined}
 use Rattle.listings.specs.declared.Written.{Written}
 use Rattle.plates.specs.declared.Refusal.{Refusal}
@@ -32,4 +32,4 @@ row-once n rows p q x y = x.is ∙ ap RowBeyond (go (lt-tri x.row y.row)) ∙ sy
 
 -- a matrix has one text in a room
 pub write-determined : (n : ℕ) (rows room : List ℕ) {r s : Written} {a b : List ℕ} → WritesAlist n rows room r a → WritesAlist n rows room s b → Same r s a b
-write-determined n rows room = determined (writeConditions n rows room) (once, (once, (row-once n rows, (once, (once, tt))))) (alistText n rows) room
+write-determined n rows room = determined (write_conditions n rows room) (once, (once, (row-once n rows, (once, (once, tt))))) (alist_text n rows) room

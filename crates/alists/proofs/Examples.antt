@@ -9,8 +9,8 @@ use Rattle.alists.proofs.OwnFormKeeps.{own-form-keeps, own-spaces}
 use Rattle.alists.specs.Accepted.{ordered}
 use Rattle.alists.specs.Lists.{indices, weight}
 use Rattle.alists.specs.OwnForm.{OwnForm, ascend}
-use Rattle.alists.specs.Reading.{faultIn, matrix, reading}
-use Rattle.alists.specs.Text.{matrixText}
+use Rattle.alists.specs.Reading.{fault_in, matrix, reading}
+use Rattle.alists.specs.Text.{matrix_text}
 
 -- one row with a one in each of two columns
 plain : reading (50 ∷ 32 ∷ 49 ∷ 10 ∷ 49 ∷ 32 ∷ 50 ∷ 10 ∷ 49 ∷ 32 ∷ 49 ∷ 10 ∷ 50 ∷ 10 ∷ 49 ∷ 10 ∷ 49 ∷ 10 ∷ 49 ∷ 32 ∷ 50 ∷ 10 ∷ []) ≡ matrix 2 (3 ∷ [])
@@ -23,32 +23,32 @@ unfolding reading
 loose = refl
 
 -- an index twice in the last line
-repeated : reading (50 ∷ 32 ∷ 49 ∷ 10 ∷ 49 ∷ 32 ∷ 50 ∷ 10 ∷ 49 ∷ 32 ∷ 49 ∷ 10 ∷ 50 ∷ 10 ∷ 49 ∷ 10 ∷ 49 ∷ 10 ∷ 49 ∷ 32 ∷ 49 ∷ 10 ∷ []) ≡ faultIn 7
+repeated : reading (50 ∷ 32 ∷ 49 ∷ 10 ∷ 49 ∷ 32 ∷ 50 ∷ 10 ∷ 49 ∷ 32 ∷ 49 ∷ 10 ∷ 50 ∷ 10 ∷ 49 ∷ 10 ∷ 49 ∷ 10 ∷ 49 ∷ 32 ∷ 49 ∷ 10 ∷ []) ≡ fault_in 7
 unfolding reading
 repeated = refl
 
 -- a space after the last number
-trailing : reading (50 ∷ 32 ∷ 49 ∷ 10 ∷ 49 ∷ 32 ∷ 50 ∷ 10 ∷ 49 ∷ 32 ∷ 49 ∷ 10 ∷ 50 ∷ 10 ∷ 49 ∷ 10 ∷ 49 ∷ 10 ∷ 49 ∷ 32 ∷ 50 ∷ 32 ∷ 10 ∷ []) ≡ faultIn 7
+trailing : reading (50 ∷ 32 ∷ 49 ∷ 10 ∷ 49 ∷ 32 ∷ 50 ∷ 10 ∷ 49 ∷ 32 ∷ 49 ∷ 10 ∷ 50 ∷ 10 ∷ 49 ∷ 10 ∷ 49 ∷ 10 ∷ 49 ∷ 32 ∷ 50 ∷ 32 ∷ 10 ∷ []) ≡ fault_in 7
 unfolding reading
 trailing = refl
 
 -- the last line is not ended
-unended : reading (50 ∷ 32 ∷ 49 ∷ 10 ∷ 49 ∷ 32 ∷ 50 ∷ 10 ∷ 49 ∷ 32 ∷ 49 ∷ 10 ∷ 50 ∷ 10 ∷ 49 ∷ 10 ∷ 49 ∷ 10 ∷ 49 ∷ 32 ∷ 50 ∷ []) ≡ faultIn 7
+unended : reading (50 ∷ 32 ∷ 49 ∷ 10 ∷ 49 ∷ 32 ∷ 50 ∷ 10 ∷ 49 ∷ 32 ∷ 49 ∷ 10 ∷ 50 ∷ 10 ∷ 49 ∷ 10 ∷ 49 ∷ 10 ∷ 49 ∷ 32 ∷ 50 ∷ []) ≡ fault_in 7
 unfolding reading
 unended = refl
 
 -- the last line is missing
-missing : reading (50 ∷ 32 ∷ 49 ∷ 10 ∷ 49 ∷ 32 ∷ 50 ∷ 10 ∷ 49 ∷ 32 ∷ 49 ∷ 10 ∷ 50 ∷ 10 ∷ 49 ∷ 10 ∷ 49 ∷ 10 ∷ []) ≡ faultIn 7
+missing : reading (50 ∷ 32 ∷ 49 ∷ 10 ∷ 49 ∷ 32 ∷ 50 ∷ 10 ∷ 49 ∷ 32 ∷ 49 ∷ 10 ∷ 50 ∷ 10 ∷ 49 ∷ 10 ∷ 49 ∷ 10 ∷ []) ≡ fault_in 7
 unfolding reading
 missing = refl
 
 -- a line more
-extra : reading (50 ∷ 32 ∷ 49 ∷ 10 ∷ 49 ∷ 32 ∷ 50 ∷ 10 ∷ 49 ∷ 32 ∷ 49 ∷ 10 ∷ 50 ∷ 10 ∷ 49 ∷ 10 ∷ 49 ∷ 10 ∷ 49 ∷ 32 ∷ 50 ∷ 10 ∷ 10 ∷ []) ≡ faultIn 8
+extra : reading (50 ∷ 32 ∷ 49 ∷ 10 ∷ 49 ∷ 32 ∷ 50 ∷ 10 ∷ 49 ∷ 32 ∷ 49 ∷ 10 ∷ 50 ∷ 10 ∷ 49 ∷ 10 ∷ 49 ∷ 10 ∷ 49 ∷ 32 ∷ 50 ∷ 10 ∷ 10 ∷ []) ≡ fault_in 8
 unfolding reading
 extra = refl
 
 -- a largest column weight that is not met
-unmet : reading (50 ∷ 32 ∷ 50 ∷ 10 ∷ 50 ∷ 32 ∷ 50 ∷ 10 ∷ 49 ∷ 32 ∷ 49 ∷ 10 ∷ 50 ∷ 32 ∷ 48 ∷ 10 ∷ []) ≡ faultIn 3
+unmet : reading (50 ∷ 32 ∷ 50 ∷ 10 ∷ 50 ∷ 32 ∷ 50 ∷ 10 ∷ 49 ∷ 32 ∷ 49 ∷ 10 ∷ 50 ∷ 32 ∷ 48 ∷ 10 ∷ []) ≡ fault_in 3
 unfolding reading
 unmet = refl
 
@@ -88,7 +88,7 @@ unfolding reading
 turned-read = refl
 
 turned-not-own : OwnForm turned → ⊥
-unfolding matrixText weight indices
+unfolding matrix_text weight indices
 turned-not-own f =
     let c : ◌≡◌ {A = ℕ} 49 50 = ap (λ (s : List ℕ). get_or s 18 0) (own-form-keeps turned 2 (3 ∷ []) f turned-read) in
     omega (arith, c)

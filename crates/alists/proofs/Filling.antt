@@ -11,7 +11,7 @@ use native.Mathlib.Numerals.{add-one}
 use native.Mathlib.Omega.{arith}
 use Prim.Native.Nat.{◌*◌, ◌+◌, ◌-◌, ◌<◌, ◌^◌, suc, ℕ, ◌≤◌}
 use Rattle.alists.proofs.Places.{back, done, here}
-use Rattle.alists.specs.Lists.{column, columnsFrom, indices, onesFrom, weight}
+use Rattle.alists.specs.Lists.{column, columns_from, indices, ones_from, weight}
 use Rattle.alists.specs.Working.{PutsBy}
 use Rattle.words.proofs.Word.{bit-lt}
 use Rattle.words.specs.Word.{bit}
@@ -40,15 +40,15 @@ column-back rows i j z h = rw (back rows j z h)
 
 module _ (table : List ℕ) where
   pub columns-on : (rows : List ℕ) (i n : ℕ) → i < n
-      → sets table i (columnsFrom rows i (n - i)) ≡ sets (set table i (column rows i)) (i + 1) (columnsFrom rows (i + 1) (n - (i + 1)))
+      → sets table i (columns_from rows i (n - i)) ≡ sets (set table i (column rows i)) (i + 1) (columns_from rows (i + 1) (n - (i + 1)))
   columns-on rows i n h =
       let e : n - i ≡ suc (n - (i + 1)) = omega arith in
       rw (e, add-one)
 
-  pub columns-start : (rows : List ℕ) (n : ℕ) → sets table 0 (columnsFrom rows 0 (n - 0)) ≡ sets table 0 (columnsFrom rows 0 n)
+  pub columns-start : (rows : List ℕ) (n : ℕ) → sets table 0 (columns_from rows 0 (n - 0)) ≡ sets table 0 (columns_from rows 0 n)
   columns-start rows n = let e : n - 0 ≡ n = omega arith in rw e
 
-  pub columns-end : (rows : List ℕ) (i n : ℕ) → n ≤ i → sets table i (columnsFrom rows i (n - i)) ≡ table
+  pub columns-end : (rows : List ℕ) (i n : ℕ) → n ≤ i → sets table i (columns_from rows i (n - i)) ≡ table
   columns-end rows i n h = let e : n - i ≡ 0 = omega arith in rw e
 
   pub weights-on : (ws : List ℕ) (i : ℕ) → i < length ws
@@ -64,12 +64,12 @@ module _ (table : List ℕ) where
 pub record Listing (w : ℕ) (table : List ℕ) (count i : ℕ) (table₀ : List ℕ) : Type 0 where
   pub within : i ≤ 64
   pub few : count ≤ i
-  pub stands : sets table count (onesFrom w i (64 - i)) ≡ sets table₀ 0 (indices w)
-  pub long : count + length (onesFrom w i (64 - i)) ≡ weight w
+  pub stands : sets table count (ones_from w i (64 - i)) ≡ sets table₀ 0 (indices w)
+  pub long : count + length (ones_from w i (64 - i)) ≡ weight w
 
 pub listing_start : (w : ℕ) (table : List ℕ) → Listing w table 0 0 table
 unfolding indices weight
-listing_start w table = record { within = omega arith; few = omega arith; stands = refl; long = zero-add (length (onesFrom w 0 64)) }
+listing_start w table = record { within = omega arith; few = omega arith; stands = refl; long = zero-add (length (ones_from w 0 64)) }
 
 pub listing-on : {w : ℕ} {table : List ℕ} {count i : ℕ} {table₀ table' : List ℕ} {r : ℕ} (t : Bool) → eqb (bit w i) 1 ≡ t → i < 64
     → Listing w table count i table₀ → PutsBy t i table count table' r → Listing w table' r (i + 1) table₀

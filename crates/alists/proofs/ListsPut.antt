@@ -7,7 +7,7 @@ use mathlib.Core.List.{◌++◌, List, [], map, ◌∷◌}
 use mathlib.Core.Path.{◌≡◌, ap, refl}
 use native.Mathlib.Omega.{arith}
 use Prim.Native.Nat.{◌+◌, ◌-◌, ◌<◌, suc, zero, ℕ, ◌≤◌}
-use Rattle.alists.specs.Lists.{indices, largest, list_of, onesFrom, padded, weight}
+use Rattle.alists.specs.Lists.{indices, largest, list_of, ones_from, padded, weight}
 use Rattle.alists.specs.Working.{Small}
 use Rattle.words.specs.Word.{bit}
 
@@ -17,9 +17,9 @@ few-case : (k : ℕ) (x : ℕ) (xs : List ℕ) (t : Bool) → length xs ≤ k �
 few-case k x xs true h = omega arith
 few-case k x xs false h = omega arith
 
-pub ones-few : (w p k : ℕ) → length (onesFrom w p k) ≤ k
+pub ones-few : (w p k : ℕ) → length (ones_from w p k) ≤ k
 ones-few w p zero = omega arith
-ones-few w p (suc k) = few-case k (suc p) (onesFrom w (suc p) k) (eqb (bit w p) 1) (ones-few w (suc p) k)
+ones-few w p (suc k) = few-case k (suc p) (ones_from w (suc p) k) (eqb (bit w p) 1) (ones-few w (suc p) k)
 
 pub indices-few : (w : ℕ) → length (indices w) ≤ 64
 unfolding indices
@@ -61,11 +61,11 @@ one-small k p x xs true a h zero = a
 one-small k p x xs true a h (suc j) = h j
 one-small k p x xs false a h j = h j
 
-ones_small : (w p k j : ℕ) → get_or (onesFrom w p k) j 0 ≤ p + k
+ones_small : (w p k j : ℕ) → get_or (ones_from w p k) j 0 ≤ p + k
 ones_small w p zero j = omega arith
 ones_small w p (suc k) j =
     let e : suc p + k ≡ p + suc k = omega arith in
-    one-small (p + suc k) p (suc p) (onesFrom w (suc p) k) (eqb (bit w p) 1) (omega arith) (λ i. rw e at (ones_small w (suc p) k i)) j
+    one-small (p + suc k) p (suc p) (ones_from w (suc p) k) (eqb (bit w p) 1) (omega arith) (λ i. rw e at (ones_small w (suc p) k i)) j
 
 padded-small : (most : ℕ) (xs : List ℕ) → ((j : ℕ) → get_or xs j 0 ≤ 64) → (j : ℕ) → get_or (padded most xs) j 0 < 100
 padded-small zero xs h j = omega arith
@@ -76,7 +76,7 @@ padded-small (suc most) (x ∷ xs) h (suc j) = padded-small most xs (λ i. h (su
 
 pub list-small : (most w : ℕ) → Small (list_of most w)
 unfolding indices
-list-small most w = record { below = padded-small most (onesFrom w 0 64) (λ j. ones_small w 0 64 j) }
+list-small most w = record { below = padded-small most (ones_from w 0 64) (λ j. ones_small w 0 64 j) }
 
 pub pair_small : (a b : ℕ) → a ≤ 64 → b ≤ 64 → Small (a ∷ b ∷ [])
 pair_small a b h k = record { below = go }

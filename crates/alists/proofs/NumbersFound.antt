@@ -7,8 +7,8 @@ use mathlib.Core.List.{List, []}
 use mathlib.Core.Path.{◌≡◌, refl}
 use Prim.Native.Nat.{◌*◌, ◌+◌, ◌-◌, ◌<◌, ℕ, ◌≤◌}
 use Rattle.alists.proofs.Places.{done, here}
-use Rattle.alists.specs.Lines.{faulty, feedOf, found, isDigit, moreOf, next_of, nothing, number_of, reads, skipped}
-use Rattle.alists.specs.Reading.{zerosOnly}
+use Rattle.alists.specs.Lines.{faulty, feed_of, found, is_digit, more_of, next_of, nothing, number_of, reads, skipped}
+use Rattle.alists.specs.Reading.{zeros_only}
 
 pub both : (a b : Bool) → (a && b) ≡ true → (a ≡ true) × (b ≡ true)
 both true b e = (refl, e)
@@ -24,37 +24,37 @@ between l h x e = let p = both (leb l x) (leb x h) e in (leb-true l x p.0, leb-t
 module _ (s : List ℕ) (at : ℕ) where
   -- ---- the line feed
 
-  pub feed-end : length s ≤ at → feedOf (drop at s) ≡ faulty
+  pub feed-end : length s ≤ at → feed_of (drop at s) ≡ faulty
   feed-end h = rw (done s at h)
 
-  pub feed-other : at < length s → (get_or s at 0 ≡ 10 → ⊥) → feedOf (drop at s) ≡ faulty
+  pub feed-other : at < length s → (get_or s at 0 ≡ 10 → ⊥) → feed_of (drop at s) ≡ faulty
   feed-other h e = rw (here s at h, ne_eqb (get_or s at 0) 10 e)
 
-  pub feed-here : at < length s → get_or s at 0 ≡ 10 → feedOf (drop at s) ≡ reads [] (drop (at + 1) s)
+  pub feed-here : at < length s → get_or s at 0 ≡ 10 → feed_of (drop at s) ≡ reads [] (drop (at + 1) s)
   feed-here h e = rw (here s at h, eq-eqb (get_or s at 0) 10 e)
 
   -- ---- a number
 
-  pub more-end : (d : ℕ) → length s ≤ at → moreOf d (drop at s) ≡ found d (drop at s)
+  pub more-end : (d : ℕ) → length s ≤ at → more_of d (drop at s) ≡ found d (drop at s)
   more-end d h = rw (done s at h)
 
-  pub more-other : (d : ℕ) → at < length s → isDigit (get_or s at 0) ≡ false → moreOf d (drop at s) ≡ found d (drop at s)
+  pub more-other : (d : ℕ) → at < length s → is_digit (get_or s at 0) ≡ false → more_of d (drop at s) ≡ found d (drop at s)
   more-other d h e = rw (here s at h, e)
 
-  pub more-zero : (d : ℕ) → at < length s → isDigit (get_or s at 0) ≡ true → d ≡ 0 → moreOf d (drop at s) ≡ nothing
+  pub more-zero : (d : ℕ) → at < length s → is_digit (get_or s at 0) ≡ true → d ≡ 0 → more_of d (drop at s) ≡ nothing
   more-zero d h e z = rw (here s at h, e, eq-eqb d 0 z)
 
-  pub more-here : (d : ℕ) → at < length s → isDigit (get_or s at 0) ≡ true → (d ≡ 0 → ⊥)
-      → moreOf d (drop at s) ≡ found (d * 10 + (get_or s at 0 - 48)) (drop (at + 1) s)
+  pub more-here : (d : ℕ) → at < length s → is_digit (get_or s at 0) ≡ true → (d ≡ 0 → ⊥)
+      → more_of d (drop at s) ≡ found (d * 10 + (get_or s at 0 - 48)) (drop (at + 1) s)
   more-here d h e z = rw (here s at h, e, ne_eqb d 0 z)
 
   pub number-end : length s ≤ at → number_of (drop at s) ≡ nothing
   number-end h = rw (done s at h)
 
-  pub number-other : at < length s → isDigit (get_or s at 0) ≡ false → number_of (drop at s) ≡ nothing
+  pub number-other : at < length s → is_digit (get_or s at 0) ≡ false → number_of (drop at s) ≡ nothing
   number-other h e = rw (here s at h, e)
 
-  pub number-here : at < length s → isDigit (get_or s at 0) ≡ true → number_of (drop at s) ≡ moreOf (get_or s at 0 - 48) (drop (at + 1) s)
+  pub number-here : at < length s → is_digit (get_or s at 0) ≡ true → number_of (drop at s) ≡ more_of (get_or s at 0 - 48) (drop (at + 1) s)
   number-here h e = rw (here s at h, e)
 
   -- ---- spaces
@@ -79,11 +79,11 @@ module _ (s : List ℕ) (at : ℕ) where
 
   -- ---- zeros
 
-  pub zeros-end : length s ≤ at → zerosOnly (drop at s) ≡ true
+  pub zeros-end : length s ≤ at → zeros_only (drop at s) ≡ true
   zeros-end h = rw (done s at h)
 
-  pub zeros-other : at < length s → (get_or s at 0 ≡ 0 → ⊥) → zerosOnly (drop at s) ≡ false
+  pub zeros-other : at < length s → (get_or s at 0 ≡ 0 → ⊥) → zeros_only (drop at s) ≡ false
   zeros-other h e = rw (here s at h, ne_eqb (get_or s at 0) 0 e)
 
-  pub zeros-here : at < length s → get_or s at 0 ≡ 0 → zerosOnly (drop at s) ≡ zerosOnly (drop (at + 1) s)
+  pub zeros-here : at < length s → get_or s at 0 ≡ 0 → zeros_only (drop at s) ≡ zeros_only (drop (at + 1) s)
   zeros-here h e = rw (here s at h, eq-eqb (get_or s at 0) 0 e)

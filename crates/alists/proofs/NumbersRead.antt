@@ -8,16 +8,16 @@ use native.Mathlib.Decide.{dec_lt}
 use native.Mathlib.Omega.{arith}
 use Prim.Native.Nat.{◌%◌, ◌*◌, ◌+◌, ◌-◌, ◌/◌, ◌<◌, suc, zero, ℕ, ◌≤◌}
 use Rattle.alists.proofs.Putting.{decimal-one, decimal-two}
-use Rattle.alists.specs.Lines.{Line, before, faulty, feedOf, found, isDigit, line_of, next_of, number_of, reads, rest_of, skipped}
+use Rattle.alists.specs.Lines.{Line, before, faulty, feed_of, found, is_digit, line_of, next_of, number_of, reads, rest_of, skipped}
 use Rattle.alists.specs.Text.{decimal, following, line}
 use Rattle.alists.specs.Working.{Small}
 
 -- a character of a digit is one
-digit-is : (d : ℕ) → d < 10 → isDigit (48 + d) ≡ true
+digit-is : (d : ℕ) → d < 10 → is_digit (48 + d) ≡ true
 digit-is d h = rw (le-leb 48 (48 + d) (omega arith), le-leb (48 + d) 57 (omega arith))
 
 -- a number is read where no digit follows
-pub number_read : (x y : ℕ) (s : List ℕ) → x < 100 → isDigit y ≡ false → number_of (decimal x ++ (y ∷ s)) ≡ found x (y ∷ s)
+pub number_read : (x y : ℕ) (s : List ℕ) → x < 100 → is_digit y ≡ false → number_of (decimal x ++ (y ∷ s)) ≡ found x (y ∷ s)
 number_read x y s h f = go (dec_lt x 10)
   where
     go : Dec (x < 10) → number_of (decimal x ++ (y ∷ s)) ≡ found x (y ∷ s)
@@ -77,7 +77,7 @@ rest-known (suc k) (x ∷ xs) s h vs t e =
     before-known x (rest_of k (following xs ++ s)) xs s (rest-known k xs s (small-tail h)) vs t (rw (next-read x xs s (h.below 0)) at e)
 
 -- no line feed stands before a number
-no-feed : (x : ℕ) (r s vs t : List ℕ) → feedOf ((decimal x ++ r) ++ s) ≡ reads vs t → ⊥
+no-feed : (x : ℕ) (r s vs t : List ℕ) → feed_of ((decimal x ++ r) ++ s) ≡ reads vs t → ⊥
 no-feed x r s vs t e = go (dec_lt x 10)
   where
     go : Dec (x < 10) → ⊥

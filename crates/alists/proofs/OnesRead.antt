@@ -10,18 +10,18 @@ use native.Mathlib.Nat.{pow-suc}
 use native.Mathlib.Omega.{arith}
 use Prim.Native.Nat.{◌%◌, ◌*◌, ◌+◌, ◌-◌, ◌/◌, ◌<◌, ◌^◌, suc, zero, ℕ, ◌≤◌}
 use Rattle.alists.proofs.Places.{done, here}
-use Rattle.alists.specs.Reading.{fits, onesOf, word, wrong}
+use Rattle.alists.specs.Reading.{fits, ones_of, word, wrong}
 use Rattle.words.specs.Word.{bit}
 
 module _ (size used : ℕ) (xs : List ℕ) (i : ℕ) where
-  pub ones-end : length xs ≤ i → onesOf size used (drop i xs) ≡ word used
+  pub ones-end : length xs ≤ i → ones_of size used (drop i xs) ≡ word used
   ones-end h = rw (done xs i h)
 
-  pub ones-other : i < length xs → fits size used (get_or xs i 0) ≡ false → onesOf size used (drop i xs) ≡ wrong
+  pub ones-other : i < length xs → fits size used (get_or xs i 0) ≡ false → ones_of size used (drop i xs) ≡ wrong
   ones-other h e = rw (here xs i h, e)
 
   pub ones-here : i < length xs → fits size used (get_or xs i 0) ≡ true
-      → onesOf size used (drop i xs) ≡ onesOf size (used + 2 ^ (get_or xs i 0 - 1)) (drop (i + 1) xs)
+      → ones_of size used (drop i xs) ≡ ones_of size (used + 2 ^ (get_or xs i 0 - 1)) (drop (i + 1) xs)
   ones-here h e = rw (here xs i h, e)
 
 -- an index that fits

@@ -18,12 +18,12 @@ use Rattle.alists.proofs.SpacedOnce.{short-small}
 use Rattle.alists.proofs.SpacedRead.{line-back}
 use Rattle.alists.proofs.Transposed.{column-at, column-of-columns}
 use Rattle.alists.proofs.WrittenForm.{written-accepted}
-use Rattle.alists.specs.Accepted.{Accepted, Sized, linesOrdered, ordered, spacedFrom, spacedOnce}
+use Rattle.alists.specs.Accepted.{Accepted, Sized, lines_ordered, ordered, spaced_from, spaced_once}
 use Rattle.alists.specs.Lines.{line_of, reads}
 use Rattle.alists.specs.Lists.{column, columns, largest, list_of, weight}
 use Rattle.alists.specs.OwnForm.{each, short}
-use Rattle.alists.specs.Reading.{inSize, lists, listsFrom, matrix, onColumnWeights, onColumns, onMost, onRowWeights, reading, shows}
-use Rattle.alists.specs.Text.{alistText, line, lines_of, lists_of, text_of, weights}
+use Rattle.alists.specs.Reading.{in_size, lists, lists_from, matrix, on_column_weights, on_columns, on_most, on_row_weights, reading, shows}
+use Rattle.alists.specs.Text.{alist_text, line, lines_of, lists_of, text_of, weights}
 
 -- ---- lists
 
@@ -37,16 +37,16 @@ pub record Fine (most size : ℕ) (seen : List ℕ) (i w : ℕ) : Type 0 where
 record ListsBack (most size : ℕ) (seen : List ℕ) (i : ℕ) (ws s : List ℕ) (rest : List (List ℕ)) : Type 0 where
   pub after : List ℕ
   pub left : List (List ℕ)
-  pub is : listsFrom most size seen i (weights ws) s ≡ lists ws after
+  pub is : lists_from most size seen i (weights ws) s ≡ lists ws after
   pub numbers : each short left ≡ true
-  pub bytes : spacedOnce after ≡ text_of left
+  pub bytes : spaced_once after ≡ text_of left
   pub order : map ordered left ≡ rest
 
 module _ (most size : ℕ) (few : size ≤ 64) (seen : List ℕ) (rest : List (List ℕ)) where
   -- one list before others
   list-before : (i w : ℕ) (ws s l : List ℕ) (ls : List (List ℕ)) → each short (l ∷ ls) ≡ true → ordered l ≡ list_of most w
-      → spacedOnce s ≡ line l ++ text_of ls
-      → Fine most size seen i w → ((t : List ℕ) → spacedOnce t ≡ text_of ls → ListsBack most size seen (suc i) ws t rest)
+      → spaced_once s ≡ line l ++ text_of ls
+      → Fine most size seen i w → ((t : List ℕ) → spaced_once t ≡ text_of ls → ListsBack most size seen (suc i) ws t rest)
       → ListsBack most size seen i (w ∷ ws) s rest
   list-before i w ws s l ls h o b g on =
       let p = list_back size most l w few g.below g.light o in
@@ -56,7 +56,7 @@ module _ (most size : ℕ) (few : size ≤ 64) (seen : List ℕ) (rest : List (L
       record { after = r.after; left = r.left; is = rw (d, p.1, g.shown, r.is); numbers = r.numbers; bytes = r.bytes; order = r.order }
 
   lists_back : (i : ℕ) (ws s : List ℕ) (ls : List (List ℕ)) → each short ls ≡ true → map ordered ls ≡ map (list_of most) ws ++ rest
-      → spacedOnce s ≡ text_of ls
+      → spaced_once s ≡ text_of ls
       → ((j : ℕ) → j < length ws → Fine most size seen (i + j) (get_or ws j 0)) → ListsBack most size seen i ws s rest
   lists_back i [] s ls h o b f = record { after = s; left = ls; is = refl; numbers = h; bytes = b; order = o }
   lists_back i (w ∷ ws) s [] h o b f = absurd (let z : ◌≡◌ {A = ℕ} 0 1 = cc in omega arith)
@@ -100,7 +100,7 @@ module _ (n : ℕ) (rows : List ℕ) (sized : Sized n rows) where
         shown = rw z (shows-known (columns n rows) j (get_or rows j 0) (omega (arith, l, g)) ∙ eq-eqb (get_or rows j 0) (column (columns n rows) j) (sym c));
       }
 
-  size_in : (k : ℕ) → 1 ≤ k → k ≤ 64 → inSize k ≡ true
+  size_in : (k : ℕ) → 1 ≤ k → k ≤ 64 → in_size k ≡ true
   size_in k a b = rw (le-leb 1 k a, le-leb k 64 b)
 
   tall-fits : largest (weights (columns n rows)) ≤ length rows
@@ -117,7 +117,7 @@ record FourLines (a b c d : List ℕ) (rest lines : List (List ℕ)) : Type 0 wh
   pub are : lines ≡ a ∷ b ∷ c ∷ d ∷ left
   pub order : map ordered left ≡ rest
 
-four-lines : (a b c d : List ℕ) (rest lines : List (List ℕ)) → linesOrdered lines ≡ a ∷ b ∷ c ∷ d ∷ rest → FourLines a b c d rest lines
+four-lines : (a b c d : List ℕ) (rest lines : List (List ℕ)) → lines_ordered lines ≡ a ∷ b ∷ c ∷ d ∷ rest → FourLines a b c d rest lines
 four-lines a b c d rest [] e = absurd (let z : ◌≡◌ {A = ℕ} 0 1 = cc in omega arith)
 four-lines a b c d rest (p ∷ []) e = absurd (let z : ◌≡◌ {A = ℕ} 0 1 = cc in omega arith)
 four-lines a b c d rest (p ∷ q ∷ []) e = absurd (let z : ◌≡◌ {A = ℕ} 0 1 = cc in omega arith)
@@ -135,11 +135,11 @@ no_lines : (ls : List (List ℕ)) → map ordered ls ≡ [] → ls ≡ []
 no_lines [] e = refl
 no_lines (l ∷ ls) e = absurd (let z : ◌≡◌ {A = ℕ} 0 1 = cc in omega arith)
 
-no_bytes : (s : List ℕ) → spacedOnce s ≡ [] → s ≡ []
+no_bytes : (s : List ℕ) → spaced_once s ≡ [] → s ≡ []
 no_bytes [] e = refl
 no_bytes (x ∷ s) e = absurd (go (eqb x 32) e)
   where
-    go : (b : Bool) → cond b (x ∷ spacedFrom true s) (x ∷ spacedFrom false s) ≡ [] → ⊥
+    go : (b : Bool) → cond b (x ∷ spaced_from true s) (x ∷ spaced_from false s) ≡ [] → ⊥
     go true d = let z : ◌≡◌ {A = ℕ} 0 1 = cc in omega arith
     go false d = let z : ◌≡◌ {A = ℕ} 0 1 = cc in omega arith
 
@@ -155,7 +155,7 @@ record FourBack (text cols rows : List ℕ) : Type 0 where
   pub fourth : line_of (length (weights rows)) s₃ ≡ reads (weights rows) s₄
   pub left : List (List ℕ)
   pub numbers : each short left ≡ true
-  pub bytes : spacedOnce s₄ ≡ text_of left
+  pub bytes : spaced_once s₄ ≡ text_of left
   pub order : map ordered left ≡ lists_of cols ++ lists_of rows
 
 -- what is left has small numbers
@@ -167,8 +167,8 @@ left-short p q r s ls d =
     (both (short s) (each short ls) v).1
 
 four-back : (text cols rows : List ℕ) (lines : List (List ℕ)) → length cols ≤ 64 → length rows ≤ 64 → each short lines ≡ true
-    → spacedOnce text ≡ text_of lines
-    → linesOrdered lines ≡ lines_of cols rows → FourBack text cols rows
+    → spaced_once text ≡ text_of lines
+    → lines_ordered lines ≡ lines_of cols rows → FourBack text cols rows
 four-back text cols rows lines h k d e o =
     let tall = largest (weights cols) in
     let wide = largest (weights rows) in
@@ -224,22 +224,22 @@ module _ (text : List ℕ) (n : ℕ) (rows : List ℕ) (sized : Sized n rows) (b
   rows_end : rows-read.after ≡ []
   rows_end = no_bytes rows-read.after (rows-read.bytes ∙ ap text_of (no_lines rows-read.left rows-read.order))
 
-  columns-back : onColumns n wide (weights rows) (listsFrom tall (length rows) [] 0 (weights cols) b.s₄) ≡ matrix n rows
+  columns-back : on_columns n wide (weights rows) (lists_from tall (length rows) [] 0 (weights cols) b.s₄) ≡ matrix n rows
   columns-back = rw (columns-read.is, rows-read.is, rows_end)
 
   -- the weights
-  widths-back : onRowWeights n (length rows) tall wide (weights cols) (line_of (length rows) b.s₃) ≡ matrix n rows
+  widths-back : on_row_weights n (length rows) tall wide (weights cols) (line_of (length rows) b.s₃) ≡ matrix n rows
   widths-back =
       let l = rw (length-weights rows) at b.fourth in
       rw (l, eq-eqb wide wide refl) columns-back
 
-  heights-back : onColumnWeights n (length rows) tall wide (line_of n b.s₂) ≡ matrix n rows
+  heights-back : on_column_weights n (length rows) tall wide (line_of n b.s₂) ≡ matrix n rows
   heights-back =
       let l = rw (length-weights cols, long n rows sized) at b.third in
       rw (l, eq-eqb tall tall refl) widths-back
 
   -- the largest weights
-  most-back : onMost n (length rows) (line_of 2 b.s₁) ≡ matrix n rows
+  most-back : on_most n (length rows) (line_of 2 b.s₁) ≡ matrix n rows
   most-back =
       let t = le-leb tall (length rows) (tall-fits n rows sized) in
       let w = le-leb wide n (wide_fits n rows sized) in
@@ -260,5 +260,5 @@ accepted-reads text n rows a =
     sizes-back text n rows a.sized b
 
 -- a written text reads back as the matrix
-pub written-reads-back : (n : ℕ) (rows : List ℕ) → Sized n rows → reading (alistText n rows) ≡ matrix n rows
-written-reads-back n rows sized = accepted-reads (alistText n rows) n rows (written-accepted n rows sized)
+pub written-reads-back : (n : ℕ) (rows : List ℕ) → Sized n rows → reading (alist_text n rows) ≡ matrix n rows
+written-reads-back n rows sized = accepted-reads (alist_text n rows) n rows (written-accepted n rows sized)

@@ -7,7 +7,7 @@ use mathlib.Core.Path.{◌≡◌, refl, ◌∙◌}
 use native.Mathlib.Omega.{arith}
 use Prim.Native.Nat.{◌+◌, ◌<◌, ℕ, ◌≤◌}
 use Rattle.alists.specs.Calls.{WritesAlist}
-use Rattle.alists.specs.Text.{alistText}
+use Rattle.alists.specs.Text.{alist_text}
 use Rattle.alists.specs.Working.{FirstBeyond, Puts}
 use Rattle.listings.proofs.Conditions.{fits-room, passed_first, refused-first, too_long}
 use Rattle.listings.specs.declared.Written.{Written}
@@ -15,7 +15,7 @@ use Rattle.listings.specs.declared.Written.TheVariants.{Bytes, Refused}
 use Rattle.listings.specs.Writing.{WritesLine}
 use Rattle.plates.specs.declared.Refusal.{Refusal}
 use Rattle.plates.specs.declared.Refusal.TheVariants as R
-use Rattle.plates.specs.Prepare.{RowOver, badLength}
+use Rattle.plates.specs.Prepare.{RowOver, bad_length}
 
 module _ (n : ℕ) (rows room : List ℕ) where
   pub length-zero : n ≡ 0 → WritesAlist n rows room (Refused R.Length) room
@@ -24,7 +24,7 @@ module _ (n : ℕ) (rows room : List ℕ) where
   pub length_over : 64 < n → WritesAlist n rows room (Refused R.Length) room
   length_over h = refused-first (inr h, refl)
 
-  length-good : (n ≡ 0 → ⊥) → n ≤ 64 → (p : Refusal) → badLength n p → ⊥
+  length-good : (n ≡ 0 → ⊥) → n ≤ 64 → (p : Refusal) → bad_length n p → ⊥
   length-good z h p (inl e, q) = z e
   length-good z h p (inr o, q) = omega (arith, h, o)
 
@@ -47,7 +47,7 @@ module _ (n : ℕ) (rows room : List ℕ) where
             passed_first (length-good z h) (passed_first (λ p o. omega (arith, few, o.0)) (passed_first rows-good (refused-first (e, refl))))
 
         module _ (some : length rows ≡ 0 → ⊥) where
-          pub as_line : {r : Written} {room' : List ℕ} → WritesLine (alistText n rows) room r room' → WritesAlist n rows room r room'
+          pub as_line : {r : Written} {room' : List ℕ} → WritesLine (alist_text n rows) room r room' → WritesAlist n rows room r room'
           as_line w =
               passed_first (length-good z h) (passed_first (λ p o. omega (arith, few, o.0)) (passed_first rows-good (passed_first (λ p o. some o.0) w)))
 

@@ -11,8 +11,8 @@ use Prim.Native.Nat.{◌%◌, ◌*◌, ◌+◌, ◌-◌, ◌/◌, ◌<◌, suc, 
 use Rattle.alists.proofs.NumbersFound.{between, both}
 use Rattle.alists.proofs.NumbersRead.{line_known, line_read}
 use Rattle.alists.proofs.Putting.{decimal-one, decimal-two}
-use Rattle.alists.specs.Accepted.{spacedFrom, spacedOnce}
-use Rattle.alists.specs.Lines.{Found, Line, before, faulty, feedOf, found, further, isDigit, line_of, moreOf, next_of, nothing, number_of, reads, rest_of, skipped}
+use Rattle.alists.specs.Accepted.{spaced_from, spaced_once}
+use Rattle.alists.specs.Lines.{Found, Line, before, faulty, feed_of, found, further, is_digit, line_of, more_of, next_of, nothing, number_of, reads, rest_of, skipped}
 use Rattle.alists.specs.OwnForm.{each, short}
 use Rattle.alists.specs.Text.{decimal, following, line, text_of}
 use Rattle.alists.specs.Working.{Small}
@@ -25,14 +25,14 @@ pub record NumberTaken (s : List ℕ) (v : ℕ) (t : List ℕ) : Type 0 where
   pub below : v < 100
 
 -- the digit of a character
-digit-of : (x : ℕ) → isDigit x ≡ true → (48 + (x - 48) ≡ x) × (x - 48 < 10)
+digit-of : (x : ℕ) → is_digit x ≡ true → (48 + (x - 48) ≡ x) × (x - 48 < 10)
 digit-of x e =
     let b = between 48 57 x e in
     let l = b.0 in
     let h = b.1 in
     (omega (arith, l), omega (arith, h))
 
-one-digit : (x : ℕ) (s t : List ℕ) (v : ℕ) → isDigit x ≡ true → found (x - 48) s ≡ found v t → NumberTaken (x ∷ s) v t
+one-digit : (x : ℕ) (s t : List ℕ) (v : ℕ) → is_digit x ≡ true → found (x - 48) s ≡ found v t → NumberTaken (x ∷ s) v t
 one-digit x s t v d e =
     let a : x - 48 ≡ v = cc in
     let b : s ≡ t = cc in
@@ -41,7 +41,7 @@ one-digit x s t v d e =
     let k = decimal-one (x - 48) h in
     record { is = rw (← a, ← b, k, g.0); below = omega (arith, a, h) }
 
-two_digits : (x y : ℕ) (s t : List ℕ) (v : ℕ) → isDigit x ≡ true → isDigit y ≡ true → (x - 48 ≡ 0 → ⊥) → found ((x - 48) * 10 + (y - 48)) s ≡ found v t
+two_digits : (x y : ℕ) (s t : List ℕ) (v : ℕ) → is_digit x ≡ true → is_digit y ≡ true → (x - 48 ≡ 0 → ⊥) → found ((x - 48) * 10 + (y - 48)) s ≡ found v t
     → NumberTaken (x ∷ y ∷ s) v t
 two_digits x y s t v d f z e =
     let a : (x - 48) * 10 + (y - 48) ≡ v = cc in
@@ -55,11 +55,11 @@ two_digits x y s t v d f z e =
     let k = decimal-two v (omega (arith, a, z)) in
     record { is = rw (← b, k, q, r, g.0, h.0); below = omega (arith, a, gl, hl) }
 
-more-taken : (x : ℕ) (s : List ℕ) (v : ℕ) (t : List ℕ) → isDigit x ≡ true → moreOf (x - 48) s ≡ found v t → NumberTaken (x ∷ s) v t
+more-taken : (x : ℕ) (s : List ℕ) (v : ℕ) (t : List ℕ) → is_digit x ≡ true → more_of (x - 48) s ≡ found v t → NumberTaken (x ∷ s) v t
 more-taken x [] v t d e = one-digit x [] t v d e
-more-taken x (y ∷ s) v t d e = go (isDigit y) refl (eqb (x - 48) 0) refl e
+more-taken x (y ∷ s) v t d e = go (is_digit y) refl (eqb (x - 48) 0) refl e
   where
-    go : (b : Bool) → isDigit y ≡ b → (c : Bool) → eqb (x - 48) 0 ≡ c
+    go : (b : Bool) → is_digit y ≡ b → (c : Bool) → eqb (x - 48) 0 ≡ c
         → cond b (cond c nothing (found ((x - 48) * 10 + (y - 48)) s)) (found (x - 48) (y ∷ s)) ≡ found v t → NumberTaken (x ∷ y ∷ s) v t
     go true f true g p = absurd (let z : ◌≡◌ {A = ℕ} 0 1 = cc in omega arith)
     go true f false g p = two_digits x y s t v d f (eqb-false (x - 48) 0 g) p
@@ -67,48 +67,48 @@ more-taken x (y ∷ s) v t d e = go (isDigit y) refl (eqb (x - 48) 0) refl e
 
 pub number-taken : (s : List ℕ) (v : ℕ) (t : List ℕ) → number_of s ≡ found v t → NumberTaken s v t
 number-taken [] v t e = absurd (let z : ◌≡◌ {A = ℕ} 0 1 = cc in omega arith)
-number-taken (x ∷ s) v t e = go (isDigit x) refl e
+number-taken (x ∷ s) v t e = go (is_digit x) refl e
   where
-    go : (b : Bool) → isDigit x ≡ b → cond b (moreOf (x - 48) s) nothing ≡ found v t → NumberTaken (x ∷ s) v t
+    go : (b : Bool) → is_digit x ≡ b → cond b (more_of (x - 48) s) nothing ≡ found v t → NumberTaken (x ∷ s) v t
     go true f p = more-taken x s v t f p
     go false f p = absurd (let z : ◌≡◌ {A = ℕ} 0 1 = cc in omega arith)
 
 -- ---- spaces
 
 -- a number has none
-spaced-number : (space : Bool) (x : ℕ) (s : List ℕ) → spacedFrom space (decimal x ++ s) ≡ decimal x ++ spacedOnce s
+spaced-number : (space : Bool) (x : ℕ) (s : List ℕ) → spaced_from space (decimal x ++ s) ≡ decimal x ++ spaced_once s
 spaced-number space x s = go (dec_lt x 10)
   where
-    go : Dec (x < 10) → spacedFrom space (decimal x ++ s) ≡ decimal x ++ spacedOnce s
+    go : Dec (x < 10) → spaced_from space (decimal x ++ s) ≡ decimal x ++ spaced_once s
     go (yes l) = rw (decimal-one x l, ne_eqb (48 + x) 32 (λ z. omega (arith, z)))
     go (no l) = rw (decimal-two x (omega (arith, l)), ne_eqb (48 + x / 10) 32 (λ z. omega (arith, z)), ne_eqb (48 + x % 10) 32 (λ z. omega (arith, z)))
 
 -- those after a space are passed over
-spaced-skipped : (s : List ℕ) → spacedFrom true s ≡ spacedFrom true (skipped s)
+spaced-skipped : (s : List ℕ) → spaced_from true s ≡ spaced_from true (skipped s)
 spaced-skipped [] = refl
 spaced-skipped (x ∷ s) = go (eqb x 32) refl (spaced-skipped s)
   where
-    go : (b : Bool) → eqb x 32 ≡ b → spacedFrom true s ≡ spacedFrom true (skipped s)
-        → cond b (spacedFrom true s) (x ∷ spacedFrom false s) ≡ spacedFrom true (cond b (skipped s) (x ∷ s))
+    go : (b : Bool) → eqb x 32 ≡ b → spaced_from true s ≡ spaced_from true (skipped s)
+        → cond b (spaced_from true s) (x ∷ spaced_from false s) ≡ spaced_from true (cond b (skipped s) (x ∷ s))
     go true e r = r
     go false e r = rw e
 
 -- what is written keeps its spaces
-spaced-following : (xs s : List ℕ) → spacedOnce (following xs ++ s) ≡ following xs ++ spacedOnce s
+spaced-following : (xs s : List ℕ) → spaced_once (following xs ++ s) ≡ following xs ++ spaced_once s
 spaced-following [] s = refl
 spaced-following (x ∷ xs) s =
     let a = append_assoc (decimal x) (following xs) s in
-    let b = append_assoc (decimal x) (following xs) (spacedOnce s) in
+    let b = append_assoc (decimal x) (following xs) (spaced_once s) in
     rw (a, spaced-number true x (following xs ++ s), spaced-following xs s, b)
 
-spaced-line : (xs s : List ℕ) → spacedOnce (line xs ++ s) ≡ line xs ++ spacedOnce s
+spaced-line : (xs s : List ℕ) → spaced_once (line xs ++ s) ≡ line xs ++ spaced_once s
 spaced-line [] s = refl
 spaced-line (x ∷ xs) s =
     let a = append_assoc (decimal x) (following xs) s in
-    let b = append_assoc (decimal x) (following xs) (spacedOnce s) in
+    let b = append_assoc (decimal x) (following xs) (spaced_once s) in
     rw (a, spaced-number false x (following xs ++ s), spaced-following xs s, b)
 
-pub spaced-text : (ls : List (List ℕ)) → spacedOnce (text_of ls) ≡ text_of ls
+pub spaced-text : (ls : List (List ℕ)) → spaced_once (text_of ls) ≡ text_of ls
 spaced-text [] = refl
 spaced-text (l ∷ ls) = spaced-line l (text_of ls) ∙ ap (λ (r : List ℕ). line l ++ r) (spaced-text ls)
 
@@ -116,10 +116,10 @@ spaced-text (l ∷ ls) = spaced-line l (text_of ls) ∙ ap (λ (r : List ℕ). l
 
 -- the numbers of a line read, with one space for several
 pub record LineTaken (written : List ℕ → List ℕ) (s xs t : List ℕ) : Type 0 where
-  pub is : spacedOnce s ≡ written xs ++ spacedOnce t
+  pub is : spaced_once s ≡ written xs ++ spaced_once t
   pub numbers : short xs ≡ true
 
-feed-taken : (s xs t : List ℕ) → feedOf s ≡ reads xs t → (s ≡ 10 ∷ t) × (xs ≡ [])
+feed-taken : (s xs t : List ℕ) → feed_of s ≡ reads xs t → (s ≡ 10 ∷ t) × (xs ≡ [])
 feed-taken [] xs t e = absurd (let z : ◌≡◌ {A = ℕ} 0 1 = cc in omega arith)
 feed-taken (x ∷ s) xs t e = go (eqb x 10) refl e
   where
@@ -152,12 +152,12 @@ further-taken (found v u) on xs t e = go (on u) refl e
 further-taken nothing on xs t e = absurd (let z : ◌≡◌ {A = ℕ} 0 1 = cc in omega arith)
 
 -- a number after spaces
-next-taken : (s : List ℕ) (v : ℕ) (t : List ℕ) → next_of s ≡ found v t → (spacedOnce s ≡ 32 ∷ (decimal v ++ spacedOnce t)) × (v < 100)
+next-taken : (s : List ℕ) (v : ℕ) (t : List ℕ) → next_of s ≡ found v t → (spaced_once s ≡ 32 ∷ (decimal v ++ spaced_once t)) × (v < 100)
 next-taken [] v t e = absurd (let z : ◌≡◌ {A = ℕ} 0 1 = cc in omega arith)
 next-taken (x ∷ s) v t e = go (eqb x 32) refl e
   where
     go : (b : Bool) → eqb x 32 ≡ b → cond b (number_of (skipped s)) nothing ≡ found v t
-        → (spacedOnce (x ∷ s) ≡ 32 ∷ (decimal v ++ spacedOnce t)) × (v < 100)
+        → (spaced_once (x ∷ s) ≡ 32 ∷ (decimal v ++ spaced_once t)) × (v < 100)
     go true d p =
         let a = eqb-true x 32 d in
         let k = number-taken (skipped s) v t p in
@@ -173,7 +173,7 @@ rest-taken (suc k) s xs t e =
     let f = further-taken (next_of s) (rest_of k) xs t e in
     let p = next-taken s f.first f.after f.number in
     let r = rest-taken k f.after f.others t f.rest in
-    let a = append_assoc (decimal f.first) (following f.others) (spacedOnce t) in
+    let a = append_assoc (decimal f.first) (following f.others) (spaced_once t) in
     record { is = rw (f.are, a) (p.0 ∙ rw r.is); numbers = rw f.are (short_on f.first f.others p.1 r.numbers) }
 
 pub line_taken : (k : ℕ) (s xs t : List ℕ) → line_of k s ≡ reads xs t → LineTaken line s xs t
@@ -182,9 +182,9 @@ line_taken (suc k) s xs t e =
     let f = further-taken (number_of s) (rest_of k) xs t e in
     let p = number-taken s f.first f.after f.number in
     let r = rest-taken k f.after f.others t f.rest in
-    let a = append_assoc (decimal f.first) (following f.others) (spacedOnce t) in
+    let a = append_assoc (decimal f.first) (following f.others) (spaced_once t) in
     record {
-      is = rw (f.are, a) (ap spacedOnce p.is ∙ spaced-number false f.first f.after ∙ rw r.is);
+      is = rw (f.are, a) (ap spaced_once p.is ∙ spaced-number false f.first f.after ∙ rw r.is);
       numbers = rw f.are (short_on f.first f.others p.below r.numbers);
     }
 

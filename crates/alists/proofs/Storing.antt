@@ -10,7 +10,7 @@ use native.Mathlib.Omega.{arith}
 use Prim.Native.Nat.{◌+◌, ◌-◌, ◌<◌, suc, zero, ℕ, ◌≤◌}
 use Rattle.alists.specs.declared.numbers.LineEnd.{LineEnd}
 use Rattle.alists.specs.declared.numbers.LineEnd.TheVariants as L
-use Rattle.alists.specs.Lines.{Found, Line, before, faulty, feedOf, found, further, line_of, next_of, nothing, number_of, reads, rest_of}
+use Rattle.alists.specs.Lines.{Found, Line, before, faulty, feed_of, found, further, line_of, next_of, nothing, number_of, reads, rest_of}
 use Rattle.alists.specs.Working.{ReadsLine, Stored, StoredAs, kept, lost, stored}
 
 -- a number before others is put before them
@@ -50,7 +50,7 @@ module _ {text : List ℕ} {count at i : ℕ} {table : List ℕ} {whole : Stored
       sym s.stands ∙ rw (k, e)
 
   -- all are put
-  pub storing-end : count ≤ i → (r : LineEnd) → ReadsLine (feedOf (drop at text)) [] text r → Storing text count at i table whole size₀ → StoredAs whole text table r
+  pub storing-end : count ≤ i → (r : LineEnd) → ReadsLine (feed_of (drop at text)) [] text r → Storing text count at i table whole size₀ → StoredAs whole text table r
   storing-end h r p s =
       let k : count - i ≡ 0 = omega arith in
       let e = rw k at s.stands in
@@ -89,7 +89,7 @@ further-long : (n : ℕ) (f : Found) (on : List ℕ → Line) → ((t vs s : Lis
 further-long n (found v t) on h vs s e = before-long v n (on t) (h t) vs s e
 further-long n nothing on h vs s e = absurd (let z : ◌≡◌ {A = ℕ} 0 1 = cc in omega arith)
 
-feed-long : (t vs s : List ℕ) → feedOf t ≡ reads vs s → length vs ≡ 0
+feed-long : (t vs s : List ℕ) → feed_of t ≡ reads vs s → length vs ≡ 0
 feed-long [] vs s e = absurd (let z : ◌≡◌ {A = ℕ} 0 1 = cc in omega arith)
 feed-long (x ∷ t) vs s e = go (eqb x 10) e
   where

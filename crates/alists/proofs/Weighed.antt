@@ -8,30 +8,30 @@ use Rattle.alists.proofs.Bounds.{text-parts, text-short}
 use Rattle.alists.proofs.ListsPut.{largest-few, weights-small}
 use Rattle.alists.proofs.Putting.{Going, going_end, going_on, going-room, going_start}
 use Rattle.alists.specs.Lists.{largest, list_of}
-use Rattle.alists.specs.Text.{line, matrixText, text_of, weights}
+use Rattle.alists.specs.Text.{line, matrix_text, text_of, weights}
 use Rattle.alists.specs.Working.{Puts, Small}
 
 -- what the function that puts them has at hand
 pub record Weighed (cols rows heights widths : List ℕ) (tall wide : ℕ) : Type 0 where
-  pub few-columns : length cols ≤ 64
-  pub few-rows : length rows ≤ 64
-  pub heights-are : heights ≡ weights cols
-  pub widths-are : widths ≡ weights rows
-  pub tall-is : tall ≡ largest heights
+  pub few_columns : length cols ≤ 64
+  pub few_rows : length rows ≤ 64
+  pub heights_are : heights ≡ weights cols
+  pub widths_are : widths ≡ weights rows
+  pub tall_is : tall ≡ largest heights
   pub wide_is : wide ≡ largest widths
 
 module _ {cols rows heights widths : List ℕ} {tall wide : ℕ} (w : Weighed cols rows heights widths tall wide) where
   pub tall-few : tall ≤ 64
-  tall-few = rw (w.tall-is, w.heights-are) (largest-few cols)
+  tall-few = rw (w.tall_is, w.heights_are) (largest-few cols)
 
   pub wide-few : wide ≤ 64
-  wide-few = rw (w.wide_is, w.widths-are) (largest-few rows)
+  wide-few = rw (w.wide_is, w.widths_are) (largest-few rows)
 
   pub heights-small : Small heights
-  heights-small = rw w.heights-are (weights-small cols)
+  heights-small = rw w.heights_are (weights-small cols)
 
   pub widths-small : Small widths
-  widths-small = rw w.widths-are (weights-small rows)
+  widths-small = rw w.widths_are (weights-small rows)
 
 module _ (cols rows heights widths : List ℕ) (tall wide : ℕ) where
   -- the parts
@@ -52,11 +52,11 @@ module _ (cols rows heights widths : List ℕ) (tall wide : ℕ) where
   whole = one ++ (two ++ (line heights ++ (line widths ++ (five ++ six))))
 
   module _ (w : Weighed cols rows heights widths tall wide) where
-    pub whole_is : matrixText cols rows ≡ whole
-    whole_is = rw (w.tall-is, w.wide_is, w.heights-are, w.widths-are) (text-parts cols rows)
+    pub whole_is : matrix_text cols rows ≡ whole
+    whole_is = rw (w.tall_is, w.wide_is, w.heights_are, w.widths_are) (text-parts cols rows)
 
     pub whole-short : 0 + length whole ≤ 32768
-    whole-short = rw (w.tall-is, w.wide_is, w.heights-are, w.widths-are) (text-short cols rows w.few-columns w.few-rows)
+    whole-short = rw (w.tall_is, w.wide_is, w.heights_are, w.widths_are) (text-short cols rows w.few_columns w.few_rows)
 
     pub room-one : (room : List ℕ) → 0 + length one ≤ 32768
     room-one room = going-room one (two ++ (line heights ++ (line widths ++ (five ++ six)))) 32768 (going_start room 0 whole) whole-short
@@ -97,5 +97,5 @@ module _ (cols rows heights widths : List ℕ) (tall wide : ℕ) where
                 pub room-six : a₅ + length six ≤ 32768
                 room-six = let l = after-five.long in let b = whole-short in omega (arith, l, b)
 
-                pub all-put : {room₆ : List ℕ} {a₆ : ℕ} → Puts room₅ a₅ six room₆ a₆ → Puts room 0 (matrixText cols rows) room₆ a₆
+                pub all-put : {room₆ : List ℕ} {a₆ : ℕ} → Puts room₅ a₅ six room₆ a₆ → Puts room 0 (matrix_text cols rows) room₆ a₆
                 all-put p₆ = rw whole_is (going_end six after-five p₆)

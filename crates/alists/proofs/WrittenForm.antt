@@ -12,15 +12,15 @@ use Rattle.alists.proofs.ListsPut.{largest-few, list-small, pair_small, weights-
 use Rattle.alists.proofs.NumbersFound.{all_true}
 use Rattle.alists.proofs.Ordered.{lists-ordered}
 use Rattle.alists.proofs.SpacedOnce.{each_both, spaced-text}
-use Rattle.alists.specs.Accepted.{Accepted, Sized, linesOrdered}
-use Rattle.alists.specs.Lists.{columns, indices, largest, list_of, onesFrom, padded}
-use Rattle.alists.specs.OwnForm.{OwnForm, ascend, ascendFrom, each, short}
-use Rattle.alists.specs.Text.{alistText, lines_of, lists_of, matrixText, weights}
+use Rattle.alists.specs.Accepted.{Accepted, Sized, lines_ordered}
+use Rattle.alists.specs.Lists.{columns, indices, largest, list_of, ones_from, padded}
+use Rattle.alists.specs.OwnForm.{OwnForm, ascend, ascend_from, each, short}
+use Rattle.alists.specs.Text.{alist_text, lines_of, lists_of, matrix_text, weights}
 use Rattle.alists.specs.Working.{Small}
 use Rattle.words.specs.Word.{bit}
 
 -- lines whose lists ascend are in order
-pub lines-in-order : (lines : List (List ℕ)) → each ascend (drop 4 lines) ≡ true → linesOrdered lines ≡ lines
+pub lines-in-order : (lines : List (List ℕ)) → each ascend (drop 4 lines) ≡ true → lines_ordered lines ≡ lines
 lines-in-order lines a = ap (λ (r : List (List ℕ)). take 4 lines ++ r) (lists-ordered (drop 4 lines) a) ∙ take-append-drop 4 lines
 
 -- ---- every written text
@@ -33,17 +33,17 @@ small-short xs h = go xs h.below
     go (y ∷ ys) f = all_true (lt-ltb y 100 (f 0)) (go ys (λ j. f (suc j)))
 
 -- the ones of a word ascend, and zeros stand behind them
-zeros-ascend : (last most : ℕ) → ascendFrom last (padded most []) ≡ true
+zeros-ascend : (last most : ℕ) → ascend_from last (padded most []) ≡ true
 zeros-ascend last zero = refl
 zeros-ascend last (suc most) = refl
 
-ones-ascend : (w p k last most : ℕ) → last ≤ p → ascendFrom last (padded most (onesFrom w p k)) ≡ true
+ones-ascend : (w p k last most : ℕ) → last ≤ p → ascend_from last (padded most (ones_from w p k)) ≡ true
 ones-ascend w p zero last most h = zeros-ascend last most
 ones-ascend w p (suc k) last most h =
     go (eqb (bit w p) 1) most (λ l m. ones-ascend w (suc p) k l m)
   where
-    go : (t : Bool) (m : ℕ) → ((l m : ℕ) → l ≤ suc p → ascendFrom l (padded m (onesFrom w (suc p) k)) ≡ true)
-        → ascendFrom last (padded m (cond t (suc p ∷ onesFrom w (suc p) k) (onesFrom w (suc p) k))) ≡ true
+    go : (t : Bool) (m : ℕ) → ((l m : ℕ) → l ≤ suc p → ascend_from l (padded m (ones_from w (suc p) k)) ≡ true)
+        → ascend_from last (padded m (cond t (suc p ∷ ones_from w (suc p) k) (ones_from w (suc p) k))) ≡ true
     go true zero on = refl
     go true (suc m) on = rw (ne_eqb (suc p) 0 (λ z. omega (arith, z)), lt-ltb last (suc p) (omega (arith, h))) (on (suc p) m (omega arith))
     go false m on = on last m (omega (arith, h))
@@ -79,13 +79,13 @@ module _ (n : ℕ) (rows : List ℕ) (sized : Sized n rows) where
   indices-own = each_both ascend (lists_of cols) (lists_of rows) (lists-own (largest (weights cols)) cols).1 (lists-own (largest (weights rows)) rows).1
 
   -- the text of a matrix is in our form
-  pub written-is-own-form : OwnForm (alistText n rows)
-  unfolding matrixText
+  pub written-is-own-form : OwnForm (alist_text n rows)
+  unfolding matrix_text
   written-is-own-form = record { lines = lines_of cols rows; numbers = numbers-own; is = refl; indices = indices-own }
 
   -- and so one that reading accepts
-  pub written-accepted : Accepted (alistText n rows) n rows
-  unfolding matrixText
+  pub written-accepted : Accepted (alist_text n rows) n rows
+  unfolding matrix_text
   written-accepted =
       record {
         sized = sized;

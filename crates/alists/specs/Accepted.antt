@@ -5,13 +5,13 @@ use Rattle.alists.specs.OwnForm.{each, short}
 use Rattle.alists.specs.Text.{lines_of, text_of}
 
 -- a text with one space for several; whether a space stood before it
-abbrev pub spacedFrom : Bool → List ℕ → List ℕ
-spacedFrom space [] = []
-spacedFrom space (x ∷ s) = cond (eqb x 32) (cond space (spacedFrom true s) (x ∷ spacedFrom true s)) (x ∷ spacedFrom false s)
+abbrev pub spaced_from : Bool → List ℕ → List ℕ
+spaced_from space [] = []
+spaced_from space (x ∷ s) = cond (eqb x 32) (cond space (spaced_from true s) (x ∷ spaced_from true s)) (x ∷ spaced_from false s)
 
 -- one space for several
-abbrev pub spacedOnce : List ℕ → List ℕ
-spacedOnce text = spacedFrom false text
+abbrev pub spaced_once : List ℕ → List ℕ
+spaced_once text = spaced_from false text
 
 -- an index among others that ascend up to the zeros
 abbrev pub inserted : ℕ → List ℕ → List ℕ
@@ -24,8 +24,8 @@ ordered [] = []
 ordered (x ∷ xs) = cond (eqb x 0) (x ∷ xs) (inserted x (ordered xs))
 
 -- lines with their lists, which stand after four lines, in order
-abbrev pub linesOrdered : List (List ℕ) → List (List ℕ)
-linesOrdered lines = take 4 lines ++ map ordered (drop 4 lines)
+abbrev pub lines_ordered : List (List ℕ) → List (List ℕ)
+lines_ordered lines = take 4 lines ++ map ordered (drop 4 lines)
 
 -- the sizes of a matrix: 1 to 64 columns and rows, and no one at n or beyond
 pub record Sized (n : ℕ) (rows : List ℕ) : Type 0 where
@@ -40,5 +40,5 @@ pub record Accepted (text : List ℕ) (n : ℕ) (rows : List ℕ) : Type 0 where
   pub sized : Sized n rows
   pub lines : List (List ℕ)
   pub numbers : each short lines ≡ true
-  pub is : spacedOnce text ≡ text_of lines
-  pub order : linesOrdered lines ≡ lines_of (columns n rows) rows
+  pub is : spaced_once text ≡ text_of lines
+  pub order : lines_ordered lines ≡ lines_of (columns n rows) rows

@@ -2,29 +2,29 @@
 use Rattle.std.specs.Prelude.{length, replicate, ◌++◌, List, [], ◌∷◌, ◌≡◌, ◌-◌, ℕ}
 use Rattle.alists.specs.declared.Alist.{Alist}
 use Rattle.alists.specs.declared.Alist.TheVariants.{Matrix, Refused}
-use Rattle.alists.specs.Reading.{Reading, faultIn, matrix, reading}
-use Rattle.alists.specs.Text.{alistText}
+use Rattle.alists.specs.Reading.{Reading, fault_in, matrix, reading}
+use Rattle.alists.specs.Text.{alist_text}
 use Rattle.listings.specs.declared.Written.{Written}
-use Rattle.listings.specs.Writing.{Writes, lineRoom}
+use Rattle.listings.specs.Writing.{Writes, line_room}
 use Rattle.plates.specs.declared.Refusal.{Refusal}
 use Rattle.plates.specs.declared.Refusal.TheVariants.{AlistFault}
-use Rattle.plates.specs.Prepare.{RowOver, badLength, tooManyRows}
+use Rattle.plates.specs.Prepare.{RowOver, bad_length, too_many_rows}
 
 -- ---- reading
 
 -- the reply for a reading: 16 with the line
-abbrev pub replyOf : Reading → Alist
-replyOf (matrix n rows) = Matrix n (length rows)
-replyOf (faultIn l) = Refused (AlistFault l)
+abbrev pub reply_of : Reading → Alist
+reply_of (matrix n rows) = Matrix n (length rows)
+reply_of (fault_in l) = Refused (AlistFault l)
 
 -- the table of 64 places after it: the rows and zeros behind them; or as it was
 abbrev pub table_of : Reading → List ℕ → List ℕ
 table_of (matrix n rows) table = rows ++ replicate (64 - length rows) 0
-table_of (faultIn l) table = table
+table_of (fault_in l) table = table
 
 -- the reply and the table for a reading
 pub record Answers (r : Reading) (table : List ℕ) (reply : Alist) (table' : List ℕ) : Type 0 where
-  pub replies : reply ≡ replyOf r
+  pub replies : reply ≡ reply_of r
   pub leaves : table' ≡ table_of r table
 
 -- the promise of reading
@@ -38,9 +38,9 @@ abbrev pub no_rows : List ℕ → Refusal → Type 0
 no_rows rows q = (length rows ≡ 0) × (q ≡ AlistFault 0)
 
 -- refusals 1, 2, 3, 16, 11
-abbrev pub writeConditions : ℕ → List ℕ → List ℕ → List (Refusal → Type 0)
-writeConditions n rows room = badLength n ∷ tooManyRows rows ∷ RowOver n rows ∷ no_rows rows ∷ lineRoom (alistText n rows) room ∷ []
+abbrev pub write_conditions : ℕ → List ℕ → List ℕ → List (Refusal → Type 0)
+write_conditions n rows room = bad_length n ∷ too_many_rows rows ∷ RowOver n rows ∷ no_rows rows ∷ line_room (alist_text n rows) room ∷ []
 
 -- the promise of writing
 abbrev pub WritesAlist : ℕ → List ℕ → List ℕ → Written → List ℕ → Type 0
-WritesAlist n rows room = Writes (writeConditions n rows room) (alistText n rows) room
+WritesAlist n rows room = Writes (write_conditions n rows room) (alist_text n rows) room

@@ -12,18 +12,18 @@ pub data Line : Type 0 where
   faulty : Line
 
 -- the characters 0 (48) to 9 (57)
-abbrev pub isDigit : ℕ → Bool
-isDigit x = leb 48 x && leb x 57
+abbrev pub is_digit : ℕ → Bool
+is_digit x = leb 48 x && leb x 57
 
 -- a digit, and after another than 0 a second one
-abbrev pub moreOf : ℕ → List ℕ → Found
-moreOf d [] = found d []
-moreOf d (x ∷ s) = cond (isDigit x) (cond (eqb d 0) nothing (found (d * 10 + (x - 48)) s)) (found d (x ∷ s))
+abbrev pub more_of : ℕ → List ℕ → Found
+more_of d [] = found d []
+more_of d (x ∷ s) = cond (is_digit x) (cond (eqb d 0) nothing (found (d * 10 + (x - 48)) s)) (found d (x ∷ s))
 
 -- a number of one or two digits
 abbrev pub number_of : List ℕ → Found
 number_of [] = nothing
-number_of (x ∷ s) = cond (isDigit x) (moreOf (x - 48) s) nothing
+number_of (x ∷ s) = cond (is_digit x) (more_of (x - 48) s) nothing
 
 -- what stands after the spaces (32)
 abbrev pub skipped : List ℕ → List ℕ
@@ -36,9 +36,9 @@ next_of [] = nothing
 next_of (x ∷ s) = cond (eqb x 32) (number_of (skipped s)) nothing
 
 -- the line feed (10)
-abbrev pub feedOf : List ℕ → Line
-feedOf [] = faulty
-feedOf (x ∷ s) = cond (eqb x 10) (reads [] s) faulty
+abbrev pub feed_of : List ℕ → Line
+feed_of [] = faulty
+feed_of (x ∷ s) = cond (eqb x 10) (reads [] s) faulty
 
 -- a number before others
 abbrev pub before : ℕ → Line → Line
@@ -52,10 +52,10 @@ further nothing on = faulty
 
 -- so many further numbers of a line, and its end
 abbrev pub rest_of : ℕ → List ℕ → Line
-rest_of zero s = feedOf s
+rest_of zero s = feed_of s
 rest_of (suc count) s = further (next_of s) (rest_of count)
 
 -- a line of so many numbers; with none it is the line feed alone
 abbrev pub line_of : ℕ → List ℕ → Line
-line_of zero s = feedOf s
+line_of zero s = feed_of s
 line_of (suc count) s = further (number_of s) (rest_of count)

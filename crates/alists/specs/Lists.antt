@@ -10,25 +10,25 @@ column [] i = 0
 column (row ∷ rows) i = column rows i * 2 + bit row i
 
 -- `count` columns from i on
-abbrev pub columnsFrom : List ℕ → ℕ → ℕ → List ℕ
-columnsFrom rows i zero = []
-columnsFrom rows i (suc count) = column rows i ∷ columnsFrom rows (suc i) count
+abbrev pub columns_from : List ℕ → ℕ → ℕ → List ℕ
+columns_from rows i zero = []
+columns_from rows i (suc count) = column rows i ∷ columns_from rows (suc i) count
 
 -- the first `count` columns; the columns of these are the rows again
 abbrev pub columns : ℕ → List ℕ → List ℕ
-columns count rows = columnsFrom rows 0 count
+columns count rows = columns_from rows 0 count
 
 -- ---- lists and weights
 
 -- the ones of a word among `count` positions from `position` on, ascending and counted from 1
-abbrev pub onesFrom : ℕ → ℕ → ℕ → List ℕ
-onesFrom word position zero = []
-onesFrom word position (suc count) =
-    cond (eqb (bit word position) 1) (suc position ∷ onesFrom word (suc position) count) (onesFrom word (suc position) count)
+abbrev pub ones_from : ℕ → ℕ → ℕ → List ℕ
+ones_from word position zero = []
+ones_from word position (suc count) =
+    cond (eqb (bit word position) 1) (suc position ∷ ones_from word (suc position) count) (ones_from word (suc position) count)
 
 -- all ones of a word of 64 positions
 unfoldable pub indices : ℕ → List ℕ
-indices word = onesFrom word 0 64
+indices word = ones_from word 0 64
 
 -- how many they are
 unfoldable pub weight : ℕ → ℕ

@@ -13,13 +13,13 @@ short [] = true
 short (x ∷ xs) = ltb x 100 && short xs
 
 -- the indices of a list ascend from a number on, up to the zeros
-abbrev pub ascendFrom : ℕ → List ℕ → Bool
-ascendFrom last [] = true
-ascendFrom last (x ∷ xs) = cond (eqb x 0) true (ltb last x && ascendFrom x xs)
+abbrev pub ascend_from : ℕ → List ℕ → Bool
+ascend_from last [] = true
+ascend_from last (x ∷ xs) = cond (eqb x 0) true (ltb last x && ascend_from x xs)
 
 -- each index is above the one before it
 abbrev pub ascend : List ℕ → Bool
-ascend xs = ascendFrom 0 xs
+ascend xs = ascend_from 0 xs
 
 -- lines of numbers, one space between two of them and a line feed after each line; the lists stand after four lines
 pub record OwnForm (text : List ℕ) : Type 0 where

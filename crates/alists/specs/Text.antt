@@ -39,9 +39,9 @@ lines_of cols rows =
     (length cols ∷ length rows ∷ []) ∷ (largest (weights cols) ∷ largest (weights rows) ∷ []) ∷ weights cols ∷ weights rows ∷ (lists_of cols ++ lists_of rows)
 
 -- the text of a matrix by its columns and rows
-unfoldable pub matrixText : List ℕ → List ℕ → List ℕ
-matrixText cols rows = text_of (lines_of cols rows)
+unfoldable pub matrix_text : List ℕ → List ℕ → List ℕ
+matrix_text cols rows = text_of (lines_of cols rows)
 
 -- the text of a matrix of n columns by its rows
-abbrev pub alistText : ℕ → List ℕ → List ℕ
-alistText n rows = matrixText (columns n rows) rows
+abbrev pub alist_text : ℕ → List ℕ → List ℕ
+alist_text n rows = matrix_text (columns n rows) rows

@@ -13,7 +13,7 @@ use Rattle.alists.specs.declared.numbers.LineEnd.{LineEnd}
 use Rattle.alists.specs.declared.numbers.LineEnd.TheVariants as L
 use Rattle.alists.specs.Lines.{Found, Line, faulty, found, nothing, reads, skipped}
 use Rattle.alists.specs.Lists.{indices, weight}
-use Rattle.alists.specs.Reading.{Listed, Lists, Word, faultyAt, listed, lists, unlisted, word, wrong}
+use Rattle.alists.specs.Reading.{Listed, Lists, Word, faulty_at, listed, lists, unlisted, word, wrong}
 use Rattle.words.specs.Word.{bit}
 
 -- ---- writing
@@ -117,17 +117,17 @@ pub record ReadsList (l : Listed) (text : List ℕ) (r : OneList) : Type 0 where
 -- the words of lists put into a table from a place on, with what stands after the lists, or the first list that is faulty
 pub data Laid : Type 0 where
   laid : List ℕ → List ℕ → Laid
-  faultOf : ℕ → Laid
+  fault_of : ℕ → Laid
 
 -- by what the lists are
-abbrev pub laidFrom : List ℕ → ℕ → Lists → Laid
-laidFrom table i (lists ws s) = laid (sets table i ws) s
-laidFrom table i (faultyAt j) = faultOf j
+abbrev pub laid_from : List ℕ → ℕ → Lists → Laid
+laid_from table i (lists ws s) = laid (sets table i ws) s
+laid_from table i (faulty_at j) = fault_of j
 
 -- what stands after them stands from the next place on
 abbrev pub ListsAs : Laid → ℕ → List ℕ → List ℕ → AllLists → Type 0
 ListsAs l count text table' (A.Next next) = (l ≡ laid table' (drop next text)) × (next ≤ length text)
-ListsAs l count text table' (A.Bad i) = (l ≡ faultOf i) × (i < count)
+ListsAs l count text table' (A.Bad i) = (l ≡ fault_of i) × (i < count)
 
 -- r is that place, or the faulty list
 pub record ReadsLists (l : Laid) (count : ℕ) (text table : List ℕ) (r : AllLists) (table' : List ℕ) : Type 0 where

@@ -1,7 +1,7 @@
 // The lists of columns and rows in a text.
 ghost use Rattle.std.specs.Prelude.{◌+◌, ◌≤◌, drop, length, ◌≡◌};
-ghost use Rattle.alists.specs.Reading.{fits, listAt, listsFrom, onesOf, shows, word_of, zerosOnly};
-ghost use Rattle.alists.specs.Working.{FindsWord, ReadsList, ReadsLists, laidFrom};
+ghost use Rattle.alists.specs.Reading.{fits, list_at, lists_from, ones_of, shows, word_of, zeros_only};
+ghost use Rattle.alists.specs.Working.{FindsWord, ReadsList, ReadsLists, laid_from};
 
 use crate::matrix::column_at;
 use crate::numbers::{LineEnd, read_line};
@@ -43,7 +43,7 @@ fn fits_index(size: usize, used: u64, x: usize) -> bool
 // The word with a one at each index.
 fn ones_of(list: &[usize], size: usize) -> WordFound
     requires { size ≤ 64 }
-    ensures { FindsWord (onesOf size 0 list.now) result }
+    ensures { FindsWord (ones_of size 0 list.now) result }
 {
     let mut used: u64 = 0;
     let mut i = 0;
@@ -60,7 +60,7 @@ fn ones_of(list: &[usize], size: usize) -> WordFound
 
 // Whether numbers are all zero.
 fn zeros_only(list: &[usize]) -> bool
-    ensures { result ≡ zerosOnly list.now }
+    ensures { result ≡ zeros_only list.now }
 {
     let mut i = 0;
     while i < list.len() {
@@ -91,7 +91,7 @@ fn list_at(text: &[u8], at: usize, most: usize, size: usize, weight: usize) -> O
     requires at_in_bounds { at ≤ length text.now }
     requires most_bound { most ≤ 64 }
     requires size_bound { size ≤ 64 }
-    ensures { ReadsList (listAt most size weight (drop at text.now)) text.now result }
+    ensures { ReadsList (list_at most size weight (drop at text.now)) text.now result }
 {
     let mut table = [0usize; 64];
     let line = read_line(text, at, most, &mut table);
@@ -131,7 +131,7 @@ pub fn lists_at(
     requires size_bound { size ≤ 64 }
     requires seen_len_bound { length seen.now ≤ 64 }
     requires weights_len_bound { length weights.now ≤ 64 }
-    ensures { ReadsLists (laidFrom table.old 0 (listsFrom most size seen.now 0 weights.now (drop from text.now))) (length weights.now) text.now table.old result table.new }
+    ensures { ReadsLists (laid_from table.old 0 (lists_from most size seen.now 0 weights.now (drop from text.now))) (length weights.now) text.now table.old result table.new }
 {
     let mut at = from;
     let mut i = 0;

@@ -1,6 +1,6 @@
 // The numbers of a line in a text.
 ghost use Rattle.std.specs.Prelude.{◌+◌, ◌-◌, ◌<◌, ◌≤◌, drop, length, [], ◌≡◌};
-ghost use Rattle.alists.specs.Lines.{feedOf, isDigit, line_of, moreOf, next_of, number_of, rest_of};
+ghost use Rattle.alists.specs.Lines.{feed_of, is_digit, line_of, more_of, next_of, number_of, rest_of};
 ghost use Rattle.alists.specs.Working.{ReadsLine, ReadsNumber, Skips, StoresLine, stored};
 
 // A number and the place after it, or that there is none.
@@ -19,7 +19,7 @@ pub enum LineEnd {
 
 // Whether a byte is a digit.
 fn is_digit(x: u8) -> bool
-    ensures { result ≡ isDigit x }
+    ensures { result ≡ is_digit x }
 {
     48 <= x && x <= 57
 }
@@ -36,7 +36,7 @@ fn digit(x: u8) -> usize
 fn more_at(text: &[u8], at: usize, first: usize) -> Number
     requires at_in_bounds { at ≤ length text.now }
     requires first_bound { first < 10 }
-    ensures { ReadsNumber (moreOf first (drop at text.now)) text.now result }
+    ensures { ReadsNumber (more_of first (drop at text.now)) text.now result }
 {
     if at == text.len() {
         return Number::Is {
@@ -108,7 +108,7 @@ fn next_at(text: &[u8], at: usize) -> Number
 // The line feed at a place.
 fn feed_at(text: &[u8], at: usize) -> LineEnd
     requires { at ≤ length text.now }
-    ensures { ReadsLine (feedOf (drop at text.now)) [] text.now result }
+    ensures { ReadsLine (feed_of (drop at text.now)) [] text.now result }
 {
     if at == text.len() {
         return LineEnd::Bad;

@@ -2,7 +2,7 @@
 // functions also measure the text.
 ghost use Rattle.std.specs.Prelude.{◌∷◌, [], map, ◌≡◌, ◌+◌, ◌<◌, ◌≤◌, length};
 ghost use Rattle.alists.specs.Lists.{list_of};
-ghost use Rattle.alists.specs.Text.{alistText, decimal, line, matrixText, text_of, weights};
+ghost use Rattle.alists.specs.Text.{alist_text, decimal, line, matrix_text, text_of, weights};
 ghost use Rattle.alists.specs.Working.{Puts, Small};
 
 use crate::matrix;
@@ -108,7 +108,7 @@ fn put_weighed(
     requires rows_len_bound { length rows.now ≤ 64 }
     requires heights_value { heights.now ≡ weights columns.now }
     requires widths_value { widths.now ≡ weights rows.now }
-    ensures { Puts room.old 0 (matrixText columns.now rows.now) room.new result }
+    ensures { Puts room.old 0 (matrix_text columns.now rows.now) room.new result }
 {
     let tall = matrix::largest_of(heights);
     let wide = matrix::largest_of(widths);
@@ -124,7 +124,7 @@ fn put_weighed(
 fn put_matrix(room: &mut [u8], columns: &[u64], rows: &[u64]) -> usize
     requires columns_len_bound { length columns.now ≤ 64 }
     requires rows_len_bound { length rows.now ≤ 64 }
-    ensures { Puts room.old 0 (matrixText columns.now rows.now) room.new result }
+    ensures { Puts room.old 0 (matrix_text columns.now rows.now) room.new result }
 {
     let mut heights = [0usize; 64];
     let mut widths = [0usize; 64];
@@ -139,7 +139,7 @@ fn put_matrix(room: &mut [u8], columns: &[u64], rows: &[u64]) -> usize
 pub fn put_text(n: usize, rows: &[u64], room: &mut [u8]) -> usize
     requires n_bound { n ≤ 64 }
     requires rows_len_bound { length rows.now ≤ 64 }
-    ensures { Puts room.old 0 (alistText n rows.now) room.new result }
+    ensures { Puts room.old 0 (alist_text n rows.now) room.new result }
 {
     let mut columns = [0u64; 64];
     matrix::fill_columns(rows, n, &mut columns);

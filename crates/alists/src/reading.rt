@@ -2,7 +2,7 @@
 ghost use Rattle.std.specs.Prelude.{◌≤◌, drop, length, [], ◌≡◌};
 ghost use Rattle.alists.specs.Calls.{Answers};
 ghost use Rattle.alists.specs.Lines.{line_of};
-ghost use Rattle.alists.specs.Reading.{inSize, listsFrom, onColumnWeights, onColumns, onMost, onRowWeights, onRows, reading};
+ghost use Rattle.alists.specs.Reading.{in_size, lists_from, on_column_weights, on_columns, on_most, on_row_weights, on_rows, reading};
 
 use crate::Alist;
 use crate::lists::{AllLists, lists_at};
@@ -12,7 +12,7 @@ use plates::Refusal;
 
 // A number of columns or rows is 1 to 64.
 fn in_size(n: usize) -> bool
-    ensures { result ≡ inSize n }
+    ensures { result ≡ in_size n }
 {
     1 <= n && n <= 64
 }
@@ -32,7 +32,7 @@ fn on_rows(
     requires most_bound { most ≤ 64 }
     requires columns_len_bound { length columns.now ≤ 64 }
     requires weights_len_bound { length weights.now ≤ 64 }
-    ensures { Answers (onRows n (listsFrom most n columns.now 0 weights.now (drop at text.now))) table.old result table.new }
+    ensures { Answers (on_rows n (lists_from most n columns.now 0 weights.now (drop at text.now))) table.old result table.new }
 {
     let mut rows = [0u64; 64];
     let lists = lists_at(text, at, most, n, columns, weights, &mut rows);
@@ -68,7 +68,7 @@ fn on_columns(
     requires wide_bound { wide ≤ 64 }
     requires heights_len { length heights.now ≡ n }
     requires widths_len_bound { length widths.now ≤ 64 }
-    ensures { Answers (onColumns n wide widths.now (listsFrom tall m [] 0 heights.now (drop at text.now))) table.old result table.new }
+    ensures { Answers (on_columns n wide widths.now (lists_from tall m [] 0 heights.now (drop at text.now))) table.old result table.new }
 {
     let mut columns = [0u64; 64];
     let none = [0u64; 0];
@@ -96,7 +96,7 @@ fn on_row_weights(
     requires tall_bound { tall ≤ 64 }
     requires wide_bound { wide ≤ 64 }
     requires heights_len { length heights.now ≡ n }
-    ensures { Answers (onRowWeights n m tall wide heights.now (line_of m (drop at text.now))) table.old result table.new }
+    ensures { Answers (on_row_weights n m tall wide heights.now (line_of m (drop at text.now))) table.old result table.new }
 {
     let mut weights = [0usize; 64];
     let line = read_line(text, at, m, &mut weights);
@@ -124,7 +124,7 @@ fn on_column_weights(
     requires m_bound { m ≤ 64 }
     requires tall_bound { tall ≤ 64 }
     requires wide_bound { wide ≤ 64 }
-    ensures { Answers (onColumnWeights n m tall wide (line_of n (drop at text.now))) table.old result table.new }
+    ensures { Answers (on_column_weights n m tall wide (line_of n (drop at text.now))) table.old result table.new }
 {
     let mut weights = [0usize; 64];
     let line = read_line(text, at, n, &mut weights);
@@ -142,7 +142,7 @@ fn on_most(text: &[u8], at: usize, n: usize, m: usize, table: &mut [u64; 64]) ->
     requires at_in_bounds { at ≤ length text.now }
     requires n_bound { n ≤ 64 }
     requires m_bound { m ≤ 64 }
-    ensures { Answers (onMost n m (line_of 2 (drop at text.now))) table.old result table.new }
+    ensures { Answers (on_most n m (line_of 2 (drop at text.now))) table.old result table.new }
 {
     let mut pair = [0usize; 64];
     let line = read_line(text, at, 2, &mut pair);

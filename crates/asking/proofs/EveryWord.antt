@@ -19,9 +19,9 @@ use Rattle.asking.specs.declared.Reason.TheVariants.{Chosen, NoCodeword, ScoresL
 use Rattle.coding.proofs.RoundTrip.{beyond-refused}
 use Rattle.decoding.proofs.IntegerOrder.{add-lt}
 use Rattle.decoding.proofs.Integers.{abs-add, abs_neg}
-use Rattle.decoding.specs.Cosets.{takenOff}
+use Rattle.decoding.specs.Cosets.{taken_off}
 use Rattle.decoding.specs.declared.Answer.{Answer}
-use Rattle.decoding.specs.Metric.{metricOf}
+use Rattle.decoding.specs.Metric.{metric_of}
 use Rattle.plates.proofs.SoundIsPrepared.{sound}
 use Rattle.plates.specs.declared.Plate.{Plate}
 use Rattle.plates.specs.Prepare.{IsPrepared, IsWord, rows_of}
@@ -73,7 +73,7 @@ difference-bounds plate samples a asked w d l = (
 )
   where
     m : ℤ
-    m = metricOf samples w
+    m = metric_of samples w
 
 -- ---- every word has a reason
 
@@ -86,7 +86,7 @@ first_of w h = first-trailing w w h (own_power w)
 
 module _ (plate : Plate) (samples : List ℤ) (a : Answer) (asked : Asked plate samples a) (w : ℕ) where
   codeword-reason : IsWord plate w → (w ≡ a.word → ⊥) → (r : Reason) × Explains plate samples a w r
-  codeword-reason g other = go (lt_z (metricOf samples w) a.metric) refl
+  codeword-reason g other = go (lt_z (metric_of samples w) a.metric) refl
     where
       sum : ℕ
       sum = bit_xor w a.word
@@ -94,19 +94,19 @@ module _ (plate : Plate) (samples : List ℤ) (a : Answer) (asked : Asked plate 
       first_one : FirstOne sum (count_trailing_zeros sum sum)
       first_one = record { none = λ e. absurd (other (xor-zero-eq w a.word e)); some = first_of sum }
 
-      go : (t : Bool) → lt_z (metricOf samples w) a.metric ≡ t → (r : Reason) × Explains plate samples a w r
-      go true t = (ScoresLess (a.metric -ℤ metricOf samples w), scores-less plate samples a asked w g t _ refl)
+      go : (t : Bool) → lt_z (metric_of samples w) a.metric ≡ t → (r : Reason) × Explains plate samples a w r
+      go true t = (ScoresLess (a.metric -ℤ metric_of samples w), scores-less plate samples a asked w g t _ refl)
       go false t = (TiesAndLoses (count_trailing_zeros sum sum), ties-and-loses plate samples a asked w g other t _ first_one)
 
   pub some-reason : (r : Reason) × Explains plate samples a w r
-  some-reason = go (ℕ_discrete w a.word) (ℕ_discrete (takenOff (rows_of plate) (bit_xor w plate.mask)) 0)
+  some-reason = go (ℕ_discrete w a.word) (ℕ_discrete (taken_off (rows_of plate) (bit_xor w plate.mask)) 0)
     where
       rest : ℕ
-      rest = takenOff (rows_of plate) (bit_xor w plate.mask)
+      rest = taken_off (rows_of plate) (bit_xor w plate.mask)
 
-      go : Dec (w ≡ a.word) → Dec (takenOff (rows_of plate) (bit_xor w plate.mask) ≡ 0) → (r : Reason) × Explains plate samples a w r
+      go : Dec (w ≡ a.word) → Dec (taken_off (rows_of plate) (bit_xor w plate.mask) ≡ 0) → (r : Reason) × Explains plate samples a w r
       go (yes e) l = (Chosen, e)
-      go (no other) (yes e) = codeword-reason (nothing_left asked.given w (takenOff (rows_of plate) (bit_xor w plate.mask)) refl e) other
+      go (no other) (yes e) = codeword-reason (nothing_left asked.given w (taken_off (rows_of plate) (bit_xor w plate.mask)) refl e) other
       go (no other) (no some) = (
         NoCodeword (min (count_trailing_zeros rest rest) plate.n),
         stopped asked.given w rest refl some _ (record { stop = λ h. (count_trailing_zeros rest rest, first_of rest h, refl) }),

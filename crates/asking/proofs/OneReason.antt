@@ -11,7 +11,7 @@ use Rattle.asking.specs.declared.Reason.{Reason}
 use Rattle.asking.specs.declared.Reason.TheVariants.{Chosen, NoCodeword, ScoresLess, TiesAndLoses}
 use Rattle.decoding.specs.declared.Answer.{Answer}
 use Rattle.decoding.specs.Decode.{Best}
-use Rattle.decoding.specs.Metric.{metricOf}
+use Rattle.decoding.specs.Metric.{metric_of}
 use Rattle.plates.specs.declared.Plate.{Plate}
 use Rattle.plates.specs.Prepare.{IsWord}
 use Rattle.words.proofs.Span.{lt-tri, zero_one}
@@ -22,13 +22,13 @@ place-once : {a w : ℕ} (x y : Earlier a w) → x.place ≡ y.place
 place-once {a} {w} x y = go (lt-tri x.place y.place)
   where
     go : (x.place < y.place) ⊎ ((x.place ≡ y.place) ⊎ (y.place < x.place)) → x.place ≡ y.place
-    go (inl h) = absurd (zero_one x.zero-here (y.same x.place h ∙ x.one-there))
+    go (inl h) = absurd (zero_one x.zero_here (y.same x.place h ∙ x.one_there))
     go (inr (inl e)) = e
-    go (inr (inr h)) = absurd (zero_one y.zero-here (x.same y.place h ∙ y.one-there))
+    go (inr (inr h)) = absurd (zero_one y.zero_here (x.same y.place h ∙ y.one_there))
 
 -- no word is earlier than itself
 not_itself : (a : ℕ) → Earlier a a → ⊥
-not_itself a e = zero_one e.zero-here e.one-there
+not_itself a e = zero_one e.zero_here e.one_there
 
 -- the first position at which no codeword continues a word is one
 stop-once : (plate : Plate) (w p q : ℕ) → NoCodewordAt plate w p → NoCodewordAt plate w q → p ≡ q
@@ -45,7 +45,7 @@ module _ (plate : Plate) (samples : List ℤ) (a : Answer) (best : Best plate sa
   chosen-codeword e = subst (IsWord plate) (sym e) best.codeword
 
   not-less : w ≡ a.word → (d : ℤ) → Less plate samples a w d → ⊥
-  not-less e d l = <ℤ_irrefl (subst (λ (z : ℤ). z <ℤ a.metric) (ap (metricOf samples) e ∙ sym best.metric) l.less)
+  not-less e d l = <ℤ_irrefl (subst (λ (z : ℤ). z <ℤ a.metric) (ap (metric_of samples) e ∙ sym best.metric) l.less)
 
   not-loses : w ≡ a.word → (p : ℕ) → Loses plate samples a w p → ⊥
   not-loses e p l = not_itself a.word (subst (Earlier a.word) e l.loses)

@@ -14,10 +14,10 @@ use Prim.Native.Nat.{◌*◌, ℕ, ◌≤◌}
 use Rattle.asking.specs.Asking.{Less, Loses}
 use Rattle.asking.specs.Working.{Asked, Sampled}
 use Rattle.decoding.proofs.IntegerOrder.{le-lt-or-eq}
-use Rattle.decoding.proofs.Integers.{back, difference-fits, difference-is}
+use Rattle.decoding.proofs.Integers.{back, difference-fits, difference_is}
 use Rattle.decoding.proofs.MetricBounds.{metric-within}
 use Rattle.decoding.specs.declared.Answer.{Answer}
-use Rattle.decoding.specs.Metric.{limit, metricOf}
+use Rattle.decoding.specs.Metric.{limit, metric_of}
 use Rattle.plates.proofs.SoundIsPrepared.{sound}
 use Rattle.plates.specs.declared.Plate.{Plate}
 use Rattle.plates.specs.Prepare.{IsWord}
@@ -31,7 +31,7 @@ use Rattle.words.specs.Word.{bit, Earlier}
 -- where one word is earlier, the first one of their sum is the first position of difference
 pub earlier-first : (a w : ℕ) (e : Earlier a w) → First (bit_xor w a) e.place
 earlier-first a w e = record {
-  one = bit-xor e.place w a ∙ ap₂ differ e.one-there e.zero-here;
+  one = bit-xor e.place w a ∙ ap₂ differ e.one_there e.zero_here;
   zeros = λ i h. bit-xor i w a ∙ ap (λ (x : ℕ). differ x (bit a i)) (sym (e.same i h)) ∙ differ_self (bit a i);
 }
 
@@ -39,7 +39,7 @@ module _ (plate : Plate) (samples : List ℤ) (a : Answer) (asked : Asked plate 
   pub samples-fit : Sampled samples
   samples-fit = record { few = omega (arith, asked.size, (sound asked.given).short); within = asked.within }
 
-  pub metric-fits : (w : ℕ) → nat_abs (metricOf samples w) ≤ 64 * limit
+  pub metric-fits : (w : ℕ) → nat_abs (metric_of samples w) ≤ 64 * limit
   metric-fits w = omega (arith, metric-within limit samples asked.within w, samples-fit.few)
 
   pub best-fits : nat_abs a.metric ≤ 64 * limit
@@ -49,32 +49,32 @@ module _ (plate : Plate) (samples : List ℤ) (a : Answer) (asked : Asked plate 
   pub best-read : to_z w32 (of_z w32 a.metric) ≡ a.metric
   best-read = back a.metric (omega (arith, best-fits))
 
-  module _ (w : ℕ) (m : ℤ) (e : m ≡ metricOf samples w) where
-    pub metric-read : to_z w32 (of_z w32 m) ≡ metricOf samples w
-    metric-read = ap (λ (z : ℤ). to_z w32 (of_z w32 z)) e ∙ back (metricOf samples w) (omega (arith, metric-fits w))
+  module _ (w : ℕ) (m : ℤ) (e : m ≡ metric_of samples w) where
+    pub metric-read : to_z w32 (of_z w32 m) ≡ metric_of samples w
+    metric-read = ap (λ (z : ℤ). to_z w32 (of_z w32 z)) e ∙ back (metric_of samples w) (omega (arith, metric-fits w))
 
     pub sub-fits : SFits w32 (to_z w32 (of_z w32 a.metric) -ℤ to_z w32 (of_z w32 m))
-    sub-fits = difference-fits a.metric (metricOf samples w) best-read metric-read (omega (arith, best-fits)) (omega (arith, metric-fits w))
+    sub-fits = difference-fits a.metric (metric_of samples w) best-read metric-read (omega (arith, best-fits)) (omega (arith, metric-fits w))
 
-    pub sub_is : to_z w32 (of_z w32 (to_z w32 (of_z w32 a.metric) -ℤ to_z w32 (of_z w32 m))) ≡ a.metric -ℤ metricOf samples w
-    sub_is = difference-is a.metric (metricOf samples w) best-read metric-read (omega (arith, best-fits)) (omega (arith, metric-fits w))
+    pub sub_is : to_z w32 (of_z w32 (to_z w32 (of_z w32 a.metric) -ℤ to_z w32 (of_z w32 m))) ≡ a.metric -ℤ metric_of samples w
+    sub_is = difference_is a.metric (metric_of samples w) best-read metric-read (omega (arith, best-fits)) (omega (arith, metric-fits w))
 
-    pub test-is : (t : Bool) → lt_z (to_z w32 (of_z w32 m)) (to_z w32 (of_z w32 a.metric)) ≡ t → lt_z (metricOf samples w) a.metric ≡ t
+    pub test-is : (t : Bool) → lt_z (to_z w32 (of_z w32 m)) (to_z w32 (of_z w32 a.metric)) ≡ t → lt_z (metric_of samples w) a.metric ≡ t
     test-is t h = sym (ap₂ lt_z metric-read best-read) ∙ h
 
   module _ (w : ℕ) (codeword : IsWord plate w) where
-    pub scores-less : lt_z (metricOf samples w) a.metric ≡ true → (d : ℤ) → d ≡ a.metric -ℤ metricOf samples w → Less plate samples a w d
+    pub scores-less : lt_z (metric_of samples w) a.metric ≡ true → (d : ℤ) → d ≡ a.metric -ℤ metric_of samples w → Less plate samples a w d
     scores-less t d e = record { codeword = codeword; less = record { lt = subst T (sym t) tt }; by = e }
 
     -- what is not less than the greatest is the same
-    ties : lt_z (metricOf samples w) a.metric ≡ false → metricOf samples w ≡ a.metric
+    ties : lt_z (metric_of samples w) a.metric ≡ false → metric_of samples w ≡ a.metric
     ties t = go (le-lt-or-eq (asked.best.greatest w codeword))
       where
-        go : (metricOf samples w <ℤ a.metric) ⊎ (metricOf samples w ≡ a.metric) → metricOf samples w ≡ a.metric
+        go : (metric_of samples w <ℤ a.metric) ⊎ (metric_of samples w ≡ a.metric) → metric_of samples w ≡ a.metric
         go (inl l) = absurd (subst T t l.lt)
         go (inr e) = e
 
-    pub ties-and-loses : (w ≡ a.word → ⊥) → lt_z (metricOf samples w) a.metric ≡ false → (p : ℕ) → FirstOne (bit_xor w a.word) p → Loses plate samples a w p
+    pub ties-and-loses : (w ≡ a.word → ⊥) → lt_z (metric_of samples w) a.metric ≡ false → (p : ℕ) → FirstOne (bit_xor w a.word) p → Loses plate samples a w p
     ties-and-loses other t p f = go (asked.best.earliest w codeword (ties t))
       where
         go : (a.word ≡ w) ⊎ Earlier a.word w → Loses plate samples a w p

@@ -9,7 +9,7 @@ use Rattle.asking.specs.Asking.{Continued, NoCodewordAt}
 use Rattle.asking.specs.Working.{FirstStop}
 use Rattle.decoding.proofs.MaskedWords.{off-clear}
 use Rattle.decoding.proofs.RestOfWords.{off-sum, xor-through}
-use Rattle.decoding.specs.Cosets.{takenOff}
+use Rattle.decoding.specs.Cosets.{taken_off}
 use Rattle.plates.specs.declared.Plate.{Plate}
 use Rattle.plates.specs.Prepare.{IsPrepared, IsWord, rows_of}
 use Rattle.words.proofs.Span.{zero_one}
@@ -29,7 +29,7 @@ sum-of-words : (plate : Plate) (a b : ℕ) → IsWord plate a → IsWord plate b
 sum-of-words plate a b g h =
     subst (IsSum (rows_of plate)) (ap (bit_xor (bit_xor a plate.mask)) (xor_comm b plate.mask) ∙ xor-through a plate.mask b) (in-xor g h)
 
-module _ {plate : Plate} (given : IsPrepared plate) (w rest : ℕ) (left : rest ≡ takenOff (rows_of plate) (bit_xor w plate.mask)) where
+module _ {plate : Plate} (given : IsPrepared plate) (w rest : ℕ) (left : rest ≡ taken_off (rows_of plate) (bit_xor w plate.mask)) where
   -- the word without what is left is one of the plate
   abbrev off : ℕ
   off = bit_xor w rest

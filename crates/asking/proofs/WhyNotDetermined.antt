@@ -11,7 +11,7 @@ use Rattle.asking.specs.declared.Verdict.{Verdict}
 use Rattle.asking.specs.declared.Verdict.TheVariants.{Explained, Refused}
 use Rattle.decoding.proofs.DecodeDetermined.{answer-same, single}
 use Rattle.decoding.specs.declared.Answer.{Answer}
-use Rattle.decoding.specs.Decode.{Best, decodeConditions}
+use Rattle.decoding.specs.Decode.{Best, decode_conditions}
 use Rattle.plates.proofs.Refusing.{never_both, refuses-once}
 use Rattle.plates.specs.declared.Plate.{Plate}
 use Rattle.plates.specs.declared.Refusal.{Refusal}
@@ -19,7 +19,7 @@ use Rattle.plates.specs.Refusals.{Passes}
 
 module _ (plate : Plate) (samples : List ℤ) (w : ℕ) (metrics : List ℤ) (decisions : List ℕ) where
   abbrev conditions : List (Refusal → Type 0)
-  conditions = decodeConditions plate samples metrics decisions
+  conditions = decode_conditions plate samples metrics decisions
 
   -- a reason holds against whichever answer is the best
   against : (reason : Reason) → Reasoned plate samples w reason → (a : Answer) → Best plate samples a → Explains plate samples a w reason
@@ -31,14 +31,14 @@ module _ (plate : Plate) (samples : List ℤ) (w : ℕ) (metrics : List ℤ) (de
   pub why-not-determined : (r s : Verdict) (m n : List ℤ) (d e : List ℕ) → Asks plate samples w metrics decisions m d r → Asks plate samples w metrics decisions n e s
       → (r ≡ s) × (m ≡ n) × (d ≡ e)
   why-not-determined (Explained a) (Explained b) m n d e x y =
-      (ap Explained (reason-same a b x.1 y.1), x.2.metrics-zero ∙ sym y.2.metrics-zero, x.2.decisions-zero ∙ sym y.2.decisions-zero)
+      (ap Explained (reason-same a b x.1 y.1), x.2.metrics_zero ∙ sym y.2.metrics_zero, x.2.decisions_zero ∙ sym y.2.decisions_zero)
   why-not-determined (Explained a) (Refused q) m n d e x y = absurd (never_both conditions x.0 q y.0)
   why-not-determined (Refused p) (Explained b) m n d e x y = absurd (never_both conditions y.0 p x.0)
   why-not-determined (Refused p) (Refused q) m n d e x y =
       (ap Refused (refuses-once conditions (single plate samples metrics decisions) p q x.0 y.0), x.1 ∙ sym y.1, x.2 ∙ sym y.2)
 
   -- where the call is not refused, each reason is given exactly when it holds against decoding's answer
-  pub given-exactly : (r : Verdict) (m : List ℤ) (d : List ℕ) → Asks plate samples w metrics decisions m d r → Passes (decodeConditions plate samples metrics decisions)
+  pub given-exactly : (r : Verdict) (m : List ℤ) (d : List ℕ) → Asks plate samples w metrics decisions m d r → Passes (decode_conditions plate samples metrics decisions)
       → (a : Answer) → Best plate samples a → (reason : Reason) → (r ≡ Explained reason) ↔ Explains plate samples a w reason
   given-exactly r m d x h a b reason = ((λ e. against reason (subst (Asks plate samples w metrics decisions m d) e x).1 a b), λ y. go r refl y)
     where

@@ -5,8 +5,8 @@ use Rattle.plates.specs.declared.Plate.{Plate}
 use Rattle.plates.specs.Prepare.{IsWord}
 use Rattle.plates.specs.Refusals.{Refuses, Passes}
 use Rattle.decoding.specs.declared.Answer.{Answer}
-use Rattle.decoding.specs.Decode.{BestIn, Zeroed, decodeConditions}
-use Rattle.decoding.specs.Metric.{metricOf}
+use Rattle.decoding.specs.Decode.{BestIn, Zeroed, decode_conditions}
+use Rattle.decoding.specs.Metric.{metric_of}
 use Rattle.asking.specs.declared.Reason.{Reason}
 use Rattle.asking.specs.declared.Reason.TheVariants.{Chosen, NoCodeword, ScoresLess, TiesAndLoses}
 use Rattle.asking.specs.declared.Verdict.{Verdict}
@@ -33,13 +33,13 @@ pub record NoCodewordIn (C : ℕ → Type 0) (n w p : ℕ) : Type 0 where
 -- it scores less than the answer, by the difference
 pub record LessIn (C : ℕ → Type 0) (samples : List ℤ) (a : Answer) (w : ℕ) (difference : ℤ) : Type 0 where
   pub codeword : C w
-  pub less : metricOf samples w <ℤ a.metric
-  pub by : difference ≡ a.metric -ℤ metricOf samples w
+  pub less : metric_of samples w <ℤ a.metric
+  pub by : difference ≡ a.metric -ℤ metric_of samples w
 
 -- it scores the same, and the answer is earlier, with 0 at p, the first position of difference
 pub record LosesIn (C : ℕ → Type 0) (samples : List ℤ) (a : Answer) (w p : ℕ) : Type 0 where
   pub codeword : C w
-  pub tie : metricOf samples w ≡ a.metric
+  pub tie : metric_of samples w ≡ a.metric
   pub loses : Earlier a.word w
   pub at : p ≡ loses.place
 
@@ -111,6 +111,6 @@ Reasoned plate samples w reason = ReasonedIn (IsWord plate) plate samples w reas
 -- room zeroed, as decoding leaves it
 abbrev pub Asks : Plate → List ℤ → ℕ → List ℤ → List ℕ → List ℤ → List ℕ → Verdict → Type 0
 Asks plate samples w metrics decisions metrics' decisions' (Refused q) =
-    Refuses (decodeConditions plate samples metrics decisions) q × (metrics' ≡ metrics) × (decisions' ≡ decisions)
+    Refuses (decode_conditions plate samples metrics decisions) q × (metrics' ≡ metrics) × (decisions' ≡ decisions)
 Asks plate samples w metrics decisions metrics' decisions' (Explained reason) =
-    Passes (decodeConditions plate samples metrics decisions) × Reasoned plate samples w reason × Zeroed plate metrics metrics' decisions decisions'
+    Passes (decode_conditions plate samples metrics decisions) × Reasoned plate samples w reason × Zeroed plate metrics metrics' decisions decisions'

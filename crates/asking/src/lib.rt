@@ -2,11 +2,11 @@
 ghost use Rattle.std.specs.Prelude.{◌+ℤ◌, length, take, ◌≡◌, ◌≤◌};
 ghost use Rattle.asking.specs.Asking.{Asks, ExplainsIn};
 ghost use Rattle.asking.specs.Working.{AddingFits, AskedOf, FirstStop, Sampled};
-ghost use Rattle.decoding.specs.Cosets.{takenOff};
-ghost use Rattle.decoding.specs.Metric.{metricOf};
+ghost use Rattle.decoding.specs.Cosets.{taken_off};
+ghost use Rattle.decoding.specs.Metric.{metric_of};
 ghost use Rattle.decoding.specs.Taking.{signed};
 ghost use Rattle.plates.specs.Code.{Masked};
-ghost use Rattle.plates.specs.Prepare.{ofParts};
+ghost use Rattle.plates.specs.Prepare.{of_parts};
 ghost use Rattle.words.specs.Sum.{IsSum};
 
 use decoding::cosets::rest_of;
@@ -32,7 +32,7 @@ pub enum Verdict {
 // What is left of a word once the first k rows are taken off it by their heads.
 fn left_of(rows: &[u64], k: usize, word: u64) -> u64
     requires { k ≤ length rows.now }
-    ensures { result ≡ takenOff (take k rows.now) word }
+    ensures { result ≡ taken_off (take k rows.now) word }
 {
     rest_of(&rows[..k], word)
 }
@@ -63,7 +63,7 @@ fn with_sample(bit: u64, sample: i16, metric: i32) -> i32
 // The metric of a word, from the last position to the first.
 fn metric_of(samples: &[i16], word: u64) -> i32
     requires { Sampled samples.now }
-    ensures { result ≡ metricOf samples.now word }
+    ensures { result ≡ metric_of samples.now word }
 {
     let mut metric = 0;
     let mut i = samples.len();
@@ -116,7 +116,7 @@ pub fn why_not_parts<'a>(
     metrics: &mut [i32],
     decisions: &mut [u64],
 ) -> Verdict
-    ensures { Asks (ofParts n k mask rows.now profile.now) samples.now word metrics.old decisions.old metrics.new decisions.new result }
+    ensures { Asks (of_parts n k mask rows.now profile.now) samples.now word metrics.old decisions.old metrics.new decisions.new result }
 {
     match decode_parts(n, k, mask, rows, profile, samples, metrics, decisions) {
         Decoded::Found(answer) => {

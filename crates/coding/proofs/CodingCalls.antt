@@ -87,14 +87,14 @@ encoded-word {plate} given short e =
 -- by the test of the plate: it is refused where that says no
 module _ {plate : Plate} {p : Bool} (t : Tests plate p) where
   pub encode-refused : {information : ℕ} → not p ≡ true → Encodes plate information (E.Refused NotPrepared)
-  encode-refused e = inl (t.no-is (not-true _ e), refl)
+  encode-refused e = inl (t.no_is (not-true _ e), refl)
 
   pub read-back-refused : (word : ℕ) → not p ≡ true → ReadsBack plate word (R.Refused NotPrepared)
-  read-back-refused word e = inl (t.no-is (not-true _ e), refl)
+  read-back-refused word e = inl (t.no_is (not-true _ e), refl)
 
   module _ (e : not p ≡ false) where
     given : IsPrepared plate
-    given = t.yes-is (not-false _ e)
+    given = t.yes_is (not-false _ e)
 
     pub rows_long : length plate.rows ≡ 64
     rows_long = (sound given).table
@@ -107,10 +107,10 @@ module _ {plate : Plate} {p : Bool} (t : Tests plate p) where
 
     module _ {information : ℕ} {r : Bool} (o : Reaches information plate.k r) where
       pub over-refused : r ≡ true → Encodes plate information (E.Refused InformationBeyond)
-      over-refused e = inr ((λ q b. b.0 given), inl (o.yes-is e, refl))
+      over-refused e = inr ((λ q b. b.0 given), inl (o.yes_is e, refl))
 
       pub encoded : {sum : ℕ} → r ≡ false → sum ≡ sum_of (rows_of plate) information → Encodes plate information (E.Word (bit_xor sum plate.mask))
-      encoded e s = encoded-word given (o.no-is e) s
+      encoded e s = encoded-word given (o.no_is e) s
 
     module _ (word : ℕ) {r : Reading} (read : Read plate.rows plate.k (bit_xor word plate.mask) plate.k r) where
       pub no_word : (r.rest ≡ 0 → ⊥) → ReadsBack plate word (R.Refused NoCodeword)

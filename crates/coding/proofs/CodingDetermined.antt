@@ -6,7 +6,7 @@ use Prim.Native.Nat.{◌<◌, ◌^◌, ℕ}
 use Rattle.coding.proofs.PlateWords.{same-codeword}
 use Rattle.coding.specs.declared.Encoded.TheVariants as E
 use Rattle.coding.specs.declared.ReadBack.TheVariants as R
-use Rattle.coding.specs.Coding.{Encodes, ReadsBack, encodeConditions, readConditions, word_of}
+use Rattle.coding.specs.Coding.{Encodes, ReadsBack, encode_conditions, read_conditions, word_of}
 use Rattle.coding.specs.declared.Encoded.{Encoded}
 use Rattle.coding.specs.declared.ReadBack.{ReadBack}
 use Rattle.plates.proofs.Refusing.{Single, never_both, refuses-once}
@@ -26,21 +26,21 @@ information-same plate s u v hu hv e =
     (same-codeword plate u v e)
 
 module _ (plate : Plate) (information : ℕ) where
-  encode-single : Single (encodeConditions plate information)
+  encode-single : Single (encode_conditions plate information)
   encode-single = ((λ p q x y. x.1 ∙ sym y.1), ((λ p q x y. x.1 ∙ sym y.1), tt))
 
   pub encode-determined : (r s : Encoded) → Encodes plate information r → Encodes plate information s → r ≡ s
   encode-determined (E.Word a) (E.Word b) x y = ap E.Word (x.1 ∙ sym y.1)
-  encode-determined (E.Word a) (E.Refused q) x y = absurd (never_both (encodeConditions plate information) x.0 q y)
-  encode-determined (E.Refused p) (E.Word b) x y = absurd (never_both (encodeConditions plate information) y.0 p x)
-  encode-determined (E.Refused p) (E.Refused q) x y = ap E.Refused (refuses-once (encodeConditions plate information) encode-single p q x y)
+  encode-determined (E.Word a) (E.Refused q) x y = absurd (never_both (encode_conditions plate information) x.0 q y)
+  encode-determined (E.Refused p) (E.Word b) x y = absurd (never_both (encode_conditions plate information) y.0 p x)
+  encode-determined (E.Refused p) (E.Refused q) x y = ap E.Refused (refuses-once (encode_conditions plate information) encode-single p q x y)
 
 module _ (plate : Plate) (word : ℕ) where
-  read-single : Single (readConditions plate word)
+  read-single : Single (read_conditions plate word)
   read-single = ((λ p q x y. x.1 ∙ sym y.1), ((λ p q x y. x.1 ∙ sym y.1), tt))
 
   -- a plate that is not refused is sound, twice denied
-  not-unsound : Passes (readConditions plate word) → (IsPrepared plate → ⊥) → ⊥
+  not-unsound : Passes (read_conditions plate word) → (IsPrepared plate → ⊥) → ⊥
   not-unsound p n = p.0 NotPrepared (n, refl)
 
   pub read-back-determined : (r s : ReadBack) → ReadsBack plate word r → ReadsBack plate word s → r ≡ s
@@ -49,6 +49,6 @@ module _ (plate : Plate) (word : ℕ) where
       same : Dec (u ≡ v) → u ≡ v
       same (yes e) = e
       same (no d) = absurd (not-unsound x.0 (λ p. d (information-same plate (sound p) u v x.1 y.1 (x.2 ∙ sym y.2))))
-  read-back-determined (R.Information u) (R.Refused q) x y = absurd (never_both (readConditions plate word) x.0 q y)
-  read-back-determined (R.Refused p) (R.Information v) x y = absurd (never_both (readConditions plate word) y.0 p x)
-  read-back-determined (R.Refused p) (R.Refused q) x y = ap R.Refused (refuses-once (readConditions plate word) read-single p q x y)
+  read-back-determined (R.Information u) (R.Refused q) x y = absurd (never_both (read_conditions plate word) x.0 q y)
+  read-back-determined (R.Refused p) (R.Information v) x y = absurd (never_both (read_conditions plate word) y.0 p x)
+  read-back-determined (R.Refused p) (R.Refused q) x y = ap R.Refused (refuses-once (read_conditions plate word) read-single p q x y)

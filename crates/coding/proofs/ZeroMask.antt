@@ -4,7 +4,7 @@ use mathlib.Core.Logic.{◌↔◌}
 use mathlib.Core.Path.{ap, subst, sym, ◌∙◌, ◌≡◌}
 use Prim.Native.Nat.{ℕ}
 use Rattle.coding.specs.Coding.{Encodes, ReadsBack}
-use Rattle.coding.specs.Unmasked.{EncodesCodeword, ReadsCodeword, codewordConditions}
+use Rattle.coding.specs.Unmasked.{EncodesCodeword, ReadsCodeword, codeword_conditions}
 use Rattle.coding.specs.declared.Encoded.{Encoded}
 use Rattle.coding.specs.declared.Encoded.TheVariants as E
 use Rattle.coding.specs.declared.ReadBack.{ReadBack}
@@ -27,10 +27,10 @@ module _ (plate : Plate) (zero-mask : plate.mask ≡ 0) where
   pub zero-mask-reads-back : (word : ℕ) (r : ReadBack) → ReadsBack plate word r ↔ ReadsCodeword plate word r
   zero-mask-reads-back word (R.Information u) =
       let same = unchanged (sum_of (rows_of plate) u) in (
-        (λ e. (subst (λ (x : ℕ). Passes (codewordConditions plate x)) (unchanged word) e.0, e.1, sym same ∙ e.2)),
-        λ e. (subst (λ (x : ℕ). Passes (codewordConditions plate x)) (sym (unchanged word)) e.0, e.1, same ∙ e.2),
+        (λ e. (subst (λ (x : ℕ). Passes (codeword_conditions plate x)) (unchanged word) e.0, e.1, sym same ∙ e.2)),
+        λ e. (subst (λ (x : ℕ). Passes (codeword_conditions plate x)) (sym (unchanged word)) e.0, e.1, same ∙ e.2),
       )
   zero-mask-reads-back word (R.Refused q) = (
-    (λ e. subst (λ (x : ℕ). Refuses (codewordConditions plate x) q) (unchanged word) e),
-    λ e. subst (λ (x : ℕ). Refuses (codewordConditions plate x) q) (sym (unchanged word)) e,
+    (λ e. subst (λ (x : ℕ). Refuses (codeword_conditions plate x) q) (unchanged word) e),
+    λ e. subst (λ (x : ℕ). Refuses (codeword_conditions plate x) q) (sym (unchanged word)) e,
   )

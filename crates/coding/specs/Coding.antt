@@ -5,7 +5,7 @@ use Rattle.words.specs.Sum.{sum_of}
 use Rattle.plates.specs.declared.Plate.{Plate}
 use Rattle.plates.specs.declared.Refusal.{Refusal}
 use Rattle.plates.specs.declared.Refusal.TheVariants.{InformationBeyond, NoCodeword}
-use Rattle.plates.specs.Prepare.{IsWord, notPrepared, rows_of}
+use Rattle.plates.specs.Prepare.{IsWord, not_prepared, rows_of}
 use Rattle.plates.specs.Refusals.{Refuses, Passes}
 use Rattle.coding.specs.declared.Encoded.{Encoded}
 use Rattle.coding.specs.declared.Encoded.TheVariants as E
@@ -20,11 +20,11 @@ overlong plate information q = (2 ^ plate.k ≤ information) × (q ≡ Informati
 abbrev pub no_word : Plate → ℕ → Refusal → Type 0
 no_word plate word q = (IsWord plate word → ⊥) × (q ≡ NoCodeword)
 
-abbrev pub encodeConditions : Plate → ℕ → List (Refusal → Type 0)
-encodeConditions plate information = notPrepared plate ∷ overlong plate information ∷ []
+abbrev pub encode_conditions : Plate → ℕ → List (Refusal → Type 0)
+encode_conditions plate information = not_prepared plate ∷ overlong plate information ∷ []
 
-abbrev pub readConditions : Plate → ℕ → List (Refusal → Type 0)
-readConditions plate word = notPrepared plate ∷ no_word plate word ∷ []
+abbrev pub read_conditions : Plate → ℕ → List (Refusal → Type 0)
+read_conditions plate word = not_prepared plate ∷ no_word plate word ∷ []
 
 -- the word of the plate that information makes: bit j takes row j, and the mask is added
 abbrev pub word_of : Plate → ℕ → ℕ
@@ -32,11 +32,11 @@ word_of plate information = bit_xor (sum_of (rows_of plate) information) plate.m
 
 -- encode: the word that the information makes
 abbrev pub Encodes : Plate → ℕ → Encoded → Type 0
-Encodes plate information (E.Word word) = Passes (encodeConditions plate information) × (word ≡ word_of plate information)
-Encodes plate information (E.Refused q) = Refuses (encodeConditions plate information) q
+Encodes plate information (E.Word word) = Passes (encode_conditions plate information) × (word ≡ word_of plate information)
+Encodes plate information (E.Refused q) = Refuses (encode_conditions plate information) q
 
 -- read back: the information, with no one at k or beyond, that encodes to the word
 abbrev pub ReadsBack : Plate → ℕ → ReadBack → Type 0
 ReadsBack plate word (R.Information information) =
-    Passes (readConditions plate word) × (information < 2 ^ plate.k) × (word_of plate information ≡ word)
-ReadsBack plate word (R.Refused q) = Refuses (readConditions plate word) q
+    Passes (read_conditions plate word) × (information < 2 ^ plate.k) × (word_of plate information ≡ word)
+ReadsBack plate word (R.Refused q) = Refuses (read_conditions plate word) q

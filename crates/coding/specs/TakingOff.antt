@@ -29,5 +29,5 @@ pub record ReadOn (a : Reading) (row j : ℕ) (r : Reading) : Type 0 where
 
 -- r says whether a word has a one at k or beyond
 pub record Reaches (word k : ℕ) (r : Bool) : Type 0 where
-  pub yes-is : r ≡ true → 2 ^ k ≤ word
-  pub no-is : r ≡ false → word < 2 ^ k
+  pub yes_is : r ≡ true → 2 ^ k ≤ word
+  pub no_is : r ≡ false → word < 2 ^ k

@@ -4,9 +4,9 @@ use Rattle.words.specs.Sum.{sum_of, IsSum}
 use Rattle.plates.specs.declared.Plate.{Plate}
 use Rattle.plates.specs.declared.Refusal.{Refusal}
 use Rattle.plates.specs.declared.Refusal.TheVariants.{NoCodeword}
-use Rattle.plates.specs.Prepare.{notPrepared, rows_of}
+use Rattle.plates.specs.Prepare.{not_prepared, rows_of}
 use Rattle.plates.specs.Refusals.{Refuses, Passes}
-use Rattle.coding.specs.Coding.{encodeConditions}
+use Rattle.coding.specs.Coding.{encode_conditions}
 use Rattle.coding.specs.declared.Encoded.{Encoded}
 use Rattle.coding.specs.declared.Encoded.TheVariants as E
 use Rattle.coding.specs.declared.ReadBack.{ReadBack}
@@ -14,18 +14,18 @@ use Rattle.coding.specs.declared.ReadBack.TheVariants as R
 
 -- encode: bit j of the information takes row j
 abbrev pub EncodesCodeword : Plate → ℕ → Encoded → Type 0
-EncodesCodeword plate information (E.Word word) = Passes (encodeConditions plate information) × (word ≡ sum_of (rows_of plate) information)
-EncodesCodeword plate information (E.Refused q) = Refuses (encodeConditions plate information) q
+EncodesCodeword plate information (E.Word word) = Passes (encode_conditions plate information) × (word ≡ sum_of (rows_of plate) information)
+EncodesCodeword plate information (E.Refused q) = Refuses (encode_conditions plate information) q
 
 -- 14: the word is no codeword
-abbrev pub noCodeword : Plate → ℕ → Refusal → Type 0
-noCodeword plate word q = (IsSum (rows_of plate) word → ⊥) × (q ≡ NoCodeword)
+abbrev pub no_codeword : Plate → ℕ → Refusal → Type 0
+no_codeword plate word q = (IsSum (rows_of plate) word → ⊥) × (q ≡ NoCodeword)
 
-abbrev pub codewordConditions : Plate → ℕ → List (Refusal → Type 0)
-codewordConditions plate word = notPrepared plate ∷ noCodeword plate word ∷ []
+abbrev pub codeword_conditions : Plate → ℕ → List (Refusal → Type 0)
+codeword_conditions plate word = not_prepared plate ∷ no_codeword plate word ∷ []
 
 -- read back: the information, with no one at k or beyond, whose rows add up to the word
 abbrev pub ReadsCodeword : Plate → ℕ → ReadBack → Type 0
 ReadsCodeword plate word (R.Information information) =
-    Passes (codewordConditions plate word) × (information < 2 ^ plate.k) × (sum_of (rows_of plate) information ≡ word)
-ReadsCodeword plate word (R.Refused q) = Refuses (codewordConditions plate word) q
+    Passes (codeword_conditions plate word) × (information < 2 ^ plate.k) × (sum_of (rows_of plate) information ≡ word)
+ReadsCodeword plate word (R.Refused q) = Refuses (codeword_conditions plate word) q

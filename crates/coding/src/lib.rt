@@ -3,7 +3,7 @@ ghost use Rattle.std.specs.Int.Bits.{bit_xor};
 ghost use Rattle.std.specs.Prelude.{length, take, ◌≡◌, ◌^◌, ◌≤◌, ◌<◌};
 ghost use Rattle.coding.specs.Coding.{Encodes, ReadsBack};
 ghost use Rattle.coding.specs.TakingOff.{Headed, Read, ReadOn, Reaches};
-ghost use Rattle.plates.specs.Prepare.{ofParts};
+ghost use Rattle.plates.specs.Prepare.{of_parts};
 ghost use Rattle.words.specs.Sum.{sum_of, taken};
 
 use plates::Refusal;
@@ -104,7 +104,7 @@ pub fn encode_parts<'a>(
     profile: &'a [u64],
     information: u64,
 ) -> Encoded
-    ensures { Encodes (ofParts n k mask rows.now profile.now) information result }
+    ensures { Encodes (of_parts n k mask rows.now profile.now) information result }
 {
     if !plates::parts_prepared(n, k, mask, rows, profile) {
         return Encoded::Refused(Refusal::NotPrepared);
@@ -124,7 +124,7 @@ pub fn read_back_parts<'a>(
     profile: &'a [u64],
     word: u64,
 ) -> ReadBack
-    ensures { ReadsBack (ofParts n k mask rows.now profile.now) word result }
+    ensures { ReadsBack (of_parts n k mask rows.now profile.now) word result }
 {
     if !plates::parts_prepared(n, k, mask, rows, profile) {
         return ReadBack::Refused(Refusal::NotPrepared);

@@ -10,25 +10,25 @@ use native.Mathlib.Omega.{arith}
 use Prim.Native.Nat.{◌<◌, ℕ, ◌≤◌}
 use Rattle.decoding.proofs.BestWord.{best-word}
 use Rattle.decoding.proofs.MaskedWords.{rest_of}
-use Rattle.decoding.proofs.PlateSizes.{plateSizes}
+use Rattle.decoding.proofs.PlateSizes.{plate_sizes}
 use Rattle.decoding.proofs.SampleLimits.{within-passes}
 use Rattle.decoding.proofs.ZeroedRooms.{metrics-zeroed}
-use Rattle.decoding.specs.Apart.{BestSelection, BestMetric, Chooses, Measures, metricConditions}
-use Rattle.decoding.specs.Backward.{wordFrom}
+use Rattle.decoding.specs.Apart.{BestSelection, BestMetric, Chooses, Measures, metric_conditions}
+use Rattle.decoding.specs.Backward.{word_from}
 use Rattle.decoding.specs.declared.Answer.{Answer}
 use Rattle.decoding.specs.declared.apart.Measure.{Measure}
 use Rattle.decoding.specs.declared.Decoded.{Decoded}
-use Rattle.decoding.specs.Decode.{Best, Decodes, SampleOver, metricNeed}
-use Rattle.decoding.specs.Metric.{limit, metricOf}
+use Rattle.decoding.specs.Decode.{Best, Decodes, SampleOver, metric_need}
+use Rattle.decoding.specs.Metric.{limit, metric_of}
 use Rattle.decoding.specs.Searching.{FirstOver, MetricSearched}
 use Rattle.decoding.specs.Sweeping.{RoomsFit, undecided}
-use Rattle.decoding.specs.Turning.{turnedBy}
+use Rattle.decoding.specs.Turning.{turned_by}
 use Rattle.plates.specs.declared.Plate.{Plate}
 use Rattle.plates.specs.declared.Refusal.{Refusal}
 use Rattle.plates.specs.declared.Refusal.TheVariants.{MetricRoom, NotPrepared, SampleCount, SampleRange}
 use Rattle.plates.specs.Prepare.{IsPrepared, rows_of}
 use Rattle.plates.specs.Refusals.{Passes}
-use Rattle.trellises.specs.SectionOf.{sectionOf}
+use Rattle.trellises.specs.SectionOf.{section_of}
 use Rattle.decoding.specs.declared.apart.Chosen.TheVariants as C
 use Rattle.decoding.specs.declared.apart.Measured.TheVariants as M
 use Rattle.decoding.specs.declared.Decoded.TheVariants as D
@@ -56,18 +56,18 @@ module _ (plate : Plate) (samples metrics : List ℤ) where
         no-sample-over : (q : Refusal) → SampleOver samples q → ⊥
         no-sample-over = within-passes samples samples-within
 
-        pub refused-8 : length metrics < metricNeed plate → Measures plate samples metrics metrics (M.Refused MetricRoom)
+        pub refused-8 : length metrics < metric_need plate → Measures plate samples metrics metrics (M.Refused MetricRoom)
         refused-8 h = (inr ((λ q b. b.0 given), inr ((λ q b. b.0 size), inr (no-sample-over, inl (h, refl)))), refl)
 
-        module _ (metric-room : metricNeed plate ≤ length metrics) where
-          pub room_fits : RoomsFit (undecided (plateSizes plate given)) samples metrics []
-          room_fits = record { size = size; within = λ i k. omega (arith, samples-within i k); metric-room = omega (arith, metric-room); decision-room = omega arith }
+        module _ (metric_room : metric_need plate ≤ length metrics) where
+          pub room_fits : RoomsFit (undecided (plate_sizes plate given)) samples metrics []
+          room_fits = record { size = size; within = λ i k. omega (arith, samples-within i k); metric_room = omega (arith, metric_room); decision_room = omega arith }
 
-          passes : Passes (metricConditions plate samples metrics)
-          passes = ((λ q b. b.0 given), ((λ q b. b.0 size), (no-sample-over, ((λ q b. omega (arith, b.0, metric-room)), tt))))
+          passes : Passes (metric_conditions plate samples metrics)
+          passes = ((λ q b. b.0 given), ((λ q b. b.0 size), (no-sample-over, ((λ q b. omega (arith, b.0, metric_room)), tt))))
 
-          pub measured : (metrics' : List ℤ) (m : Measure) → MetricSearched plate.rows (plateSizes plate given) samples metrics metrics' m
-              → (d : ℕ) → d ≡ metricNeed plate → (metrics'' : List ℤ) → metrics'' ≡ replicate d (pos 0) ++ drop d metrics'
+          pub measured : (metrics' : List ℤ) (m : Measure) → MetricSearched plate.rows (plate_sizes plate given) samples metrics metrics' m
+              → (d : ℕ) → d ≡ metric_need plate → (metrics'' : List ℤ) → metrics'' ≡ replicate d (pos 0) ++ drop d metrics'
               → Measures plate samples metrics metrics'' (M.Found m)
           measured metrics' m f d e metrics'' x = (
             passes,
@@ -78,7 +78,7 @@ module _ (plate : Plate) (samples metrics : List ℤ) where
               -- the word that decoding finds has this metric
               answer : Answer
               answer = record {
-                word = bit_xor (wordFrom (sectionOf (rows_of plate)) (turnedBy (rest_of plate) samples) 0 0) (rest_of plate);
+                word = bit_xor (word_from (section_of (rows_of plate)) (turned_by (rest_of plate) samples) 0 0) (rest_of plate);
                 metric = m.metric;
                 counts = m.counts;
               }
@@ -103,7 +103,7 @@ module _ (plate : Plate) (samples metrics : List ℤ) (decisions : List ℕ) whe
   pub chosen_of : (a : Answer) → Best plate samples a → BestSelection plate samples (record { word = a.word; counts = a.counts })
   chosen_of a b = record {
     codeword = b.codeword;
-    greatest = λ w h. subst (λ (z : ℤ). metricOf samples w ≤ℤ z) b.metric (b.greatest w h);
+    greatest = λ w h. subst (λ (z : ℤ). metric_of samples w ≤ℤ z) b.metric (b.greatest w h);
     earliest = λ w h e. b.earliest w h (e ∙ sym b.metric);
     additions = b.additions;
     comparisons = b.comparisons;

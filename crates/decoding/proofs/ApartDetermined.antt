@@ -6,15 +6,15 @@ use mathlib.Core.Path.{ap, ap₂, refl, subst, sym, ◌∙◌, ◌≡◌}
 use Prim.Native.Nat.{ℕ}
 use Rattle.decoding.proofs.DecodeDetermined.{answer-same, counts_same, sample-once, single}
 use Rattle.decoding.proofs.IntegerOrder.{≤ℤ-antisym}
-use Rattle.decoding.specs.Apart.{BestMetric, BestSelection, Chooses, Measures, metricConditions}
+use Rattle.decoding.specs.Apart.{BestMetric, BestSelection, Chooses, Measures, metric_conditions}
 use Rattle.decoding.specs.declared.Answer.{Answer}
 use Rattle.decoding.specs.declared.apart.Chosen.{Chosen}
 use Rattle.decoding.specs.declared.apart.Measure.{Measure}
 use Rattle.decoding.specs.declared.apart.Measured.{Measured}
 use Rattle.decoding.specs.declared.apart.Selection.{Selection}
 use Rattle.decoding.specs.declared.Counts.{Counts}
-use Rattle.decoding.specs.Decode.{Best, decodeConditions}
-use Rattle.decoding.specs.Metric.{metricOf}
+use Rattle.decoding.specs.Decode.{Best, decode_conditions}
+use Rattle.decoding.specs.Metric.{metric_of}
 use Rattle.plates.proofs.Refusing.{Single, never_both, refuses-once}
 use Rattle.plates.specs.declared.Plate.{Plate}
 use Rattle.decoding.specs.declared.apart.Chosen.TheVariants as C
@@ -23,7 +23,7 @@ use Rattle.decoding.specs.declared.apart.Measured.TheVariants as M
 -- ---- the metric
 
 module _ (plate : Plate) (samples metrics : List ℤ) where
-  single-metric : Single (metricConditions plate samples metrics)
+  single-metric : Single (metric_conditions plate samples metrics)
   single-metric = ((λ p q x y. x.1 ∙ sym y.1), ((λ p q x y. x.1 ∙ sym y.1), (sample-once plate samples metrics [], ((λ p q x y. x.1 ∙ sym y.1), tt))))
 
   -- each of two greatest metrics is at most the other
@@ -36,16 +36,16 @@ module _ (plate : Plate) (samples metrics : List ℤ) where
 
   pub metric-determined : (r s : Measured) (m n : List ℤ) → Measures plate samples metrics m r → Measures plate samples metrics n s → (r ≡ s) × (m ≡ n)
   metric-determined (M.Found a) (M.Found b) m n x y = (ap M.Found (measure-same a b x.1 y.1), x.2 ∙ sym y.2)
-  metric-determined (M.Found a) (M.Refused q) m n x y = absurd (never_both (metricConditions plate samples metrics) x.0 q y.0)
-  metric-determined (M.Refused p) (M.Found b) m n x y = absurd (never_both (metricConditions plate samples metrics) y.0 p x.0)
+  metric-determined (M.Found a) (M.Refused q) m n x y = absurd (never_both (metric_conditions plate samples metrics) x.0 q y.0)
+  metric-determined (M.Refused p) (M.Found b) m n x y = absurd (never_both (metric_conditions plate samples metrics) y.0 p x.0)
   metric-determined (M.Refused p) (M.Refused q) m n x y =
-      (ap M.Refused (refuses-once (metricConditions plate samples metrics) single-metric p q x.0 y.0), x.1 ∙ sym y.1)
+      (ap M.Refused (refuses-once (metric_conditions plate samples metrics) single-metric p q x.0 y.0), x.1 ∙ sym y.1)
 
 -- ---- the word
 
 -- a selection with the metric of its word is an answer of decoding
 abbrev pub answer_of : List ℤ → Selection → Answer
-answer_of samples c = record { word = c.word; metric = metricOf samples c.word; counts = c.counts }
+answer_of samples c = record { word = c.word; metric = metric_of samples c.word; counts = c.counts }
 
 pub answer-best : (plate : Plate) (samples : List ℤ) (c : Selection) → BestSelection plate samples c → Best plate samples (answer_of samples c)
 answer-best plate samples c b = record { codeword = b.codeword; metric = refl; greatest = b.greatest; earliest = b.earliest; additions = b.additions; comparisons = b.comparisons }
@@ -59,8 +59,8 @@ module _ (plate : Plate) (samples metrics : List ℤ) (decisions : List ℕ) whe
   pub word-determined : (r s : Chosen) (m n : List ℤ) (d e : List ℕ) → Chooses plate samples metrics decisions m d r → Chooses plate samples metrics decisions n e s
       → (r ≡ s) × (m ≡ n) × (d ≡ e)
   word-determined (C.Found a) (C.Found b) m n d e x y =
-      (ap C.Found (selection-same a b x.1 y.1), x.2.metrics-zero ∙ sym y.2.metrics-zero, x.2.decisions-zero ∙ sym y.2.decisions-zero)
-  word-determined (C.Found a) (C.Refused q) m n d e x y = absurd (never_both (decodeConditions plate samples metrics decisions) x.0 q y.0)
-  word-determined (C.Refused p) (C.Found b) m n d e x y = absurd (never_both (decodeConditions plate samples metrics decisions) y.0 p x.0)
+      (ap C.Found (selection-same a b x.1 y.1), x.2.metrics_zero ∙ sym y.2.metrics_zero, x.2.decisions_zero ∙ sym y.2.decisions_zero)
+  word-determined (C.Found a) (C.Refused q) m n d e x y = absurd (never_both (decode_conditions plate samples metrics decisions) x.0 q y.0)
+  word-determined (C.Refused p) (C.Found b) m n d e x y = absurd (never_both (decode_conditions plate samples metrics decisions) y.0 p x.0)
   word-determined (C.Refused p) (C.Refused q) m n d e x y =
-      (ap C.Refused (refuses-once (decodeConditions plate samples metrics decisions) (single plate samples metrics decisions) p q x.0 y.0), x.1 ∙ sym y.1, x.2 ∙ sym y.2)
+      (ap C.Refused (refuses-once (decode_conditions plate samples metrics decisions) (single plate samples metrics decisions) p q x.0 y.0), x.1 ∙ sym y.1, x.2 ∙ sym y.2)

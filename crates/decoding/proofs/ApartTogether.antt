@@ -9,11 +9,11 @@ use Prim.Native.Nat.{◌<◌, ℕ}
 use Rattle.decoding.proofs.ApartDetermined.{answer-best, answer_of}
 use Rattle.decoding.proofs.DecodeDetermined.{answer-same, counts_same}
 use Rattle.decoding.proofs.IntegerOrder.{≤ℤ-antisym}
-use Rattle.decoding.specs.Apart.{BestMetric, Chooses, Measures, metricConditions}
+use Rattle.decoding.specs.Apart.{BestMetric, Chooses, Measures, metric_conditions}
 use Rattle.decoding.specs.declared.Answer.{Answer}
 use Rattle.decoding.specs.declared.apart.Measure.{Measure}
 use Rattle.decoding.specs.declared.apart.Selection.{Selection}
-use Rattle.decoding.specs.Decode.{Best, Decodes, decisionNeed, decodeConditions}
+use Rattle.decoding.specs.Decode.{Best, Decodes, decision_need, decode_conditions}
 use Rattle.plates.specs.declared.Plate.{Plate}
 use Rattle.plates.specs.declared.Refusal.{Refusal}
 use Rattle.plates.specs.declared.Refusal.TheVariants.{DecisionRoom}
@@ -58,7 +58,7 @@ module _ (plate : Plate) (samples : List ℤ) where
         (ap (λ (b : Answer). b.word) e, counts_same (x.1.additions ∙ sym y.1.additions) (x.1.comparisons ∙ sym y.1.comparisons))
 
     -- what refuses the metric call refuses decode with the same number and place
-    pub metric-refusal : (q : Refusal) → Refuses (metricConditions plate samples metrics) q → Refuses (decodeConditions plate samples metrics decisions) q
+    pub metric-refusal : (q : Refusal) → Refuses (metric_conditions plate samples metrics) q → Refuses (decode_conditions plate samples metrics decisions) q
     metric-refusal q (inl a) = inl a
     metric-refusal q (inr (a, inl b)) = inr (a, inl b)
     metric-refusal q (inr (a, inr (b, inl c))) = inr (a, inr (b, inl c))
@@ -66,8 +66,8 @@ module _ (plate : Plate) (samples : List ℤ) where
     metric-refusal q (inr (a, inr (b, inr (c, inr (d, none))))) = absurd none
 
     -- and what refuses decode refuses the metric call so, or it is the decision room that is too short
-    pub decode-refusal : (q : Refusal) → Refuses (decodeConditions plate samples metrics decisions) q
-        → Refuses (metricConditions plate samples metrics) q ⊎ ((length decisions < decisionNeed plate) × (q ≡ DecisionRoom))
+    pub decode-refusal : (q : Refusal) → Refuses (decode_conditions plate samples metrics decisions) q
+        → Refuses (metric_conditions plate samples metrics) q ⊎ ((length decisions < decision_need plate) × (q ≡ DecisionRoom))
     decode-refusal q (inl a) = inl (inl a)
     decode-refusal q (inr (a, inl b)) = inl (inr (a, inl b))
     decode-refusal q (inr (a, inr (b, inl c))) = inl (inr (a, inr (b, inl c)))

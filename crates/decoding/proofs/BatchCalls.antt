@@ -9,15 +9,15 @@ use Prim.Native.Nat.{◌*◌, ◌+◌, ◌-◌, ◌<◌, suc, ℕ, ◌≤◌}
 use Rattle.decoding.proofs.Batched.{block_size}
 use Rattle.decoding.proofs.BestWord.{best-word}
 use Rattle.decoding.proofs.MetricBounds.{Within}
-use Rattle.decoding.proofs.PlateSizes.{plate-sizes-fit, plateSizes, sizes-are}
+use Rattle.decoding.proofs.PlateSizes.{plate-sizes-fit, plate_sizes, sizes-are}
 use Rattle.decoding.proofs.SampleLimits.{within-passes}
 use Rattle.decoding.proofs.ZeroedRooms.{zeroed}
-use Rattle.decoding.specs.Batch.{Blocks, DecodesBlocks, EachBest, answerAt, blockAt, blocksConditions}
+use Rattle.decoding.specs.Batch.{Blocks, DecodesBlocks, EachBest, answer_at, block_at, blocks_conditions}
 use Rattle.decoding.specs.Batching.{BlocksFit, BlocksPut}
 use Rattle.decoding.specs.declared.batch.Batch.TheVariants.{Found, Refused}
 use Rattle.decoding.specs.declared.Counts.{Counts}
 use Rattle.decoding.specs.declared.sweep.Sizes.{Sizes}
-use Rattle.decoding.specs.Decode.{Best, SampleOver, decisionNeed, metricNeed, metricRoom}
+use Rattle.decoding.specs.Decode.{Best, SampleOver, decision_need, metric_need, metric_room}
 use Rattle.decoding.specs.Metric.{limit}
 use Rattle.decoding.specs.Needs.{SizesOf}
 use Rattle.decoding.specs.Searching.{FirstOver}
@@ -32,23 +32,23 @@ use Rattle.plates.specs.Refusals.{Passes}
 
 -- what is stored for each block is the best of it: the counts of the last block are those of every block
 module _ (plate : Plate) (given : IsPrepared plate) {samples : List ℤ} {words : List ℕ} {scores metrics : List ℤ} {decisions : List ℕ}
-    (fit : BlocksFit (plateSizes plate given) samples words scores metrics decisions)
+    (fit : BlocksFit (plate_sizes plate given) samples words scores metrics decisions)
     {words' : List ℕ} {scores' metrics' : List ℤ} {decisions' : List ℕ} {counts : Counts}
-    (done : BlocksPut plate.rows (plateSizes plate given) samples words scores metrics decisions (length words) words' scores' metrics' decisions'
+    (done : BlocksPut plate.rows (plate_sizes plate given) samples words scores metrics decisions (length words) words' scores' metrics' decisions'
     counts) where
-  best-last : (j : ℕ) → length words ≡ suc j → Best plate (blockAt plate.n samples j) (answerAt words' scores' counts j)
+  best-last : (j : ℕ) → length words ≡ suc j → Best plate (block_at plate.n samples j) (answer_at words' scores' counts j)
   best-last j e =
       let h : j < length words = omega (arith, e) in
-      best-word plate given (blockAt plate.n samples j) (block_size fit.blocks j h) (answerAt words' scores' counts j) (done.each j h).word-is
-      (done.each j h).metric-is (done.last j e)
+      best-word plate given (block_at plate.n samples j) (block_size fit.blocks j h) (answer_at words' scores' counts j) (done.each j h).word_is
+      (done.each j h).metric_is (done.last j e)
 
-  best-each : (b : ℕ) → b < length words → Best plate (blockAt plate.n samples b) (answerAt words' scores' counts b)
+  best-each : (b : ℕ) → b < length words → Best plate (block_at plate.n samples b) (answer_at words' scores' counts b)
   best-each b h =
       let e : length words ≡ suc (length words - 1) = omega (arith, h) in
       let last = best-last (length words - 1) e in
       let own =
-      best-word plate given (blockAt plate.n samples b) (block_size fit.blocks b h) (answerAt words' scores' _ b) (done.each b h).word-is
-      (done.each b h).metric-is refl in
+      best-word plate given (block_at plate.n samples b) (block_size fit.blocks b h) (answer_at words' scores' _ b) (done.each b h).word_is
+      (done.each b h).metric_is refl in
       record {
         codeword = own.codeword;
         metric = own.metric;
@@ -59,7 +59,7 @@ module _ (plate : Plate) (given : IsPrepared plate) {samples : List ℤ} {words 
       }
 
   pub each-best : length scores ≡ length words → EachBest plate samples (length words) words' scores' counts
-  each-best e = record { words_size = done.words_size; scores-size = omega (arith, done.scores-size, e); each = best-each; none = done.none }
+  each-best e = record { words_size = done.words_size; scores_size = omega (arith, done.scores_size, e); each = best-each; none = done.none }
 
 -- ---- the replies
 
@@ -90,36 +90,36 @@ module _ (plate : Plate) (samples : List ℤ) (words : List ℕ) (scores metrics
         no-sample-over = within-passes samples samples-within
 
         -- the sizes are the plate's
-        same : z ≡ plateSizes plate given
+        same : z ≡ plate_sizes plate given
         same = sizes-are plate given z of
 
-        metrics-needed : z.half + z.half ≡ metricNeed plate
+        metrics-needed : z.half + z.half ≡ metric_need plate
         metrics-needed = ap (λ (y : Sizes). y.half + y.half) same ∙ omega arith
 
-        decisions-needed : plate.n * z.words ≡ decisionNeed plate
+        decisions-needed : plate.n * z.words ≡ decision_need plate
         decisions-needed = ap (λ (y : Sizes). plate.n * y.words) same
 
         pub refused-8 : length metrics < z.half + z.half → Unchanged MetricRoom
         refused-8 h =
             (inr ((λ q b. b.0 given), inr ((λ q b. b.0 blocks), inr (no-sample-over, inl (omega (arith, h, metrics-needed), refl)))), refl, refl, refl, refl)
 
-        module _ (metric-room : z.half + z.half ≤ length metrics) where
-          enough-metrics : (q : Refusal) → metricRoom plate metrics q → ⊥
-          enough-metrics q b = omega (arith, b.0, metric-room, metrics-needed)
+        module _ (metric_room : z.half + z.half ≤ length metrics) where
+          enough-metrics : (q : Refusal) → metric_room plate metrics q → ⊥
+          enough-metrics q b = omega (arith, b.0, metric_room, metrics-needed)
 
           pub refused-9 : length decisions < plate.n * z.words → Unchanged DecisionRoom
           refused-9 h =
               let x = subst (λ (x : ℕ). length decisions < x) decisions-needed h in
               (inr ((λ q b. b.0 given), inr ((λ q b. b.0 blocks), inr (no-sample-over, inr (enough-metrics, inl (x, refl))))), refl, refl, refl, refl)
 
-          module _ (decision-room : plate.n * z.words ≤ length decisions) where
-            fit : BlocksFit (plateSizes plate given) samples words scores metrics decisions
+          module _ (decision_room : plate.n * z.words ≤ length decisions) where
+            fit : BlocksFit (plate_sizes plate given) samples words scores metrics decisions
             fit = record {
               blocks = blocks;
               within = λ i k. omega (arith, samples-within i k);
               wanted = omega arith;
-              metric-room = omega (arith, metric-room, metrics-needed);
-              decision-room = subst (λ (x : ℕ). x ≤ length decisions) decisions-needed decision-room;
+              metric_room = omega (arith, metric_room, metrics-needed);
+              decision_room = subst (λ (x : ℕ). x ≤ length decisions) decisions-needed decision_room;
             }
 
             pub blocks-fit : SizesFit plate.rows z × BlocksFit z samples words scores metrics decisions
@@ -127,9 +127,9 @@ module _ (plate : Plate) (samples : List ℤ) (words : List ℕ) (scores metrics
                 subst (λ (y : Sizes). SizesFit plate.rows y × BlocksFit y samples words scores metrics decisions) (sym same)
                 (plate-sizes-fit plate given, fit)
 
-            passes : Passes (blocksConditions plate samples words scores metrics decisions)
+            passes : Passes (blocks_conditions plate samples words scores metrics decisions)
             passes =
-                ((λ q b. b.0 given), ((λ q b. b.0 blocks), (no-sample-over, (enough-metrics, ((λ q b. omega (arith, b.0, fit.decision-room)), tt)))))
+                ((λ q b. b.0 given), ((λ q b. b.0 blocks), (no-sample-over, (enough-metrics, ((λ q b. omega (arith, b.0, fit.decision_room)), tt)))))
 
             pub batched : {words' : List ℕ} {scores' metrics' : List ℤ} {decisions' : List ℕ} {counts : Counts}
                 → BlocksPut plate.rows z samples words scores metrics decisions (length words) words' scores' metrics' decisions' counts
@@ -141,6 +141,6 @@ module _ (plate : Plate) (samples : List ℤ) (words : List ℕ) (scores metrics
                 subst (λ (y : Sizes). BlocksPut plate.rows y samples words scores metrics decisions (length words) words' scores' metrics' decisions' counts)
                 same put in (
                   passes,
-                  each-best plate given fit done blocks.scores-are,
+                  each-best plate given fit done blocks.scores_are,
                   zeroed plate given metrics decisions metrics' decisions' done.kept _ _ metrics-needed decisions-needed metrics'' x decisions'' y,
                 )

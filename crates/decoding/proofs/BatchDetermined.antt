@@ -12,13 +12,13 @@ use Rattle.decoding.proofs.Batched.{block_size, block_within}
 use Rattle.decoding.proofs.DecodeDetermined.{answer-same, counts_same, sample-once}
 use Rattle.decoding.proofs.MetricBounds.{Within}
 use Rattle.decoding.proofs.SampleLimits.{none_over, within-passes}
-use Rattle.decoding.specs.Batch.{Blocks, DecodesBlocks, EachBest, answerAt, blockAt, blockCount, blocksConditions}
+use Rattle.decoding.specs.Batch.{Blocks, DecodesBlocks, EachBest, answer_at, block_at, block_count, blocks_conditions}
 use Rattle.decoding.specs.declared.Answer.{Answer}
 use Rattle.decoding.specs.declared.batch.Batch.{Batch}
 use Rattle.decoding.specs.declared.batch.Batch.TheVariants.{Found, Refused}
 use Rattle.decoding.specs.declared.Counts.{Counts}
 use Rattle.decoding.specs.declared.Decoded.{Decoded}
-use Rattle.decoding.specs.Decode.{Decodes, decodeConditions}
+use Rattle.decoding.specs.Decode.{Decodes, decode_conditions}
 use Rattle.decoding.specs.Metric.{limit}
 use Rattle.plates.proofs.Refusing.{Single, never_both, refuses-once}
 use Rattle.plates.specs.declared.Plate.{Plate}
@@ -29,9 +29,9 @@ use Rattle.decoding.specs.declared.Decoded.TheVariants as D
 
 module _ (plate : Plate) (samples : List ℤ) (words : List ℕ) (scores metrics : List ℤ) (decisions : List ℕ) where
   abbrev conditions : List (Refusal → Type 0)
-  conditions = blocksConditions plate samples words scores metrics decisions
+  conditions = blocks_conditions plate samples words scores metrics decisions
 
-  single : Single (blocksConditions plate samples words scores metrics decisions)
+  single : Single (blocks_conditions plate samples words scores metrics decisions)
   single = (
     (λ p q x y. x.1 ∙ sym y.1),
     ((λ p q x y. x.1 ∙ sym y.1), (sample-once plate samples metrics decisions, ((λ p q x y. x.1 ∙ sym y.1), ((λ p q x y. x.1 ∙ sym y.1), tt)))),
@@ -45,8 +45,8 @@ module _ (plate : Plate) (samples : List ℤ) (words : List ℕ) (scores metrics
         let h : 0 < length words = omega (arith, e) in
         counts_same ((x.each 0 h).additions ∙ sym (y.each 0 h).additions) ((x.each 0 h).comparisons ∙ sym (y.each 0 h).comparisons)
 
-    answers-same : (b : ℕ) → b < length words → answerAt words' scores' counts' b ≡ answerAt words'' scores'' counts'' b
-    answers-same b h = answer-same plate (blockAt plate.n samples b) metrics decisions _ _ (x.each b h) (y.each b h)
+    answers-same : (b : ℕ) → b < length words → answer_at words' scores' counts' b ≡ answer_at words'' scores'' counts'' b
+    answers-same b h = answer-same plate (block_at plate.n samples b) metrics decisions _ _ (x.each b h) (y.each b h)
 
     batch-words : words' ≡ words''
     batch-words =
@@ -55,8 +55,8 @@ module _ (plate : Plate) (samples : List ℤ) (words : List ℕ) (scores metrics
 
     batch-scores : scores' ≡ scores''
     batch-scores =
-        ext_get_or (pos 0) scores' scores'' (x.scores-size ∙ sym y.scores-size)
-        (λ b h. ap (λ (a : Answer). a.metric) (answers-same b (omega (arith, h, x.scores-size))))
+        ext_get_or (pos 0) scores' scores'' (x.scores_size ∙ sym y.scores_size)
+        (λ b h. ap (λ (a : Answer). a.metric) (answers-same b (omega (arith, h, x.scores_size))))
 
   pub blocks-determined : (r s : Batch) (w x : List ℕ) (v y m n : List ℤ) (d e : List ℕ)
       → DecodesBlocks plate samples words scores metrics decisions w v m d r
@@ -65,8 +65,8 @@ module _ (plate : Plate) (samples : List ℤ) (words : List ℕ) (scores metrics
     ap Found (batch-counts p.1 q.1 (length words) refl),
     batch-words p.1 q.1,
     batch-scores p.1 q.1,
-    p.2.metrics-zero ∙ sym q.2.metrics-zero,
-    p.2.decisions-zero ∙ sym q.2.decisions-zero,
+    p.2.metrics_zero ∙ sym q.2.metrics_zero,
+    p.2.decisions_zero ∙ sym q.2.decisions_zero,
   )
   blocks-determined (Found a) (Refused q) w x v y m n d e h k = absurd (never_both conditions h.0 q k.0)
   blocks-determined (Refused p) (Found b) w x v y m n d e h k = absurd (never_both conditions k.0 p h.0)
@@ -76,32 +76,32 @@ module _ (plate : Plate) (samples : List ℤ) (words : List ℕ) (scores metrics
   -- ---- each answer is decode's
 
   -- what is not refused with 6 is whole blocks
-  blocks-are : ((q : Refusal) → blockCount plate samples words scores q → ⊥) → Blocks plate.n samples words scores
+  blocks-are : ((q : Refusal) → block_count plate samples words scores q → ⊥) → Blocks plate.n samples words scores
   blocks-are passes = go (ℕ_discrete (length samples) (length words * plate.n)) (ℕ_discrete (length scores) (length words))
     where
       go : Dec (length samples ≡ length words * plate.n) → Dec (length scores ≡ length words) → Blocks plate.n samples words scores
-      go (yes e) (yes f) = record { samples-are = e; scores-are = f }
-      go (yes e) (no d) = absurd (passes SampleCount ((λ b. d b.scores-are), refl))
-      go (no d) f = absurd (passes SampleCount ((λ b. d b.samples-are), refl))
+      go (yes e) (yes f) = record { samples_are = e; scores_are = f }
+      go (yes e) (no d) = absurd (passes SampleCount ((λ b. d b.scores_are), refl))
+      go (no d) f = absurd (passes SampleCount ((λ b. d b.samples_are), refl))
 
   -- where a batch is not refused, no block of it is
-  block-passes : Passes (blocksConditions plate samples words scores metrics decisions) → (b : ℕ) → b < length words
-      → Passes (decodeConditions plate (blockAt plate.n samples b) metrics decisions)
+  block-passes : Passes (blocks_conditions plate samples words scores metrics decisions) → (b : ℕ) → b < length words
+      → Passes (decode_conditions plate (block_at plate.n samples b) metrics decisions)
   block-passes h b l =
-      (h.0, ((λ q c. c.0 (block_size blocks b l)), (within-passes (blockAt plate.n samples b) within, h.1.1.1)))
+      (h.0, ((λ q c. c.0 (block_size blocks b l)), (within-passes (block_at plate.n samples b) within, h.1.1.1)))
     where
       blocks : Blocks plate.n samples words scores
       blocks = blocks-are h.1.0
 
-      within : Within limit (blockAt plate.n samples b)
+      within : Within limit (block_at plate.n samples b)
       within = block_within blocks limit (none_over samples h.1.1.0) b l
 
   pub each-decoded : (counts : Counts) (w : List ℕ) (v m : List ℤ) (d : List ℕ)
       → DecodesBlocks plate samples words scores metrics decisions w v m d (Found counts)
       → (b : ℕ) → b < length words → (r : Decoded) (n : List ℤ) (e : List ℕ)
-      → Decodes plate (blockAt plate.n samples b) metrics decisions n e r
-      → r ≡ D.Found (answerAt w v counts b)
+      → Decodes plate (block_at plate.n samples b) metrics decisions n e r
+      → r ≡ D.Found (answer_at w v counts b)
   each-decoded counts w v m d p b h (D.Found a) n e x =
-      ap D.Found (answer-same plate (blockAt plate.n samples b) metrics decisions a (answerAt w v counts b) x.1 (p.1.each b h))
+      ap D.Found (answer-same plate (block_at plate.n samples b) metrics decisions a (answer_at w v counts b) x.1 (p.1.each b h))
   each-decoded counts w v m d p b h (D.Refused q) n e x =
-      absurd (never_both (decodeConditions plate (blockAt plate.n samples b) metrics decisions) (block-passes p.0 b h) q x.0)
+      absurd (never_both (decode_conditions plate (block_at plate.n samples b) metrics decisions) (block-passes p.0 b h) q x.0)

@@ -15,17 +15,17 @@ use Rattle.decoding.proofs.MaskedWords.{code-word, earlier_word, rest_of, word-c
 use Rattle.decoding.proofs.PlateWays.{codeword-way, plate-chain, start-state, way-codeword}
 use Rattle.decoding.proofs.StateChoice.{Under}
 use Rattle.decoding.proofs.TurnedSamples.{turned-back, turned-length, turned-metric}
-use Rattle.decoding.specs.Backward.{best, counted, wordFrom}
+use Rattle.decoding.specs.Backward.{best, counted, word_from}
 use Rattle.decoding.specs.declared.Answer.{Answer}
 use Rattle.decoding.specs.declared.Counts.{Counts}
 use Rattle.decoding.specs.Decode.{Best}
-use Rattle.decoding.specs.Metric.{metricOf}
-use Rattle.decoding.specs.Turning.{turnedBy}
+use Rattle.decoding.specs.Metric.{metric_of}
+use Rattle.decoding.specs.Turning.{turned_by}
 use Rattle.plates.specs.declared.Plate.{Plate}
 use Rattle.plates.specs.Prepare.{IsPrepared, IsWord, rows_of}
 use Rattle.trellises.proofs.MaskedGraph.{xor-twice}
 use Rattle.trellises.specs.declared.Section.{Section}
-use Rattle.trellises.specs.SectionOf.{sectionOf}
+use Rattle.trellises.specs.SectionOf.{section_of}
 use Rattle.words.specs.Sum.{IsSum}
 use Rattle.words.specs.Word.{Earlier}
 
@@ -33,21 +33,21 @@ use Rattle.words.specs.Word.{Earlier}
 
 module _ (plate : Plate) (given : IsPrepared plate) (ys : List ℤ) (size : length ys ≡ plate.n) where
   abbrev sections : ℕ → Section
-  sections = sectionOf (rows_of plate)
+  sections = section_of (rows_of plate)
 
-  abbrev theWord : ℕ
-  theWord = wordFrom (sectionOf (rows_of plate)) ys 0 0
+  abbrev the_word : ℕ
+  the_word = word_from (section_of (rows_of plate)) ys 0 0
 
-  abbrev theMetric : ℤ
-  theMetric = best (sectionOf (rows_of plate)) ys 0 0
+  abbrev the_metric : ℤ
+  the_metric = best (section_of (rows_of plate)) ys 0 0
 
-  reached : Way (sectionOf (rows_of plate)) ys 0 0 theWord × (metricOf ys theWord ≡ theMetric)
+  reached : Way (section_of (rows_of plate)) ys 0 0 the_word × (metric_of ys the_word ≡ the_metric)
   reached = attains sections plate.n (plate-chain plate given) ys 0 0 (omega arith) (start-state plate given)
 
-  read-codeword : IsSum (rows_of plate) theWord
-  read-codeword = way-codeword plate given ys size theWord reached.0
+  read-codeword : IsSum (rows_of plate) the_word
+  read-codeword = way-codeword plate given ys size the_word reached.0
 
-  under : (w : ℕ) → IsSum (rows_of plate) w → Under theMetric theWord w (metricOf ys w)
+  under : (w : ℕ) → IsSum (rows_of plate) w → Under the_metric the_word w (metric_of ys w)
   under w g = none-beats sections plate.n (plate-chain plate given) ys 0 0 w (omega arith) (start-state plate given) (codeword-way plate given ys size w g)
 
 not-greater : (B : ℤ) (W w : ℕ) (m : ℤ) → Under B W w m → m ≤ℤ B
@@ -62,16 +62,16 @@ not_earlier B W w m e (inr r) = r.1
 
 module _ (plate : Plate) (given : IsPrepared plate) (samples : List ℤ) (size : length samples ≡ plate.n) where
   abbrev gains : List ℤ
-  gains = turnedBy (rest_of plate) samples
+  gains = turned_by (rest_of plate) samples
 
-  gains-size : length (turnedBy (rest_of plate) samples) ≡ plate.n
+  gains-size : length (turned_by (rest_of plate) samples) ≡ plate.n
   gains-size = turned-length (rest_of plate) samples ∙ size
 
   -- the codeword that is read off
   abbrev read : ℕ
-  read = wordFrom (sectionOf (rows_of plate)) gains 0 0
+  read = word_from (section_of (rows_of plate)) gains 0 0
 
-  word-under : (w : ℕ) → IsWord plate w → Under (best (sectionOf (rows_of plate)) gains 0 0) read (bit_xor w (rest_of plate)) (metricOf samples w)
+  word-under : (w : ℕ) → IsWord plate w → Under (best (section_of (rows_of plate)) gains 0 0) read (bit_xor w (rest_of plate)) (metric_of samples w)
   word-under w g =
       subst (Under _ _ (bit_xor w (rest_of plate))) (turned-back (rest_of plate) samples w)
       (under plate given gains gains-size (bit_xor w (rest_of plate)) (word-code plate w g))
@@ -84,14 +84,14 @@ module _ (plate : Plate) (given : IsPrepared plate) (samples : List ℤ) (size :
       inr (subst (Earlier _) (xor-twice w (rest_of plate))
       (earlier_word plate given read (bit_xor w (rest_of plate)) (read-codeword plate given gains gains-size) (word-code plate w g) e))
 
-  pub best-word : (a : Answer) → a.word ≡ bit_xor (wordFrom (sectionOf (rows_of plate)) (turnedBy (rest_of plate) samples) 0 0) (rest_of plate)
-      → a.metric ≡ best (sectionOf (rows_of plate)) (turnedBy (rest_of plate) samples) 0 0
-      → a.counts ≡ counted (sectionOf (rows_of plate)) (turnedBy (rest_of plate) samples) 0 → Best plate samples a
+  pub best-word : (a : Answer) → a.word ≡ bit_xor (word_from (section_of (rows_of plate)) (turned_by (rest_of plate) samples) 0 0) (rest_of plate)
+      → a.metric ≡ best (section_of (rows_of plate)) (turned_by (rest_of plate) samples) 0 0
+      → a.counts ≡ counted (section_of (rows_of plate)) (turned_by (rest_of plate) samples) 0 → Best plate samples a
   best-word a e m k = record {
     codeword = subst (IsWord plate) (sym e) (code-word plate read (read-codeword plate given gains gains-size));
-    metric = m ∙ sym (reached plate given gains gains-size).1 ∙ turned-metric (rest_of plate) samples _ ∙ ap (metricOf samples) (sym e);
-    greatest = λ w g. subst (λ (z : ℤ). metricOf samples w ≤ℤ z) (sym m) (not-greater _ _ _ (metricOf samples w) (word-under w g));
-    earliest = λ w g t. subst (λ (x : ℕ). (x ≡ w) ⊎ Earlier x w) (sym e) (word-earlier w g (not_earlier _ _ _ (metricOf samples w) (t ∙ m) (word-under w g)));
+    metric = m ∙ sym (reached plate given gains gains-size).1 ∙ turned-metric (rest_of plate) samples _ ∙ ap (metric_of samples) (sym e);
+    greatest = λ w g. subst (λ (z : ℤ). metric_of samples w ≤ℤ z) (sym m) (not-greater _ _ _ (metric_of samples w) (word-under w g));
+    earliest = λ w g t. subst (λ (x : ℕ). (x ≡ w) ⊎ Earlier x w) (sym e) (word-earlier w g (not_earlier _ _ _ (metric_of samples w) (t ∙ m) (word-under w g)));
     additions = ap (λ (c : Counts). c.additions) k ∙ additions-are-branches plate given gains gains-size;
     comparisons = ap (λ (c : Counts). c.comparisons) k ∙ comparisons-are-entering-less-one plate given gains gains-size;
   }

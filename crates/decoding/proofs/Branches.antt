@@ -11,11 +11,11 @@ use native.Mathlib.Nat.{add_comm, mod-lt, one-mul, zero-add, zero-mul}
 use native.Mathlib.Omega.{arith}
 use Prim.Native.Nat.{◌%◌, ◌*◌, ◌+◌, ◌/◌, ◌<◌, ◌^◌, suc, zero, ℕ}
 use Rattle.decoding.proofs.Integers.{tie-one}
-use Rattle.decoding.specs.Choosing.{takesSecond}
+use Rattle.decoding.specs.Choosing.{takes_second}
 use Rattle.decoding.specs.Stepping.{SectionFits}
-use Rattle.decoding.specs.Taking.{atState, preferred, signed, taking}
+use Rattle.decoding.specs.Taking.{at_state, preferred, signed, taking}
 use Rattle.trellises.specs.declared.Section.{Section}
-use Rattle.trellises.specs.Numbers.{bit_of, leadsTo}
+use Rattle.trellises.specs.Numbers.{bit_of, leads_to}
 use Rattle.words.proofs.Word.{bit-div}
 use Rattle.words.specs.Parity.{parity}
 use Rattle.words.specs.Word.{bit}
@@ -36,15 +36,15 @@ module _ (column k i : ℕ) (hi : i < 2 ^ k) (hc : bit column k ≡ 1) where
       ∙ and_block k 0 (column / 2 ^ k) i (column % 2 ^ k) hi (mod-lt column (pow_pos k))
       ∙ ap (λ (n : ℕ). n * 2 ^ k + rest) (and_zero_l (column / 2 ^ k)) ∙ ap (λ (n : ℕ). n + rest) (zero-mul (2 ^ k)) ∙ zero-add rest
 
-  one-there : bit_and 1 (column / 2 ^ k) ≡ 1
-  one-there = and_comm 1 (column / 2 ^ k) ∙ and_mask (column / 2 ^ k) 1 ∙ sym (bit-div k column) ∙ hc
+  one_there : bit_and 1 (column / 2 ^ k) ≡ 1
+  one_there = and_comm 1 (column / 2 ^ k) ∙ and_mask (column / 2 ^ k) 1 ∙ sym (bit-div k column) ∙ hc
 
   of-second : ones (bit_and (i + 2 ^ k) column) ≡ 1 + ones rest
   of-second =
       ap (λ (n : ℕ). ones (bit_and (i + 2 ^ k) n)) (sym (split column k))
       ∙ ap (λ (n : ℕ). ones (bit_and n (column / 2 ^ k * 2 ^ k + column % 2 ^ k))) (add_comm i (2 ^ k) ∙ ap (λ (n : ℕ). n + i) (sym (one-mul (2 ^ k))))
       ∙ ap ones (and_block k 1 (column / 2 ^ k) i (column % 2 ^ k) hi (mod-lt column (pow_pos k)))
-      ∙ ap (λ (n : ℕ). ones (n * 2 ^ k + rest)) one-there ∙ ones_cat k 1 rest rest_lt ∙ ap (λ (n : ℕ). n + ones rest) (ones-ones 1)
+      ∙ ap (λ (n : ℕ). ones (n * 2 ^ k + rest)) one_there ∙ ones_cat k 1 rest rest_lt ∙ ap (λ (n : ℕ). n + ones rest) (ones-ones 1)
 
   pub differing : parity (i + 2 ^ k) column + parity i column ≡ 1
   differing = omega (arith, of-second, ap ones of-first)
@@ -69,20 +69,20 @@ digit-of false p d n e h = omega arith
 
 module _ (c : Section) (y : ℤ) (old : ℕ → ℤ) (i : ℕ) where
   -- the metrics where the branches lead, and what the first one's bit adds
-  abbrev pub nearAt : ℤ
-  nearAt = old (leadsTo c i)
+  abbrev pub near_at : ℤ
+  near_at = old (leads_to c i)
 
-  abbrev pub farAt : ℤ
-  farAt = old (leadsTo c (i + 2 ^ c.live))
+  abbrev pub far_at : ℤ
+  far_at = old (leads_to c (i + 2 ^ c.live))
 
-  abbrev pub signAt : ℤ
-  signAt = signed (bit_of c i) y
+  abbrev pub sign_at : ℤ
+  sign_at = signed (bit_of c i) y
 
-  abbrev pub tieAt : ℤ
-  tieAt = pos (bit_of c i)
+  abbrev pub tie_at : ℤ
+  tie_at = pos (bit_of c i)
 
   -- a state that one branch leaves
-  pub alone-is : c.begins ≡ false → atState c y old i ≡ taking c y old i
+  pub alone-is : c.begins ≡ false → at_state c y old i ≡ taking c y old i
   alone-is e = rw e
 
   -- a state that two branches leave
@@ -90,13 +90,13 @@ module _ (c : Section) (y : ℤ) (old : ℕ → ℤ) (i : ℕ) where
     differ-here : bit_of c (i + 2 ^ c.live) + bit_of c i ≡ 1
     differ-here = differing c.column c.live i l (h.begun e)
 
-    prefer-here : preferred (signed (bit_of c (i + 2 ^ c.live)) y +ℤ farAt) (bit_of c (i + 2 ^ c.live)) (signAt +ℤ nearAt) ≡ takesSecond nearAt farAt signAt tieAt
+    prefer-here : preferred (signed (bit_of c (i + 2 ^ c.live)) y +ℤ far_at) (bit_of c (i + 2 ^ c.live)) (sign_at +ℤ near_at) ≡ takes_second near_at far_at sign_at tie_at
     prefer-here =
-        prefers (bit_of c i) (bit_of c (i + 2 ^ c.live)) differ-here (signAt +ℤ nearAt) (signed (bit_of c (i + 2 ^ c.live)) y +ℤ farAt)
-        ∙ ap (λ (v : ℤ). lt_z (signAt +ℤ nearAt) (v +ℤ tieAt)) (sym (opposite (bit_of c i) (bit_of c (i + 2 ^ c.live)) differ-here farAt y))
+        prefers (bit_of c i) (bit_of c (i + 2 ^ c.live)) differ-here (sign_at +ℤ near_at) (signed (bit_of c (i + 2 ^ c.live)) y +ℤ far_at)
+        ∙ ap (λ (v : ℤ). lt_z (sign_at +ℤ near_at) (v +ℤ tie_at)) (sym (opposite (bit_of c i) (bit_of c (i + 2 ^ c.live)) differ-here far_at y))
 
-    pub two-metric : (atState c y old i).metric ≡ cond (takesSecond nearAt farAt signAt tieAt) (farAt -ℤ signAt) (signAt +ℤ nearAt)
-    two-metric = rw (e, prefer-here, opposite (bit_of c i) (bit_of c (i + 2 ^ c.live)) differ-here farAt y)
+    pub two-metric : (at_state c y old i).metric ≡ cond (takes_second near_at far_at sign_at tie_at) (far_at -ℤ sign_at) (sign_at +ℤ near_at)
+    two-metric = rw (e, prefer-here, opposite (bit_of c i) (bit_of c (i + 2 ^ c.live)) differ-here far_at y)
 
-    pub two-bit : (n : ℕ) → n ≡ cond (takesSecond nearAt farAt signAt tieAt) 1 0 → (n + bit_of c i) % 2 ≡ (atState c y old i).bit
-    two-bit n en = rw (e, prefer-here) (digit-of (takesSecond nearAt farAt signAt tieAt) (bit_of c i) (bit_of c (i + 2 ^ c.live)) n differ-here en)
+    pub two-bit : (n : ℕ) → n ≡ cond (takes_second near_at far_at sign_at tie_at) 1 0 → (n + bit_of c i) % 2 ≡ (at_state c y old i).bit
+    two-bit n en = rw (e, prefer-here) (digit-of (takes_second near_at far_at sign_at tie_at) (bit_of c i) (bit_of c (i + 2 ^ c.live)) n differ-here en)

@@ -10,23 +10,23 @@ use native.Mathlib.Omega.{arith}
 use Prim.Native.Nat.{◌*◌, ◌+◌, ◌<◌, ◌^◌, suc, zero, ℕ, ◌≤◌}
 use Rattle.decoding.specs.Backward.{best, counted}
 use Rattle.decoding.specs.declared.Counts.{Counts}
-use Rattle.decoding.specs.Taking.{atState, counting, taking, takingAlso}
+use Rattle.decoding.specs.Taking.{at_state, counting, taking, taking_also}
 use Rattle.trellises.specs.declared.Section.{Section}
 
 module _ (c : Section) (y : ℤ) (old : ℕ → ℤ) where
   -- branches that leave a state
-  additions-at : (i : ℕ) → (atState c y old i).additions ≡ cond c.begins 2 1
+  additions-at : (i : ℕ) → (at_state c y old i).additions ≡ cond c.begins 2 1
   additions-at i = go c.begins
     where
-      go : (b : Bool) → (cond b (takingAlso c y old (taking c y old i) (i + 2 ^ c.live)) (taking c y old i)).additions ≡ cond b 2 1
+      go : (b : Bool) → (cond b (taking_also c y old (taking c y old i) (i + 2 ^ c.live)) (taking c y old i)).additions ≡ cond b 2 1
       go true = refl
       go false = refl
 
   -- and the comparisons among them
-  comparisons-at : (i : ℕ) → (atState c y old i).comparisons ≡ cond c.begins 1 0
+  comparisons-at : (i : ℕ) → (at_state c y old i).comparisons ≡ cond c.begins 1 0
   comparisons-at i = go c.begins
     where
-      go : (b : Bool) → (cond b (takingAlso c y old (taking c y old i) (i + 2 ^ c.live)) (taking c y old i)).comparisons ≡ cond b 1 0
+      go : (b : Bool) → (cond b (taking_also c y old (taking c y old i) (i + 2 ^ c.live)) (taking c y old i)).comparisons ≡ cond b 1 0
       go true = refl
       go false = refl
 

@@ -7,30 +7,30 @@ use mathlib.Core.Path.{refl, subst, ◌≡◌}
 use native.Mathlib.Omega.{arith}
 use Prim.Native.Nat.{◌<◌, ℕ, ◌≤◌}
 use Rattle.decoding.proofs.BestWord.{best-word}
-use Rattle.decoding.proofs.PlateSizes.{plateSizes}
+use Rattle.decoding.proofs.PlateSizes.{plate_sizes}
 use Rattle.decoding.proofs.SampleLimits.{within-passes}
 use Rattle.decoding.proofs.ZeroedRooms.{zeroed}
 use Rattle.decoding.specs.declared.Answer.{Answer}
 use Rattle.decoding.specs.declared.Decoded.{Decoded}
 use Rattle.decoding.specs.declared.Decoded.TheVariants.{Found, Refused}
-use Rattle.decoding.specs.Decode.{Decodes, SampleOver, decisionNeed, decodeConditions, metricNeed}
+use Rattle.decoding.specs.Decode.{Decodes, SampleOver, decision_need, decode_conditions, metric_need}
 use Rattle.decoding.specs.Metric.{limit}
 use Rattle.decoding.specs.Searching.{FirstOver, Searched}
 use Rattle.decoding.specs.Sweeping.{RoomsFit}
 use Rattle.plates.specs.declared.Plate.{Plate}
 use Rattle.plates.specs.declared.Refusal.{Refusal}
 use Rattle.plates.specs.declared.Refusal.TheVariants.{DecisionRoom, MetricRoom, NotPrepared, SampleCount, SampleRange}
-use Rattle.plates.specs.Prepare.{IsPrepared, ofParts}
+use Rattle.plates.specs.Prepare.{IsPrepared, of_parts}
 use Rattle.plates.specs.Refusals.{Passes}
 use Rattle.trellises.proofs.NextIsBranch.{found}
 
 -- what a plate's parts are replied is what the plate is, where the profile was widened
 pub by_parts : (plate : Plate) (samples metrics : List ℤ) (decisions : List ℕ) (metrics' : List ℤ) (decisions' : List ℕ) (r : Decoded) {profile : List ℕ}
     → profile ≡ plate.profile
-    → Decodes (ofParts plate.n plate.k plate.mask plate.rows profile) samples metrics decisions metrics' decisions' r
+    → Decodes (of_parts plate.n plate.k plate.mask plate.rows profile) samples metrics decisions metrics' decisions' r
     → Decodes plate samples metrics decisions metrics' decisions' r
 by_parts plate samples metrics decisions metrics' decisions' r same d =
-    subst (λ (p : List ℕ). Decodes (ofParts plate.n plate.k plate.mask plate.rows p) samples metrics decisions metrics' decisions' r)
+    subst (λ (p : List ℕ). Decodes (of_parts plate.n plate.k plate.mask plate.rows p) samples metrics decisions metrics' decisions' r)
     same d
 
 module _ (plate : Plate) (samples metrics : List ℤ) (decisions : List ℕ) where
@@ -54,22 +54,22 @@ module _ (plate : Plate) (samples metrics : List ℤ) (decisions : List ℕ) whe
         no-sample-over : (q : Refusal) → SampleOver samples q → ⊥
         no-sample-over = within-passes samples samples-within
 
-        pub refused-8 : length metrics < metricNeed plate → Decodes plate samples metrics decisions metrics decisions (Refused MetricRoom)
+        pub refused-8 : length metrics < metric_need plate → Decodes plate samples metrics decisions metrics decisions (Refused MetricRoom)
         refused-8 h = (inr ((λ q b. b.0 given), inr ((λ q b. b.0 size), inr (no-sample-over, inl (h, refl)))), refl, refl)
 
-        module _ (metric-room : metricNeed plate ≤ length metrics) where
-          pub refused-9 : length decisions < decisionNeed plate → Decodes plate samples metrics decisions metrics decisions (Refused DecisionRoom)
-          refused-9 h = (inr ((λ q b. b.0 given), inr ((λ q b. b.0 size), inr (no-sample-over, inr ((λ q b. omega (arith, b.0, metric-room)), inl (h, refl))))), refl, refl)
+        module _ (metric_room : metric_need plate ≤ length metrics) where
+          pub refused-9 : length decisions < decision_need plate → Decodes plate samples metrics decisions metrics decisions (Refused DecisionRoom)
+          refused-9 h = (inr ((λ q b. b.0 given), inr ((λ q b. b.0 size), inr (no-sample-over, inr ((λ q b. omega (arith, b.0, metric_room)), inl (h, refl))))), refl, refl)
 
-          module _ (decision-room : decisionNeed plate ≤ length decisions) where
-            pub rooms-fit : RoomsFit (plateSizes plate given) samples metrics decisions
-            rooms-fit = record { size = size; within = λ i k. omega (arith, samples-within i k); metric-room = omega (arith, metric-room); decision-room = decision-room }
+          module _ (decision_room : decision_need plate ≤ length decisions) where
+            pub rooms-fit : RoomsFit (plate_sizes plate given) samples metrics decisions
+            rooms-fit = record { size = size; within = λ i k. omega (arith, samples-within i k); metric_room = omega (arith, metric_room); decision_room = decision_room }
 
-            passes : Passes (decodeConditions plate samples metrics decisions)
-            passes = ((λ q b. b.0 given), ((λ q b. b.0 size), (no-sample-over, ((λ q b. omega (arith, b.0, metric-room)), ((λ q b. omega (arith, b.0, decision-room)), tt)))))
+            passes : Passes (decode_conditions plate samples metrics decisions)
+            passes = ((λ q b. b.0 given), ((λ q b. b.0 size), (no-sample-over, ((λ q b. omega (arith, b.0, metric_room)), ((λ q b. omega (arith, b.0, decision_room)), tt)))))
 
-            pub decoded : (metrics' : List ℤ) (decisions' : List ℕ) (a : Answer) → Searched plate.rows (plateSizes plate given) samples metrics decisions metrics' decisions' a
-                → (m d : ℕ) → m ≡ metricNeed plate → d ≡ decisionNeed plate → (metrics'' : List ℤ) → metrics'' ≡ replicate m (pos 0) ++ drop m metrics' → (decisions'' : List ℕ) → decisions'' ≡ replicate d 0 ++ drop d decisions'
+            pub decoded : (metrics' : List ℤ) (decisions' : List ℕ) (a : Answer) → Searched plate.rows (plate_sizes plate given) samples metrics decisions metrics' decisions' a
+                → (m d : ℕ) → m ≡ metric_need plate → d ≡ decision_need plate → (metrics'' : List ℤ) → metrics'' ≡ replicate m (pos 0) ++ drop m metrics' → (decisions'' : List ℕ) → decisions'' ≡ replicate d 0 ++ drop d decisions'
                 → Decodes plate samples metrics decisions metrics'' decisions'' (Found a)
             decoded metrics' decisions' a f m d em ed metrics'' x decisions'' y = (
               passes,

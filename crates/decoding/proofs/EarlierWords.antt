@@ -16,8 +16,8 @@ pub earlier-behind : (b : ℕ) {v w : ℕ} → b < 2 → Earlier v w → Earlier
 earlier-behind b {v} {w} h e = record {
   place = suc e.place;
   same = same;
-  zero-here = bit-front v b e.place h ∙ e.zero-here;
-  one-there = bit-front w b e.place h ∙ e.one-there;
+  zero_here = bit-front v b e.place h ∙ e.zero_here;
+  one_there = bit-front w b e.place h ∙ e.one_there;
 }
   where
     same : (i : ℕ) → i < suc e.place → bit (v * 2 + b) i ≡ bit (w * 2 + b) i
@@ -29,6 +29,6 @@ pub earlier-here : (v w : ℕ) → Earlier (v * 2 + 0) (w * 2 + 1)
 earlier-here v w = record {
   place = 0;
   same = λ i k. absurd (omega arith);
-  zero-here = bit-first v 0 (omega arith);
-  one-there = bit-first w 1 (omega arith);
+  zero_here = bit-first v 0 (omega arith);
+  one_there = bit-first w 1 (omega arith);
 }

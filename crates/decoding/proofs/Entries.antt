@@ -15,7 +15,7 @@ use native.Mathlib.Numerals.{one-add}
 use native.Mathlib.Omega.{arith}
 use Prim.Native.Nat.{◌*◌, ◌+◌, ◌-◌, ◌<◌, ◌^◌, suc, zero, zero-le, ℕ, ◌≤◌}
 use Rattle.decoding.proofs.Parts.{below_or}
-use Rattle.decoding.specs.Tables.{Entered, Tables, turnedBit}
+use Rattle.decoding.specs.Tables.{Entered, Tables, turned_bit}
 use Rattle.decoding.specs.Taking.{signed}
 use Rattle.words.proofs.Word.{bit-div, bit-lt}
 use Rattle.words.specs.Word.{bit}
@@ -69,18 +69,18 @@ module _ (g : ℕ → ℕ → ℤ) where
 
 -- ---- the tables of signs and ties
 
-other-bit : (w i : ℕ) → 1 - bit w i ≡ turnedBit w 1 i
+other-bit : (w i : ℕ) → 1 - bit w i ≡ turned_bit w 1 i
 other-bit w i = omega (arith, bit-lt i w)
 
-this-bit : (w i : ℕ) → bit w i ≡ turnedBit w 0 i
+this-bit : (w i : ℕ) → bit w i ≡ turned_bit w 0 i
 this-bit w i = omega (arith, bit-lt i w)
 
 module _ (w : ℕ) (y : ℤ) where
   -- the first n bits are entered
   pub record Filled (n : ℕ) (signs ties : List ℤ) : Type 0 where
     pub within : n ≤ 32
-    pub sign : Halves (λ h i. signed (turnedBit w h i) y) n signs
-    pub tie : Halves (λ h i. pos (turnedBit w h i)) n ties
+    pub sign : Halves (λ h i. signed (turned_bit w h i) y) n signs
+    pub tie : Halves (λ h i. pos (turned_bit w h i)) n ties
 
   pub filled_none : (signs ties : List ℤ) → length signs ≡ 64 → length ties ≡ 64 → Filled 0 signs ties
   filled_none signs ties es et = record { within = zero-le; sign = halves-none _ signs es; tie = halves-none _ ties et }
@@ -98,8 +98,8 @@ module _ (w : ℕ) (y : ℤ) where
   filled-all i signs ties f l =
       let e : i ≡ 32 = omega (arith, f.within) in
       record {
-        signs-size = f.sign.size;
-        ties-size = f.tie.size;
+        signs_size = f.sign.size;
+        ties_size = f.tie.size;
         sign = λ h j a b. f.sign.entry h j a (omega arith);
         tie = λ h j a b. f.tie.entry h j a (omega arith);
       }

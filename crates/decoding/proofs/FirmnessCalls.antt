@@ -7,13 +7,13 @@ use mathlib.Core.Path.{refl, ◌≡◌}
 use native.Mathlib.Omega.{arith}
 use Prim.Native.Nat.{◌<◌, ℕ, ◌≤◌}
 use Rattle.decoding.proofs.FirmnessRead.{flag-of}
-use Rattle.decoding.proofs.PlateSizes.{plateSizes}
+use Rattle.decoding.proofs.PlateSizes.{plate_sizes}
 use Rattle.decoding.proofs.SampleLimits.{within-passes}
 use Rattle.decoding.proofs.ZeroedRooms.{zeroed}
 use Rattle.decoding.specs.declared.firmness.Flagged.TheVariants.{Found, Refused}
 use Rattle.decoding.specs.declared.firmness.Reading.{Reading}
-use Rattle.decoding.specs.Decode.{SampleOver, decisionNeed, metricNeed}
-use Rattle.decoding.specs.Firmness.{TellsFirmness, firmnessConditions}
+use Rattle.decoding.specs.Decode.{SampleOver, decision_need, metric_need}
+use Rattle.decoding.specs.Firmness.{TellsFirmness, firmness_conditions}
 use Rattle.decoding.specs.Forcing.{ReadAt}
 use Rattle.decoding.specs.Metric.{limit}
 use Rattle.decoding.specs.Searching.{FirstOver}
@@ -52,24 +52,24 @@ module _ (plate : Plate) (samples : List ℤ) (position : ℕ) (metrics : List �
           not_beyond : (q : Refusal) → (plate.n ≤ position) × (q ≡ PositionBeyond) → ⊥
           not_beyond q b = omega (arith, b.0)
 
-          pub refused-8 : length metrics < metricNeed plate → TellsFirmness plate samples position metrics decisions metrics decisions (Refused MetricRoom)
+          pub refused-8 : length metrics < metric_need plate → TellsFirmness plate samples position metrics decisions metrics decisions (Refused MetricRoom)
           refused-8 h = (inr ((λ q b. b.0 given), inr ((λ q b. b.0 size), inr (no-sample-over, inr (not_beyond, inl (h, refl))))), refl, refl)
 
-          module _ (metric-room : metricNeed plate ≤ length metrics) where
-            pub refused-9 : length decisions < decisionNeed plate → TellsFirmness plate samples position metrics decisions metrics decisions (Refused DecisionRoom)
+          module _ (metric_room : metric_need plate ≤ length metrics) where
+            pub refused-9 : length decisions < decision_need plate → TellsFirmness plate samples position metrics decisions metrics decisions (Refused DecisionRoom)
             refused-9 h =
-                (inr ((λ q b. b.0 given), inr ((λ q b. b.0 size), inr (no-sample-over, inr (not_beyond, inr ((λ q b. omega (arith, b.0, metric-room)), inl (h, refl)))))), refl, refl)
+                (inr ((λ q b. b.0 given), inr ((λ q b. b.0 size), inr (no-sample-over, inr (not_beyond, inr ((λ q b. omega (arith, b.0, metric_room)), inl (h, refl)))))), refl, refl)
 
-            module _ (decision-room : decisionNeed plate ≤ length decisions) where
-              pub rooms-fit : RoomsFit (plateSizes plate given) samples metrics decisions
-              rooms-fit = record { size = size; within = λ i k. omega (arith, samples-within i k); metric-room = omega (arith, metric-room); decision-room = decision-room }
+            module _ (decision_room : decision_need plate ≤ length decisions) where
+              pub rooms-fit : RoomsFit (plate_sizes plate given) samples metrics decisions
+              rooms-fit = record { size = size; within = λ i k. omega (arith, samples-within i k); metric_room = omega (arith, metric_room); decision_room = decision_room }
 
-              passes : Passes (firmnessConditions plate samples position metrics decisions)
+              passes : Passes (firmness_conditions plate samples position metrics decisions)
               passes =
-                  ((λ q b. b.0 given), ((λ q b. b.0 size), (no-sample-over, (not_beyond, ((λ q b. omega (arith, b.0, metric-room)), ((λ q b. omega (arith, b.0, decision-room)), tt))))))
+                  ((λ q b. b.0 given), ((λ q b. b.0 size), (no-sample-over, (not_beyond, ((λ q b. omega (arith, b.0, metric_room)), ((λ q b. omega (arith, b.0, decision_room)), tt))))))
 
-              pub judged : (metrics' : List ℤ) (decisions' : List ℕ) (reading : Reading) → ReadAt plate.rows (plateSizes plate given) samples position metrics decisions metrics' decisions' reading
-                  → (m d : ℕ) → m ≡ metricNeed plate → d ≡ decisionNeed plate → (metrics'' : List ℤ) → metrics'' ≡ replicate m (pos 0) ++ drop m metrics' → (decisions'' : List ℕ) → decisions'' ≡ replicate d 0 ++ drop d decisions'
+              pub judged : (metrics' : List ℤ) (decisions' : List ℕ) (reading : Reading) → ReadAt plate.rows (plate_sizes plate given) samples position metrics decisions metrics' decisions' reading
+                  → (m d : ℕ) → m ≡ metric_need plate → d ≡ decision_need plate → (metrics'' : List ℤ) → metrics'' ≡ replicate m (pos 0) ++ drop m metrics' → (decisions'' : List ℕ) → decisions'' ≡ replicate d 0 ++ drop d decisions'
                   → TellsFirmness plate samples position metrics decisions metrics'' decisions'' (Found (record { position = position; reading = reading }))
               judged metrics' decisions' reading f m d em ed metrics'' x decisions'' y = (
                 passes,

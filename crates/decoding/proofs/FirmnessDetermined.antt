@@ -14,7 +14,7 @@ use Rattle.decoding.specs.declared.firmness.Flagged.{Flagged}
 use Rattle.decoding.specs.declared.firmness.Flagged.TheVariants.{Found, Refused}
 use Rattle.decoding.specs.declared.firmness.Reading.{Reading}
 use Rattle.decoding.specs.declared.firmness.Reading.TheVariants.{Fixed, Open}
-use Rattle.decoding.specs.Firmness.{Always, BestAmong, FlagOf, TellsFirmness, Margin, Means, firmnessConditions, isFixed, value}
+use Rattle.decoding.specs.Firmness.{Always, BestAmong, FlagOf, TellsFirmness, Margin, Means, firmness_conditions, is_fixed, value}
 use Rattle.plates.proofs.Refusing.{Single, never_both, refuses-once}
 use Rattle.plates.specs.declared.Plate.{Plate}
 use Rattle.plates.specs.declared.Refusal.{Refusal}
@@ -22,7 +22,7 @@ use Rattle.plates.specs.Prepare.{IsWord}
 use Rattle.words.specs.Word.{bit}
 
 -- a reading is told by its values
-pub reading-told : (r s : Reading) → isFixed r ≡ isFixed s → value r ≡ value s → r ≡ s
+pub reading-told : (r s : Reading) → is_fixed r ≡ is_fixed s → value r ≡ value s → r ≡ s
 reading-told (Fixed a) (Fixed b) f v = let e : a ≡ b = cc in ap Fixed e
 reading-told (Fixed a) (Open n) f v = absurd (true≢false f)
 reading-told (Open m) (Fixed b) f v = absurd (false≢true f)
@@ -37,7 +37,7 @@ module _ (plate : Plate) (samples : List ℤ) (position : ℕ) where
   -- where every word has one bit, not both bits have words
   pub not-both-readings : (b m : ℤ) → Always (IsWord plate) position b → Margin (IsWord plate) samples position m → ⊥
   not-both-readings b m x y =
-      let p : pos 0 ≡ pos 1 = ap pos (sym y.zero-best.has) ∙ x y.zero-best.word y.zero-best.codeword ∙ sym (x y.one-best.word y.one-best.codeword) ∙ ap pos y.one-best.has in
+      let p : pos 0 ≡ pos 1 = ap pos (sym y.zero_best.has) ∙ x y.zero_best.word y.zero_best.codeword ∙ sym (x y.one_best.word y.one_best.codeword) ∙ ap pos y.one_best.has in
       let z : ◌≡◌ {A = ℕ} 0 1 = cc in
       omega arith
 
@@ -46,25 +46,25 @@ module _ (plate : Plate) (samples : List ℤ) (position : ℕ) where
   values_same true false v u x y = absurd (not-both-readings v u x y)
   values_same false true v u x y = absurd (not-both-readings u v y x)
   values_same false false v u x y =
-      (refl, x.is ∙ ap₂ (λ (a b : ℤ). a -ℤ b) (best-same 0 x.with-zero y.with-zero x.zero-best y.zero-best) (best-same 1 x.with-one y.with-one x.one-best y.one-best) ∙ sym y.is)
+      (refl, x.is ∙ ap₂ (λ (a b : ℤ). a -ℤ b) (best-same 0 x.with_zero y.with_zero x.zero_best y.zero_best) (best-same 1 x.with_one y.with_one x.one_best y.one_best) ∙ sym y.is)
 
   flag_same : (f g : Flag) → FlagOf (IsWord plate) samples position f → FlagOf (IsWord plate) samples position g → f ≡ g
   flag_same f g x y =
-      let v = values_same (isFixed f.reading) (isFixed g.reading) (value f.reading) (value g.reading) x.reading y.reading in
-      ap₂ (λ (p : ℕ) (r : Reading). record { position = p; reading = r }) (x.position-is ∙ sym y.position-is) (reading-told f.reading g.reading v.0 v.1)
+      let v = values_same (is_fixed f.reading) (is_fixed g.reading) (value f.reading) (value g.reading) x.reading y.reading in
+      ap₂ (λ (p : ℕ) (r : Reading). record { position = p; reading = r }) (x.position_is ∙ sym y.position_is) (reading-told f.reading g.reading v.0 v.1)
 
   module _ (metrics : List ℤ) (decisions : List ℕ) where
     abbrev conditions : List (Refusal → Type 0)
-    conditions = firmnessConditions plate samples position metrics decisions
+    conditions = firmness_conditions plate samples position metrics decisions
 
-    single : Single (firmnessConditions plate samples position metrics decisions)
+    single : Single (firmness_conditions plate samples position metrics decisions)
     single =
         ((λ p q x y. x.1 ∙ sym y.1), ((λ p q x y. x.1 ∙ sym y.1), (sample-once plate samples metrics decisions, ((λ p q x y. x.1 ∙ sym y.1), ((λ p q x y. x.1 ∙ sym y.1), ((λ p q x y. x.1 ∙ sym y.1), tt))))))
 
     pub firmness-determined : (r s : Flagged) (m n : List ℤ) (d e : List ℕ) → TellsFirmness plate samples position metrics decisions m d r → TellsFirmness plate samples position metrics decisions n e s
         → (r ≡ s) × (m ≡ n) × (d ≡ e)
     firmness-determined (Found f) (Found g) m n d e x y =
-        (ap Found (flag_same f g x.1 y.1), x.2.metrics-zero ∙ sym y.2.metrics-zero, x.2.decisions-zero ∙ sym y.2.decisions-zero)
+        (ap Found (flag_same f g x.1 y.1), x.2.metrics_zero ∙ sym y.2.metrics_zero, x.2.decisions_zero ∙ sym y.2.decisions_zero)
     firmness-determined (Found f) (Refused q) m n d e x y = absurd (never_both conditions x.0 q y.0)
     firmness-determined (Refused p) (Found g) m n d e x y = absurd (never_both conditions y.0 p x.0)
     firmness-determined (Refused p) (Refused q) m n d e x y =

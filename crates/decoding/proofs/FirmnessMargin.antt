@@ -20,7 +20,7 @@ use Rattle.decoding.specs.declared.firmness.Flagged.TheVariants.{Found}
 use Rattle.decoding.specs.declared.firmness.Reading.{Reading}
 use Rattle.decoding.specs.declared.firmness.Reading.TheVariants.{Fixed, Open}
 use Rattle.decoding.specs.Decode.{Best}
-use Rattle.decoding.specs.Firmness.{Agrees, Always, BestAmong, FlagOf, TellsFirmness, Margin, Means, isFixed, value}
+use Rattle.decoding.specs.Firmness.{Agrees, Always, BestAmong, FlagOf, TellsFirmness, Margin, Means, is_fixed, value}
 use Rattle.decoding.specs.Metric.{limit}
 use Rattle.plates.proofs.SoundIsPrepared.{sound}
 use Rattle.plates.specs.declared.Plate.{Plate}
@@ -53,14 +53,14 @@ module _ (plate : Plate) (samples : List ℤ) (position : ℕ) (a : Answer) (bes
         go : (bit a.word position ≡ 0) ⊎ (bit a.word position ≡ 1) → bit a.word position ≡ 0
         go (inl e) = e
         go (inr e) =
-            clash_ℤ h (subst (λ (z : ℤ). z ≤ℤ pos 0) (sym o.is) (difference_below o.with-zero o.with-one (beaten 0 1 o.with-zero o.with-one o.zero-best o.one-best e)))
+            clash_ℤ h (subst (λ (z : ℤ). z ≤ℤ pos 0) (sym o.is) (difference_below o.with_zero o.with_one (beaten 0 1 o.with_zero o.with_one o.zero_best o.one_best e)))
 
     pub negative-one : m <ℤ pos 0 → bit a.word position ≡ 1
     negative-one h = go (bit-cases a.word position)
       where
         go : (bit a.word position ≡ 0) ⊎ (bit a.word position ≡ 1) → bit a.word position ≡ 1
         go (inl e) =
-            clash_ℤ h (subst (λ (z : ℤ). pos 0 ≤ℤ z) (sym o.is) (difference-above o.with-zero o.with-one (beaten 1 0 o.with-one o.with-zero o.one-best o.zero-best e)))
+            clash_ℤ h (subst (λ (z : ℤ). pos 0 ≤ℤ z) (sym o.is) (difference-above o.with_zero o.with_one (beaten 1 0 o.with_one o.with_zero o.one_best o.zero_best e)))
         go (inr e) = e
 
   fixed-bit : (b : ℕ) → Always (IsWord plate) position (pos b) → bit a.word position ≡ b
@@ -70,7 +70,7 @@ module _ (plate : Plate) (samples : List ℤ) (position : ℕ) (a : Answer) (bes
   pub margin-sign : (flag : Flag) → FlagOf (IsWord plate) samples position flag → Agrees flag.reading (bit a.word position)
   margin-sign flag f = go flag.reading f.reading
     where
-      go : (r : Reading) → Means (IsWord plate) samples position (isFixed r) (value r) → Agrees r (bit a.word position)
+      go : (r : Reading) → Means (IsWord plate) samples position (is_fixed r) (value r) → Agrees r (bit a.word position)
       go (Fixed b) h = fixed-bit b h
       go (Open m) o = (positive-zero m o, negative-one m o)
 
@@ -82,24 +82,24 @@ margin-size plate samples position m h o =
     omega (
       arith,
       ap nat_abs o.is,
-      abs-add o.with-zero (neg_ℤ o.with-one),
-      abs_neg o.with-one,
-      ap nat_abs o.zero-best.metric,
-      metric-within limit samples h o.zero-best.word,
-      ap nat_abs o.one-best.metric,
-      metric-within limit samples h o.one-best.word,
+      abs-add o.with_zero (neg_ℤ o.with_one),
+      abs_neg o.with_one,
+      ap nat_abs o.zero_best.metric,
+      metric-within limit samples h o.zero_best.word,
+      ap nat_abs o.one_best.metric,
+      metric-within limit samples h o.one_best.word,
     )
 
 -- the bound on margins: 262,016
-abbrev pub marginLimit : ℕ
-marginLimit = 2 * (limit * 64)
+abbrev pub margin_limit : ℕ
+margin_limit = 2 * (limit * 64)
 
-pub margin-limit-is : marginLimit ≡ 262016
+pub margin-limit-is : margin_limit ≡ 262016
 margin-limit-is = refl
 
 -- a margin that is replied lies within it
 pub margin-bounds : (plate : Plate) (samples : List ℤ) (position : ℕ) (metrics : List ℤ) (decisions : List ℕ) (metrics' : List ℤ) (decisions' : List ℕ) (flag : Flag)
-    → TellsFirmness plate samples position metrics decisions metrics' decisions' (Found flag) → isFixed flag.reading ≡ false → nat_abs (value flag.reading) ≤ marginLimit
+    → TellsFirmness plate samples position metrics decisions metrics' decisions' (Found flag) → is_fixed flag.reading ≡ false → nat_abs (value flag.reading) ≤ margin_limit
 margin-bounds plate samples position metrics decisions metrics' decisions' flag j e =
     omega (arith, margin-size plate samples position (value flag.reading) (none_over samples j.0.1.1.0) (subst (λ (f : Bool). Means (IsWord plate) samples position f (value flag.reading)) e j.1.reading), mul-le-mul_left limit few)
   where

@@ -11,15 +11,15 @@ use Rattle.decoding.proofs.ForcedMetrics.{best-among}
 use Rattle.decoding.proofs.ForcedRows.{never-one, row-with}
 use Rattle.decoding.proofs.MaskedWords.{code-word, rest_of, word-code}
 use Rattle.decoding.proofs.MetricBounds.{Within}
-use Rattle.decoding.proofs.PlateSizes.{plateSizes}
+use Rattle.decoding.proofs.PlateSizes.{plate_sizes}
 use Rattle.decoding.specs.declared.firmness.Reading.{Reading}
 use Rattle.decoding.specs.declared.firmness.Reading.TheVariants.{Fixed, Open}
 use Rattle.decoding.specs.Firmness.{FlagOf}
-use Rattle.decoding.specs.Forcing.{ByForcing, RowWith, bestWith}
+use Rattle.decoding.specs.Forcing.{ByForcing, RowWith, best_with}
 use Rattle.decoding.specs.Metric.{limit}
 use Rattle.plates.specs.declared.Plate.{Plate}
 use Rattle.plates.specs.Prepare.{IsPrepared, IsWord, rows_of}
-use Rattle.trellises.specs.SectionOf.{sectionOf}
+use Rattle.trellises.specs.SectionOf.{section_of}
 use Rattle.words.proofs.Sums.{in-zero}
 use Rattle.words.proofs.Word.{bit-cases, bit-same, bit-xor, bit-zero}
 use Rattle.words.specs.Sum.{IsSum}
@@ -45,10 +45,10 @@ module _ (plate : Plate) (p : ℕ) (r : RowWith plate.rows plate.k p) where
 
 module _ (plate : Plate) (given : IsPrepared plate) (samples : List ℤ) (size : length samples ≡ plate.n) (within : Within limit samples)
     (position : ℕ) (there : position < plate.n) where
-  pub flag-of : (reading : Reading) → ByForcing plate.rows (plateSizes plate given) samples position reading
+  pub flag-of : (reading : Reading) → ByForcing plate.rows (plate_sizes plate given) samples position reading
       → FlagOf (IsWord plate) samples position (record { position = position; reading = reading })
   flag-of (Fixed b) h = record {
-    position-is = refl;
+    position_is = refl;
     reading = λ w g.
         ap pos (bit-same w (rest_of plate) position (never-one plate.rows plate.k position h.1 (bit_xor w (rest_of plate)) (word-code plate w g))
         ∙ sym h.0);
@@ -57,12 +57,12 @@ module _ (plate : Plate) (given : IsPrepared plate) (samples : List ℤ) (size :
       let z = with-bit plate position h.0 0 (omega arith) in
       let o = with-bit plate position h.0 1 (omega arith) in
       record {
-        position-is = refl;
+        position_is = refl;
         reading = record {
-          with-zero = bestWith (sectionOf (rows_of plate)) (rest_of plate) samples position 0;
-          with-one = bestWith (sectionOf (rows_of plate)) (rest_of plate) samples position 1;
-          zero-best = best-among plate given samples size within position there 0 (omega arith) z.0 z.1 z.2;
-          one-best = best-among plate given samples size within position there 1 (omega arith) o.0 o.1 o.2;
+          with_zero = best_with (section_of (rows_of plate)) (rest_of plate) samples position 0;
+          with_one = best_with (section_of (rows_of plate)) (rest_of plate) samples position 1;
+          zero_best = best-among plate given samples size within position there 0 (omega arith) z.0 z.1 z.2;
+          one_best = best-among plate given samples size within position there 1 (omega arith) o.0 o.1 o.2;
           is = h.1;
         };
       }

@@ -15,18 +15,18 @@ use Rattle.decoding.proofs.IntegerOrder.{add-le, cancel-le, far_apart}
 use Rattle.decoding.proofs.MaskedWords.{rest_of}
 use Rattle.decoding.proofs.MetricBounds.{Within, metric-within}
 use Rattle.decoding.proofs.TurnedSamples.{signed-zero}
-use Rattle.decoding.specs.Backward.{best, counted, wordFrom}
+use Rattle.decoding.specs.Backward.{best, counted, word_from}
 use Rattle.decoding.specs.declared.Answer.{Answer}
 use Rattle.decoding.specs.Decode.{Best}
 use Rattle.decoding.specs.Firmness.{BestAmong}
-use Rattle.decoding.specs.Forcing.{bestWith, forcing}
-use Rattle.decoding.specs.Metric.{limit, metricOf}
+use Rattle.decoding.specs.Forcing.{best_with, forcing}
+use Rattle.decoding.specs.Metric.{limit, metric_of}
 use Rattle.decoding.specs.Taking.{signed}
-use Rattle.decoding.specs.Turning.{turnedBy}
+use Rattle.decoding.specs.Turning.{turned_by}
 use Rattle.plates.proofs.SoundIsPrepared.{sound}
 use Rattle.plates.specs.declared.Plate.{Plate}
 use Rattle.plates.specs.Prepare.{IsPrepared, IsWord, rows_of}
-use Rattle.trellises.specs.SectionOf.{sectionOf}
+use Rattle.trellises.specs.SectionOf.{section_of}
 use Rattle.words.proofs.Span.{lt-tri}
 use Rattle.words.proofs.Word.{bit-lt}
 use Rattle.words.specs.Word.{bit}
@@ -34,14 +34,14 @@ use Rattle.words.specs.Word.{bit}
 -- ---- what a position adds
 
 -- the metric of the other positions, and what the position adds
-pub metric-set : (ys : List ℤ) (p : ℕ) (g : ℤ) (w : ℕ) → p < length ys → metricOf (set ys p g) w ≡ metricOf (set ys p (pos 0)) w +ℤ signed (bit w p) g
+pub metric-set : (ys : List ℤ) (p : ℕ) (g : ℤ) (w : ℕ) → p < length ys → metric_of (set ys p g) w ≡ metric_of (set ys p (pos 0)) w +ℤ signed (bit w p) g
 metric-set [] p g w h = absurd (omega arith)
 metric-set (y ∷ ys) zero g w h =
-    +ℤ_comm (signed (w % 2) g) (metricOf ys (w / 2))
-    ∙ ap (λ (m : ℤ). m +ℤ signed (w % 2) g) (sym (ap (λ (z : ℤ). z +ℤ metricOf ys (w / 2)) (signed-zero (w % 2)) ∙ +ℤ_idl (metricOf ys (w / 2))))
+    +ℤ_comm (signed (w % 2) g) (metric_of ys (w / 2))
+    ∙ ap (λ (m : ℤ). m +ℤ signed (w % 2) g) (sym (ap (λ (z : ℤ). z +ℤ metric_of ys (w / 2)) (signed-zero (w % 2)) ∙ +ℤ_idl (metric_of ys (w / 2))))
 metric-set (y ∷ ys) (suc p) g w h =
     ap (λ (m : ℤ). signed (w % 2) y +ℤ m) (metric-set ys p g (w / 2) (le_of_suc-le-suc h))
-    ∙ sym (+ℤ_assoc (signed (w % 2) y) (metricOf (set ys p (pos 0)) (w / 2)) (signed (bit (w / 2) p) g))
+    ∙ sym (+ℤ_assoc (signed (w % 2) y) (metric_of (set ys p (pos 0)) (w / 2)) (signed (bit (w / 2) p) g))
 
 -- the forced bit gains, and the other loses as much
 signed_same : (b : ℕ) (g : ℤ) → signed b (signed b g) ≡ g
@@ -80,39 +80,39 @@ module _ (plate : Plate) (given : IsPrepared plate) (ys : List ℤ) (size : leng
 
   -- the metric of the other positions
   abbrev others : ℕ → ℤ
-  others w = metricOf (set ys p (pos 0)) w
+  others w = metric_of (set ys p (pos 0)) w
 
   inside : p < length ys
   inside = omega (arith, size)
 
-  others-small : (w : ℕ) → nat_abs (metricOf (set ys p (pos 0)) w) < forcing
+  others-small : (w : ℕ) → nat_abs (metric_of (set ys p (pos 0)) w) < forcing
   others-small w =
       omega (arith, metric-within limit (set ys p (pos 0)) (within-set limit ys p (pos 0) within (omega arith)) w, length-set ys p (pos 0), size, (sound given).short)
 
   abbrev answer : Answer
   answer = record {
-    word = bit_xor (wordFrom (sectionOf (rows_of plate)) (turnedBy (rest_of plate) gains) 0 0) (rest_of plate);
-    metric = best (sectionOf (rows_of plate)) (turnedBy (rest_of plate) gains) 0 0;
-    counts = counted (sectionOf (rows_of plate)) (turnedBy (rest_of plate) gains) 0;
+    word = bit_xor (word_from (section_of (rows_of plate)) (turned_by (rest_of plate) gains) 0 0) (rest_of plate);
+    metric = best (section_of (rows_of plate)) (turned_by (rest_of plate) gains) 0 0;
+    counts = counted (section_of (rows_of plate)) (turned_by (rest_of plate) gains) 0;
   }
 
   winner : Best plate (set ys p (signed b (pos forcing))) answer
   winner = best-word plate given gains (length-set ys p (signed b (pos forcing)) ∙ size) answer refl refl refl
 
   -- a word with the bit, and one with the other
-  forced-with : (w : ℕ) → bit w p ≡ b → metricOf gains w ≡ others w +ℤ pos forcing
+  forced-with : (w : ℕ) → bit w p ≡ b → metric_of gains w ≡ others w +ℤ pos forcing
   forced-with w e =
       metric-set ys p (signed b (pos forcing)) w inside
       ∙ ap (λ (z : ℤ). others w +ℤ z) (ap (λ (d : ℕ). signed d (signed b (pos forcing))) e ∙ signed_same b (pos forcing))
 
-  forced-without : (w : ℕ) → (bit w p ≡ b → ⊥) → metricOf gains w ≡ others w +ℤ neg_ℤ (pos forcing)
+  forced-without : (w : ℕ) → (bit w p ≡ b → ⊥) → metric_of gains w ≡ others w +ℤ neg_ℤ (pos forcing)
   forced-without w n =
       metric-set ys p (signed b (pos forcing)) w inside
       ∙ ap (λ (z : ℤ). others w +ℤ z) (signed-other b (bit w p) (pos forcing) two (bit-lt p w) n)
 
-  own : (w : ℕ) → bit w p ≡ b → metricOf ys w ≡ others w +ℤ signed b (get_or ys p (pos 0))
+  own : (w : ℕ) → bit w p ≡ b → metric_of ys w ≡ others w +ℤ signed b (get_or ys p (pos 0))
   own w e =
-      ap (λ (zs : List ℤ). metricOf zs w) (sym (set-get_or ys p (pos 0))) ∙ metric-set ys p (get_or ys p (pos 0)) w inside
+      ap (λ (zs : List ℤ). metric_of zs w) (sym (set-get_or ys p (pos 0))) ∙ metric-set ys p (get_or ys p (pos 0)) w inside
       ∙ ap (λ (d : ℕ). others w +ℤ signed d (get_or ys p (pos 0))) e
 
   -- where some word has the bit, the best has it
@@ -121,7 +121,7 @@ module _ (plate : Plate) (given : IsPrepared plate) (ys : List ℤ) (size : leng
     not-other n =
         far_apart (others v) (others answer.word) forcing (others-small v) (others-small answer.word)
         (subst (λ (x : ℤ). x ≤ℤ (others answer.word +ℤ neg_ℤ (pos forcing))) (forced-with v v-has)
-        (subst (λ (x : ℤ). metricOf gains v ≤ℤ x) (winner.metric ∙ forced-without answer.word n) (winner.greatest v v-in)))
+        (subst (λ (x : ℤ). metric_of gains v ≤ℤ x) (winner.metric ∙ forced-without answer.word n) (winner.greatest v v-in)))
 
     won : bit answer.word p ≡ b
     won = go (lt-tri (bit answer.word p) b)
@@ -134,18 +134,18 @@ module _ (plate : Plate) (given : IsPrepared plate) (ys : List ℤ) (size : leng
     top : answer.metric ≡ others answer.word +ℤ pos forcing
     top = winner.metric ∙ forced-with answer.word won
 
-    reached : bestWith (sectionOf (rows_of plate)) (rest_of plate) ys p b ≡ others answer.word +ℤ signed b (get_or ys p (pos 0))
+    reached : best_with (section_of (rows_of plate)) (rest_of plate) ys p b ≡ others answer.word +ℤ signed b (get_or ys p (pos 0))
     reached = ap (λ (z : ℤ). z +ℤ signed b (get_or ys p (pos 0))) (ap (λ (z : ℤ). z -ℤ pos forcing) top ∙ +ℤ-neg_ℤ_cancel (others answer.word) (pos forcing))
 
-    pub best-among : BestAmong (IsWord plate) ys p b (bestWith (sectionOf (rows_of plate)) (rest_of plate) ys p b)
+    pub best-among : BestAmong (IsWord plate) ys p b (best_with (section_of (rows_of plate)) (rest_of plate) ys p b)
     best-among = record {
       word = answer.word;
       codeword = winner.codeword;
       has = won;
       metric = own answer.word won ∙ sym reached;
       greatest = λ w g e.
-          subst (λ (x : ℤ). x ≤ℤ bestWith (sectionOf (rows_of plate)) (rest_of plate) ys p b) (sym (own w e))
+          subst (λ (x : ℤ). x ≤ℤ best_with (section_of (rows_of plate)) (rest_of plate) ys p b) (sym (own w e))
           (subst (λ (x : ℤ). (others w +ℤ signed b (get_or ys p (pos 0))) ≤ℤ x) (sym reached)
           (add-le (signed b (get_or ys p (pos 0))) (others w) (others answer.word)
-          (cancel-le (pos forcing) (others w) (others answer.word) (subst (λ (x : ℤ). x ≤ℤ (others answer.word +ℤ pos forcing)) (forced-with w e) (subst (λ (x : ℤ). metricOf gains w ≤ℤ x) top (winner.greatest w g))))));
+          (cancel-le (pos forcing) (others w) (others answer.word) (subst (λ (x : ℤ). x ≤ℤ (others answer.word +ℤ pos forcing)) (forced-with w e) (subst (λ (x : ℤ). metric_of gains w ≤ℤ x) top (winner.greatest w g))))));
     }

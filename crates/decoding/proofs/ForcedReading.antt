@@ -6,7 +6,7 @@ use mir.Syntax.{w32}
 use mir.Val.{SFits, of_z, to_z}
 use native.Mathlib.Omega.{arith}
 use Prim.Native.Nat.{◌<◌, ◌^◌, ℕ, ◌≤◌}
-use Rattle.decoding.proofs.Integers.{back, difference-fits, difference-is}
+use Rattle.decoding.proofs.Integers.{back, difference-fits, difference_is}
 use Rattle.decoding.proofs.SweepEnds.{kept_refl, kept_trans}
 use Rattle.decoding.proofs.Undecided.{undecided-keeps}
 use Rattle.decoding.specs.declared.firmness.Reading.TheVariants.{Fixed, Open}
@@ -21,7 +21,7 @@ module _ (m n : ℤ) (m-small : nat_abs m ≤ 2 ^ 28) (n-small : nat_abs n ≤ 2
   margin-fits = difference-fits m n (back m (omega arith)) (back n (omega arith)) (omega arith) (omega arith)
 
   margin-is : to_z w32 (of_z w32 (to_z w32 (of_z w32 m) -ℤ to_z w32 (of_z w32 n))) ≡ m -ℤ n
-  margin-is = difference-is m n (back m (omega arith)) (back n (omega arith)) (omega arith) (omega arith)
+  margin-is = difference_is m n (back m (omega arith)) (back n (omega arith)) (omega arith) (omega arith)
 
 module _ (table : List ℕ) (z : Sizes) (samples metrics : List ℤ) (decisions : List ℕ) (p row : ℕ)
     (found : FirstWith table z.k p row) where

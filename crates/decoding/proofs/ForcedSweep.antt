@@ -9,20 +9,20 @@ use native.Mathlib.Nat.{mul-le-mul_left}
 use native.Mathlib.Omega.{arith}
 use Prim.Native.Nat.{◌<◌, ◌^◌, ℕ, ◌≤◌}
 use Rattle.decoding.proofs.ForcedMetrics.{within-set}
-use Rattle.decoding.proofs.Integers.{abs-add, abs_neg, back, difference-fits, difference-is, sum_fits, sum_is}
+use Rattle.decoding.proofs.Integers.{abs-add, abs_neg, back, difference-fits, difference_is, sum_fits, sum_is}
 use Rattle.decoding.proofs.MetricBounds.{best-within, signed-size}
 use Rattle.decoding.proofs.Preference.{sign-copy}
-use Rattle.decoding.proofs.SearchEnds.{from-small, metric-is, metric-there, rooms-turned}
+use Rattle.decoding.proofs.SearchEnds.{from_small, metric_is, metric-there, rooms-turned}
 use Rattle.decoding.specs.Backward.{best}
 use Rattle.decoding.specs.declared.sweep.Sizes.{Sizes}
 use Rattle.decoding.specs.declared.sweep.Standing.{Standing}
 use Rattle.decoding.specs.Forcing.{BestForced, forcing}
 use Rattle.decoding.specs.LiveRows.{EndsAre}
-use Rattle.decoding.specs.Stepping.{gainLimit}
+use Rattle.decoding.specs.Stepping.{gain_limit}
 use Rattle.decoding.specs.Sweeping.{RoomsFit, SectionSwept, SizesFit}
 use Rattle.decoding.specs.Taking.{signed}
-use Rattle.decoding.specs.Turning.{turnedBy}
-use Rattle.trellises.specs.SectionOf.{sectionOf}
+use Rattle.decoding.specs.Turning.{turned_by}
+use Rattle.trellises.specs.SectionOf.{section_of}
 use Rattle.trellises.specs.States.{table}
 
 module _ (table : List ℕ) (z : Sizes) (samples metrics : List ℤ) (decisions : List ℕ) (fit : SizesFit table z) (rooms : RoomsFit z samples metrics decisions)
@@ -33,10 +33,10 @@ module _ (table : List ℕ) (z : Sizes) (samples metrics : List ℤ) (decisions 
   pub gain-copy : (y : ℤ) → y ≡ get_or samples p (pos 0) → to_z w32 (of_z w32 y) ≡ get_or samples p (pos 0)
   gain-copy y f = ap (λ (x : ℤ). to_z w32 (of_z w32 x)) f ∙ back (get_or samples p (pos 0)) (omega (arith, rooms.within p position-there))
 
-  pub gain-small : (y : ℤ) → y ≡ get_or samples p (pos 0) → nat_abs (to_z w32 (of_z w32 y)) ≤ gainLimit
+  pub gain-small : (y : ℤ) → y ≡ get_or samples p (pos 0) → nat_abs (to_z w32 (of_z w32 y)) ≤ gain_limit
   gain-small y f = omega (arith, ap nat_abs (gain-copy y f), rooms.within p position-there)
 
-  own-small : nat_abs (signed b (get_or samples p (pos 0))) ≤ gainLimit
+  own-small : nat_abs (signed b (get_or samples p (pos 0))) ≤ gain_limit
   own-small = omega (arith, signed-size b (get_or samples p (pos 0)), rooms.within p position-there)
 
   -- the position's own part, from the copies that the machine makes
@@ -45,29 +45,29 @@ module _ (table : List ℕ) (z : Sizes) (samples metrics : List ℤ) (decisions 
 
   -- the forcing gain as the code has it
   module _ (g : ℤ) (gain-is : g ≡ signed b (pos forcing)) where
-    pub rooms-forced : RoomsFit z (turnedBy z.rest (set samples p g)) metrics decisions
+    pub rooms-forced : RoomsFit z (turned_by z.rest (set samples p g)) metrics decisions
     rooms-forced = rooms-turned {samples = set samples p g} z.rest (record {
       size = length-set samples p g ∙ rooms.size;
-      within = within-set gainLimit samples p g rooms.within (omega (arith, ap nat_abs gain-is, signed-size b (pos forcing)));
-      metric-room = rooms.metric-room;
-      decision-room = rooms.decision-room;
+      within = within-set gain_limit samples p g rooms.within (omega (arith, ap nat_abs gain-is, signed-size b (pos forcing)));
+      metric_room = rooms.metric_room;
+      decision_room = rooms.decision_room;
     })
 
-    module _ (ends : List ℕ) (ends-are : EndsAre (take z.k table) ends) (metrics' : List ℤ) (decisions' : List ℕ) (s : Standing)
-        (w : SectionSwept table z (turnedBy z.rest (set samples p g)) 0 metrics decisions metrics' decisions' s) where
-      best-is : get_or metrics' s.from (pos 0) ≡ best (sectionOf (take z.k table)) (turnedBy z.rest (set samples p g)) 0 0
-      best-is = metric-is table z (turnedBy z.rest (set samples p g)) metrics decisions fit rooms-forced ends ends-are metrics' decisions' s w
+    module _ (ends : List ℕ) (ends_are : EndsAre (take z.k table) ends) (metrics' : List ℤ) (decisions' : List ℕ) (s : Standing)
+        (w : SectionSwept table z (turned_by z.rest (set samples p g)) 0 metrics decisions metrics' decisions' s) where
+      best-is : get_or metrics' s.from (pos 0) ≡ best (section_of (take z.k table)) (turned_by z.rest (set samples p g)) 0 0
+      best-is = metric_is table z (turned_by z.rest (set samples p g)) metrics decisions fit rooms-forced ends ends_are metrics' decisions' s w
 
       pub from-there : s.from < length metrics'
-      from-there = metric-there table z (turnedBy z.rest (set samples p g)) metrics decisions fit rooms-forced ends ends-are metrics' decisions' s w
+      from-there = metric-there table z (turned_by z.rest (set samples p g)) metrics decisions fit rooms-forced ends ends_are metrics' decisions' s w
 
       pub from-few : s.from ≤ z.half
-      from-few = from-small table z (turnedBy z.rest (set samples p g)) metrics decisions fit rooms-forced ends ends-are metrics' decisions' s w
+      from-few = from_small table z (turned_by z.rest (set samples p g)) metrics decisions fit rooms-forced ends ends_are metrics' decisions' s w
 
       pub best-small : nat_abs (get_or metrics' s.from (pos 0)) ≤ 2 ^ 26
       best-small =
-          let few : length (turnedBy z.rest (set samples p g)) ≤ 64 = omega (arith, rooms-forced.size, fit.short) in
-          omega (arith, ap nat_abs best-is, best-within (sectionOf (take z.k table)) gainLimit (turnedBy z.rest (set samples p g)) rooms-forced.within 0 0, mul-le-mul_left gainLimit few)
+          let few : length (turned_by z.rest (set samples p g)) ≤ 64 = omega (arith, rooms-forced.size, fit.short) in
+          omega (arith, ap nat_abs best-is, best-within (section_of (take z.k table)) gain_limit (turned_by z.rest (set samples p g)) rooms-forced.within 0 0, mul-le-mul_left gain_limit few)
 
       -- the machine's difference and sum; o is the position's own part as the code has it
       metric-copy : to_z w32 (of_z w32 (get_or metrics' s.from (pos 0))) ≡ get_or metrics' s.from (pos 0)
@@ -77,7 +77,7 @@ module _ (table : List ℕ) (z : Sizes) (samples metrics : List ℤ) (decisions 
       less-fits = difference-fits (get_or metrics' s.from (pos 0)) (pos forcing) metric-copy refl (omega (arith, best-small)) (omega arith)
 
       less-is : to_z w32 (of_z w32 (to_z w32 (of_z w32 (get_or metrics' s.from (pos 0))) -ℤ pos forcing)) ≡ get_or metrics' s.from (pos 0) -ℤ pos forcing
-      less-is = difference-is (get_or metrics' s.from (pos 0)) (pos forcing) metric-copy refl (omega (arith, best-small)) (omega arith)
+      less-is = difference_is (get_or metrics' s.from (pos 0)) (pos forcing) metric-copy refl (omega (arith, best-small)) (omega arith)
 
       less-small : nat_abs (get_or metrics' s.from (pos 0) -ℤ pos forcing) ≤ 2 ^ 27
       less-small = omega (arith, best-small, abs-add (get_or metrics' s.from (pos 0)) (neg_ℤ (pos forcing)), abs_neg (pos forcing))
@@ -95,7 +95,7 @@ module _ (table : List ℕ) (z : Sizes) (samples metrics : List ℤ) (decisions 
           metric =
               total-is
               ∙ ap (λ (x : ℤ). x -ℤ pos forcing +ℤ signed b (get_or samples p (pos 0)))
-              (best-is ∙ ap (λ (x : ℤ). best (sectionOf (take z.k table)) (turnedBy z.rest (set samples p x)) 0 0) gain-is);
+              (best-is ∙ ap (λ (x : ℤ). best (section_of (take z.k table)) (turned_by z.rest (set samples p x)) 0 0) gain-is);
           small = omega (arith, ap nat_abs total-is, abs-add (get_or metrics' s.from (pos 0) -ℤ pos forcing) (signed b (get_or samples p (pos 0))), less-small, own-small);
           kept = w.kept;
         }

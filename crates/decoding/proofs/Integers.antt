@@ -60,8 +60,8 @@ module _ {x y : ℤ} (a b : ℤ) (ex : x ≡ a) (ey : y ≡ b) (ha : nat_abs a �
   pub difference-fits : SFits w32 (x -ℤ y)
   difference-fits = rw (ex, ey) (small-fits (a -ℤ b) (omega (arith, abs-add a (neg_ℤ b), abs_neg b)))
 
-  pub difference-is : to_z w32 (of_z w32 (x -ℤ y)) ≡ a -ℤ b
-  difference-is = rw (ex, ey) (back (a -ℤ b) (omega (arith, abs-add a (neg_ℤ b), abs_neg b)))
+  pub difference_is : to_z w32 (of_z w32 (x -ℤ y)) ≡ a -ℤ b
+  difference_is = rw (ex, ey) (back (a -ℤ b) (omega (arith, abs-add a (neg_ℤ b), abs_neg b)))
 
 -- ---- one more breaks a tie
 

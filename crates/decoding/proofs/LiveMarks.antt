@@ -9,10 +9,10 @@ use native.Mathlib.Decide.{dec_lt}
 use native.Mathlib.Nat.{pow-suc}
 use native.Mathlib.Omega.{arith}
 use Prim.Native.Nat.{◌*◌, ◌+◌, ◌<◌, ◌^◌, suc, suc-le-suc, zero, zero-le, ℕ, ◌≤◌}
-use Rattle.decoding.specs.LiveRows.{EndsAre, activeMarks, isLive, liveMarks, mark_of, marks}
+use Rattle.decoding.specs.LiveRows.{EndsAre, active_marks, is_live, live_marks, mark_of, marks}
 use Rattle.trellises.proofs.OneBegins.{ordered}
 use Rattle.trellises.proofs.OneMoreRow.{active-ends, and-false, live-next, live_now}
-use Rattle.trellises.specs.SectionOf.{isActive}
+use Rattle.trellises.specs.SectionOf.{is_active}
 use Rattle.words.proofs.Span.{rising-apart}
 use Rattle.words.proofs.Word.{bits_below, half}
 use Rattle.words.specs.Ends.{first, firsts, last, lasts}
@@ -65,22 +65,22 @@ and_same false b h = refl
 
 module _ (t row : ℕ) where
   -- a row that does not end at t is live behind section t if it is active there
-  goes_on : (last row ≡ t → ⊥) → isLive (suc t) row ≡ isActive t row
+  goes_on : (last row ≡ t → ⊥) → is_live (suc t) row ≡ is_active t row
   goes_on h =
-      live-next t row ∙ and_same (isActive t row) (ltb t (last row)) (λ e. let a = active-ends t row e in lt-ltb t (last row) (omega arith))
+      live-next t row ∙ and_same (is_active t row) (ltb t (last row)) (λ e. let a = active-ends t row e in lt-ltb t (last row) (omega arith))
 
   -- a row that does not begin at t is live before section t if it is active there
-  went_on : (first row ≡ t → ⊥) → isLive t row ≡ isActive t row
+  went_on : (first row ≡ t → ⊥) → is_live t row ≡ is_active t row
   went_on h =
-      live_now t row ∙ and_same (isActive t row) (ltb (first row) t) (λ e. let a = active-ends t row e in lt-ltb (first row) t (omega arith))
+      live_now t row ∙ and_same (is_active t row) (ltb (first row) t) (λ e. let a = active-ends t row e in lt-ltb (first row) t (omega arith))
 
-  is-active : first row ≤ t → t ≤ last row → isActive t row ≡ true
+  is-active : first row ≤ t → t ≤ last row → is_active t row ≡ true
   is-active f l = rw (le-leb (first row) t f, le-leb t (last row) l)
 
-  ended : last row ≡ t → isLive (suc t) row ≡ false
+  ended : last row ≡ t → is_live (suc t) row ≡ false
   ended e = rw (lt-leb (suc t) (last row) (omega arith)) (and-false (ltb (first row) (suc t)))
 
-  not-begun : first row ≡ t → isLive t row ≡ false
+  not-begun : first row ≡ t → is_live t row ≡ false
   not-begun e = rw (le-ltb (first row) t (omega arith))
 
 -- ---- all rows of a plate
@@ -90,49 +90,49 @@ module _ (rows : List ℕ) (s : Spans rows (firsts rows) (lasts rows)) where
   in_order j h = ordered (s.first j h) (s.last j h)
 
   -- behind section t the row that ends there is live no more
-  pub with-ending : (ends : List ℕ) (t : ℕ) → EndsAre rows ends → t < 64 → liveMarks rows (suc t) + mark_of (get_or ends t 0) ≡ activeMarks rows t
+  pub with-ending : (ends : List ℕ) (t : ℕ) → EndsAre rows ends → t < 64 → live_marks rows (suc t) + mark_of (get_or ends t 0) ≡ active_marks rows t
   with-ending ends t e h = go (get_or ends t 0) refl
     where
-      go : (n : ℕ) → get_or ends t 0 ≡ n → liveMarks rows (suc t) + mark_of n ≡ activeMarks rows t
-      go zero q = omega (arith, marks-same (isLive (suc t)) (isActive t) rows (λ j l. goes_on t (get_or rows j 0) (e.none t h q j l)))
+      go : (n : ℕ) → get_or ends t 0 ≡ n → live_marks rows (suc t) + mark_of n ≡ active_marks rows t
+      go zero q = omega (arith, marks-same (is_live (suc t)) (is_active t) rows (λ j l. goes_on t (get_or rows j 0) (e.none t h q j l)))
       go (suc j) q =
           let a = e.some t j h q in
-          marks-more (isLive (suc t)) (isActive t) rows j a.0
+          marks-more (is_live (suc t)) (is_active t) rows j a.0
           (λ i l n. goes_on t (get_or rows i 0) (λ p. n (s.apart i j l a.0 (p ∙ sym a.1))))
           (ended t (get_or rows j 0) a.1)
           (is-active t (get_or rows j 0) (omega (arith, in_order j a.0)) (omega arith))
 
   -- before it the row that begins there is not live yet
-  pub with-beginning : (t j : ℕ) → j < length rows → firsts rows j ≡ t → liveMarks rows t + 2 ^ j ≡ activeMarks rows t
+  pub with-beginning : (t j : ℕ) → j < length rows → firsts rows j ≡ t → live_marks rows t + 2 ^ j ≡ active_marks rows t
   with-beginning t j h e =
-      marks-more (isLive t) (isActive t) rows j h
+      marks-more (is_live t) (is_active t) rows j h
       (λ i l n. went_on t (get_or rows i 0) (λ p. n (rising-apart (length rows) (firsts rows) s.rising i j l h (p ∙ sym e))))
       (not-begun t (get_or rows j 0) e)
       (is-active t (get_or rows j 0) (omega arith) (omega (arith, in_order j h)))
 
   -- and no row more, where none begins
-  pub without-beginning : (t : ℕ) → ((j : ℕ) → j < length rows → firsts rows j ≡ t → ⊥) → liveMarks rows t ≡ activeMarks rows t
-  without-beginning t n = marks-same (isLive t) (isActive t) rows (λ j l. went_on t (get_or rows j 0) (n j l))
+  pub without-beginning : (t : ℕ) → ((j : ℕ) → j < length rows → firsts rows j ≡ t → ⊥) → live_marks rows t ≡ active_marks rows t
+  without-beginning t n = marks-same (is_live t) (is_active t) rows (λ j l. went_on t (get_or rows j 0) (n j l))
 
   -- the row that begins is the last one that is active
-  pub last-active : (t j : ℕ) → j < length rows → firsts rows j ≡ t → Last (activeMarks rows t) j
+  pub last-active : (t j : ℕ) → j < length rows → firsts rows j ≡ t → Last (active_marks rows t) j
   last-active t j h e = record {
-    one = marks-bit (isActive t) rows j h ∙ ap (λ (b : Bool). cond b 1 0) (is-active t (get_or rows j 0) (omega arith) (omega (arith, in_order j h)));
+    one = marks-bit (is_active t) rows j h ∙ ap (λ (b : Bool). cond b 1 0) (is-active t (get_or rows j 0) (omega arith) (omega (arith, in_order j h)));
     zeros = λ i g. go i g (dec_lt i (length rows));
   }
     where
-      go : (i : ℕ) → j < i → Dec (i < length rows) → bit (activeMarks rows t) i ≡ 0
+      go : (i : ℕ) → j < i → Dec (i < length rows) → bit (active_marks rows t) i ≡ 0
       go i g (yes l) =
-          marks-bit (isActive t) rows i l
+          marks-bit (is_active t) rows i l
           ∙ ap (λ (b : Bool). cond (b && leb t (lasts rows i)) 1 0) (lt-leb (firsts rows i) t (omega (arith, s.rising j i g l)))
-      go i g (no l) = bits_below (length rows) (activeMarks rows t) (marks-below (isActive t) rows) i (omega arith)
+      go i g (no l) = bits_below (length rows) (active_marks rows t) (marks-below (is_active t) rows) i (omega arith)
 
 -- ---- at either end no row is live
 
-pub none-live-first : (rows : List ℕ) → liveMarks rows 0 ≡ 0
+pub none-live-first : (rows : List ℕ) → live_marks rows 0 ≡ 0
 none-live-first rows =
-    marks-none (isLive 0) rows (λ j l. ap (λ (b : Bool). b && leb 0 (lasts rows j)) (le-ltb (firsts rows j) 0 zero-le))
+    marks-none (is_live 0) rows (λ j l. ap (λ (b : Bool). b && leb 0 (lasts rows j)) (le-ltb (firsts rows j) 0 zero-le))
 
-pub none-live-last : (rows : List ℕ) (n : ℕ) → ((j : ℕ) → j < length rows → lasts rows j < n) → liveMarks rows n ≡ 0
+pub none-live-last : (rows : List ℕ) (n : ℕ) → ((j : ℕ) → j < length rows → lasts rows j < n) → live_marks rows n ≡ 0
 none-live-last rows n h =
-    marks-none (isLive n) rows (λ j l. ap (λ (b : Bool). ltb (firsts rows j) n && b) (lt-leb n (lasts rows j) (h j l)) ∙ and-false (ltb (firsts rows j) n))
+    marks-none (is_live n) rows (λ j l. ap (λ (b : Bool). ltb (firsts rows j) n && b) (lt-leb n (lasts rows j) (h j l)) ∙ and-false (ltb (firsts rows j) n))

@@ -18,13 +18,13 @@ use Rattle.decoding.specs.declared.apart.Selection.{Selection}
 use Rattle.decoding.specs.declared.firmness.Flag.{Flag}
 use Rattle.decoding.specs.Decode.{Best, BestIn}
 use Rattle.decoding.specs.Firmness.{FlagOf}
-use Rattle.decoding.specs.Metric.{metricOf}
-use Rattle.decoding.specs.Totals.{branchTotal, enteringLessOne}
-use Rattle.decoding.specs.Turning.{turnedBy}
+use Rattle.decoding.specs.Metric.{metric_of}
+use Rattle.decoding.specs.Totals.{branch_total, entering_less_one}
+use Rattle.decoding.specs.Turning.{turned_by}
 use Rattle.plates.specs.declared.Plate.{Plate}
 use Rattle.plates.specs.Prepare.{IsWord, rows_of}
 use Rattle.trellises.proofs.MaskedGraph.{xor-twice}
-use Rattle.trellises.specs.Branching.{codeTrellis, trellisOf}
+use Rattle.trellises.specs.Branching.{code_trellis, trellis_of}
 use Rattle.words.specs.Sum.{IsSum}
 use Rattle.words.specs.Word.{Earlier}
 
@@ -57,11 +57,11 @@ plain_of plate = record { n = plate.n; k = plate.k; mask = 0; rows = plate.rows;
 -- equals it is the one that is earliest with the mask added; the counts are the plain plate's
 pub record PlainlyBest (plain : Plate) (mask : ℕ) (samples : List ℤ) (a : Answer) : Type 0 where
   pub codeword : IsWord plain (bit_xor a.word mask)
-  pub metric : a.metric ≡ metricOf (turnedBy mask samples) (bit_xor a.word mask)
-  pub greatest : (v : ℕ) → IsWord plain v → metricOf (turnedBy mask samples) v ≤ℤ a.metric
-  pub earliest : (v : ℕ) → IsWord plain v → metricOf (turnedBy mask samples) v ≡ a.metric → (a.word ≡ bit_xor v mask) ⊎ Earlier a.word (bit_xor v mask)
-  pub additions : a.counts.additions ≡ branchTotal (trellisOf plain) plain.n
-  pub comparisons : a.counts.comparisons ≡ enteringLessOne (trellisOf plain) plain.n
+  pub metric : a.metric ≡ metric_of (turned_by mask samples) (bit_xor a.word mask)
+  pub greatest : (v : ℕ) → IsWord plain v → metric_of (turned_by mask samples) v ≤ℤ a.metric
+  pub earliest : (v : ℕ) → IsWord plain v → metric_of (turned_by mask samples) v ≡ a.metric → (a.word ≡ bit_xor v mask) ⊎ Earlier a.word (bit_xor v mask)
+  pub additions : a.counts.additions ≡ branch_total (trellis_of plain) plain.n
+  pub comparisons : a.counts.comparisons ≡ entering_less_one (trellis_of plain) plain.n
 
 module _ (plate : Plate) (samples : List ℤ) where
   -- a word of the plate plus mask is one of the plain plate, and back
@@ -72,11 +72,11 @@ module _ (plate : Plate) (samples : List ℤ) where
   masked-word v g = subst (IsSum (rows_of plate)) (xor_zero_r v ∙ sym (xor-twice v plate.mask)) g
 
   -- both trellises have as many branches, and as many entering each state
-  same-branches : branchTotal (trellisOf plate) plate.n ≡ branchTotal (trellisOf (plain_of plate)) plate.n
-  same-branches = mask-branches plate.mask (codeTrellis plate) plate.n ∙ sym (mask-branches 0 (codeTrellis plate) plate.n)
+  same_branches : branch_total (trellis_of plate) plate.n ≡ branch_total (trellis_of (plain_of plate)) plate.n
+  same_branches = mask-branches plate.mask (code_trellis plate) plate.n ∙ sym (mask-branches 0 (code_trellis plate) plate.n)
 
-  same-entering : enteringLessOne (trellisOf plate) plate.n ≡ enteringLessOne (trellisOf (plain_of plate)) plate.n
-  same-entering = mask-entering plate.mask (codeTrellis plate) plate.n ∙ sym (mask-entering 0 (codeTrellis plate) plate.n)
+  same-entering : entering_less_one (trellis_of plate) plate.n ≡ entering_less_one (trellis_of (plain_of plate)) plate.n
+  same-entering = mask-entering plate.mask (code_trellis plate) plate.n ∙ sym (mask-entering 0 (code_trellis plate) plate.n)
 
   -- the masked decoding is the plain one so
   pub decode-masked : (a : Answer) → Best plate samples a ↔ PlainlyBest (plain_of plate) plate.mask samples a
@@ -89,7 +89,7 @@ module _ (plate : Plate) (samples : List ℤ) where
         greatest = λ v g.
             subst (λ (m : ℤ). m ≤ℤ a.metric) (sym (turned-metric plate.mask samples v)) (b.greatest (bit_xor v plate.mask) (masked-word v g));
         earliest = λ v g t. b.earliest (bit_xor v plate.mask) (masked-word v g) (sym (turned-metric plate.mask samples v) ∙ t);
-        additions = b.additions ∙ same-branches;
+        additions = b.additions ∙ same_branches;
         comparisons = b.comparisons ∙ same-entering;
       }
 
@@ -101,12 +101,12 @@ module _ (plate : Plate) (samples : List ℤ) where
         earliest = λ w g t.
             subst (λ (x : ℕ). (a.word ≡ x) ⊎ Earlier a.word x) (xor-twice w plate.mask)
             (b.earliest (bit_xor w plate.mask) (plain_word w g) (turned-back plate.mask samples w ∙ t));
-        additions = b.additions ∙ sym same-branches;
+        additions = b.additions ∙ sym same_branches;
         comparisons = b.comparisons ∙ sym same-entering;
       }
 
   -- metric and counts are those of a plain decoding of the turned samples
-  pub metric-masked : (a b : Answer) → Best plate samples a → Best (plain_of plate) (turnedBy plate.mask samples) b
+  pub metric-masked : (a b : Answer) → Best plate samples a → Best (plain_of plate) (turned_by plate.mask samples) b
       → (a.metric ≡ b.metric) × (a.counts ≡ b.counts)
   metric-masked a b x y =
       let p : PlainlyBest (plain_of plate) plate.mask samples a = (decode-masked a).0 x in (

@@ -4,7 +4,7 @@ use lib.ListN.{length}
 use mathlib.Core.Path.{ap, ap₂, fun_ext, subst, sym, ◌∙◌, ◌≡◌}
 use Prim.Native.Nat.{◌<◌, ℕ}
 use Rattle.decoding.proofs.RestOfWords.{off-cleared, off-sum, xor-through}
-use Rattle.decoding.specs.Cosets.{takenOff}
+use Rattle.decoding.specs.Cosets.{taken_off}
 use Rattle.plates.proofs.SoundIsPrepared.{sound}
 use Rattle.plates.specs.declared.Plate.{Plate}
 use Rattle.plates.specs.Prepare.{IsPrepared, IsWord, rows_of}
@@ -17,7 +17,7 @@ use Rattle.words.specs.Word.{Earlier, bit}
 
 -- what is left of the mask once the plate's rows are taken off it
 abbrev pub rest_of : Plate → ℕ
-rest_of plate = takenOff (rows_of plate) plate.mask
+rest_of plate = taken_off (rows_of plate) plate.mask
 
 -- the mask is a word: the zero codeword plus mask
 pub mask_word : (plate : Plate) → IsWord plate plate.mask
@@ -43,10 +43,10 @@ module _ (plate : Plate) where
 
   module _ (given : IsPrepared plate) where
     -- what is left of a word once the rows are taken off has 0 where a codeword has its first one
-    pub off-clear : (word v p : ℕ) → IsSum (rows_of plate) v → First v p → bit (takenOff (rows_of plate) word) p ≡ 0
+    pub off-clear : (word v p : ℕ) → IsSum (rows_of plate) v → First v p → bit (taken_off (rows_of plate) word) p ≡ 0
     off-clear word v p g f =
         let h : (j : ℕ) × (j < length (rows_of plate)) × (firsts (rows_of plate) j ≡ p) = given.same.reply.1.rows.heads v p g f in
-        subst (λ (q : ℕ). bit (takenOff (rows_of plate) word) q ≡ 0) h.2
+        subst (λ (q : ℕ). bit (taken_off (rows_of plate) word) q ≡ 0) h.2
         (off-cleared (rows_of plate) word (sound given).reduced.spans.first (sound given).reduced.spans.rising h.0 h.1)
 
     rest-clear : (v p : ℕ) → IsSum (rows_of plate) v → First v p → bit (rest_of plate) p ≡ 0
@@ -57,13 +57,13 @@ module _ (plate : Plate) where
     earlier_word a b g h e = record {
       place = e.place;
       same = λ i k. bit-xor i a (rest_of plate) ∙ ap (λ (x : ℕ). differ x (bit (rest_of plate) i)) (e.same i k) ∙ sym (bit-xor i b (rest_of plate));
-      zero-here = bit-xor e.place a (rest_of plate) ∙ ap₂ differ e.zero-here clear;
-      one-there = bit-xor e.place b (rest_of plate) ∙ ap₂ differ e.one-there clear;
+      zero_here = bit-xor e.place a (rest_of plate) ∙ ap₂ differ e.zero_here clear;
+      one_there = bit-xor e.place b (rest_of plate) ∙ ap₂ differ e.one_there clear;
     }
       where
         begins : First (bit_xor a b) e.place
         begins = record {
-          one = bit-xor e.place a b ∙ ap₂ differ e.zero-here e.one-there;
+          one = bit-xor e.place a b ∙ ap₂ differ e.zero_here e.one_there;
           zeros = λ i k. bit-xor i a b ∙ ap (λ (x : ℕ). differ x (bit b i)) (e.same i k) ∙ differ_self (bit b i);
         }
 

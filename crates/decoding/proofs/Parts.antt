@@ -15,16 +15,16 @@ use Rattle.decoding.proofs.Digits.{bit_high, bit-low, cat-lt}
 use Rattle.decoding.proofs.Targets.{first-branch, second-branch}
 use Rattle.decoding.specs.declared.Counts.{Counts}
 use Rattle.decoding.specs.declared.states.Run.{Run}
-use Rattle.decoding.specs.Running.{Part, Ready, addsOf, comparesOf}
+use Rattle.decoding.specs.Running.{Part, Ready, adds_of, compares_of}
 use Rattle.decoding.specs.Stepping.{olds}
-use Rattle.decoding.specs.Taking.{Taken, atState}
+use Rattle.decoding.specs.Taking.{Taken, at_state}
 use Rattle.trellises.specs.declared.Section.{Section}
-use Rattle.trellises.specs.Numbers.{branchCount, leadsTo}
+use Rattle.trellises.specs.Numbers.{branch_count, leads_to}
 use Rattle.words.specs.Word.{bit}
 
 -- a state goes by the metrics where its branches lead
-same_at : (c : Section) (y : ℤ) (f g : ℕ → ℤ) (i : ℕ) (t : Bool) → c.begins ≡ t → f (leadsTo c i) ≡ g (leadsTo c i)
-    → (c.begins ≡ true → f (leadsTo c (i + 2 ^ c.live)) ≡ g (leadsTo c (i + 2 ^ c.live))) → atState c y f i ≡ atState c y g i
+same_at : (c : Section) (y : ℤ) (f g : ℕ → ℤ) (i : ℕ) (t : Bool) → c.begins ≡ t → f (leads_to c i) ≡ g (leads_to c i)
+    → (c.begins ≡ true → f (leads_to c (i + 2 ^ c.live)) ≡ g (leads_to c (i + 2 ^ c.live))) → at_state c y f i ≡ at_state c y g i
 same_at c y f g i true e p q = let r = q e in rw (e, p, r)
 same_at c y f g i false e p q = rw (e, p)
 
@@ -38,9 +38,9 @@ below_or n m i l = go (ltb i n) refl
 
 module _ (M : List ℤ) (from to : ℕ) (c : Section) (y : ℤ) (ready : Ready M from to c y) where
   -- one state, whose metric is stored
-  module _ (i : ℕ) (l : i < 2 ^ c.live) (v : ℤ) (k : Counts) (r : Run) (ev : v ≡ (atState c y (olds M from) i).metric)
-      (ew : r.word ≡ (atState c y (olds M from) i).bit) (hw : r.word < 2)
-      (ea : r.counts.additions ≡ k.additions + addsOf c) (ec : r.counts.comparisons ≡ k.comparisons + comparesOf c) where
+  module _ (i : ℕ) (l : i < 2 ^ c.live) (v : ℤ) (k : Counts) (r : Run) (ev : v ≡ (at_state c y (olds M from) i).metric)
+      (ew : r.word ≡ (at_state c y (olds M from) i).bit) (hw : r.word < 2)
+      (ea : r.counts.additions ≡ k.additions + adds_of c) (ec : r.counts.comparisons ≡ k.comparisons + compares_of c) where
     pub single : Part M from to c y i 1 k (set M (to + i) v) r
     single = record {
       size = length-set M (to + i) v;
@@ -52,21 +52,21 @@ module _ (M : List ℤ) (from to : ℕ) (c : Section) (y : ℤ) (ready : Ready M
       comparisons = omega arith;
     }
       where
-        metric : (j : ℕ) → j < 1 → olds (set M (to + i) v) to (i + j) ≡ (atState c y (olds M from) (i + j)).metric
+        metric : (j : ℕ) → j < 1 → olds (set M (to + i) v) to (i + j) ≡ (at_state c y (olds M from) (i + j)).metric
         metric zero h = rw (add-zero i) (get_or-set_same M (to + i) v (pos 0) (omega (arith, ready.room)) ∙ ev)
         metric (suc j) h = absurd (omega arith)
 
-        decision : (j : ℕ) → j < 1 → bit r.word j ≡ (atState c y (olds M from) (i + j)).bit
+        decision : (j : ℕ) → j < 1 → bit r.word j ≡ (at_state c y (olds M from) (i + j)).bit
         decision zero h = let e : r.word % 2 ≡ r.word = omega arith in rw (add-zero i) (e ∙ ew)
         decision (suc j) h = absurd (omega arith)
 
   -- metrics that differ from M at new places alone
   module _ (M₁ : List ℤ) (size : length M₁ ≡ length M)
       (others : (j : ℕ) → (j < to) ⊎ (to + 2 ^ c.live ≤ j) → get_or M₁ j (pos 0) ≡ get_or M j (pos 0)) where
-    source-same : (x : ℕ) → x < branchCount c → olds M₁ from (leadsTo c x) ≡ olds M from (leadsTo c x)
-    source-same x h = others (from + leadsTo c x) (ready.apart x h)
+    source-same : (x : ℕ) → x < branch_count c → olds M₁ from (leads_to c x) ≡ olds M from (leads_to c x)
+    source-same x h = others (from + leads_to c x) (ready.apart x h)
 
-    pub state-same : (i : ℕ) → i < 2 ^ c.live → atState c y (olds M₁ from) i ≡ atState c y (olds M from) i
+    pub state-same : (i : ℕ) → i < 2 ^ c.live → at_state c y (olds M₁ from) i ≡ at_state c y (olds M from) i
     state-same i h =
         same_at c y (olds M₁ from) (olds M from) i c.begins refl (source-same i (first-branch c ready.section i h))
         (λ e. source-same (i + 2 ^ c.live) (second-branch c ready.section i h e))
@@ -90,26 +90,26 @@ module _ (M : List ℤ) (from to : ℕ) (c : Section) (y : ℤ) (ready : Ready M
   module _ (lo n m : ℕ) (l : lo + n + m ≤ 2 ^ c.live) (k : Counts) (M₁ M₂ : List ℤ) (r₁ r₂ r : Run)
       (p : Part M from to c y (lo + n) m k M₁ r₁) (q : Part M₁ from to c y lo n r₁.counts M₂ r₂)
       (ew : r.word ≡ r₁.word * 2 ^ n + r₂.word) (ek : r.counts ≡ r₂.counts) where
-    metric : (i : ℕ) → i < n + m → olds M₂ to (lo + i) ≡ (atState c y (olds M from) (lo + i)).metric
+    metric : (i : ℕ) → i < n + m → olds M₂ to (lo + i) ≡ (at_state c y (olds M from) (lo + i)).metric
     metric i h = ⊎_elim low high (below_or n m i h)
       where
-        low : i < n → olds M₂ to (lo + i) ≡ (atState c y (olds M from) (lo + i)).metric
+        low : i < n → olds M₂ to (lo + i) ≡ (at_state c y (olds M from) (lo + i)).metric
         low g = q.metric i g ∙ ap (λ (s : Taken). s.metric) (state-same M₁ p.size (part-others (lo + n) m l k M₁ r₁ p) (lo + i) (omega arith))
 
-        high : (j : ℕ) × ((j < m) × (i ≡ n + j)) → olds M₂ to (lo + i) ≡ (atState c y (olds M from) (lo + i)).metric
+        high : (j : ℕ) × ((j < m) × (i ≡ n + j)) → olds M₂ to (lo + i) ≡ (at_state c y (olds M from) (lo + i)).metric
         high (j, (g, e)) =
             let a : lo + i ≡ lo + n + j = omega arith in
             rw a (q.others (to + (lo + n + j)) (inr (omega arith)) ∙ p.metric j g)
 
-    decision : (i : ℕ) → i < n + m → bit r.word i ≡ (atState c y (olds M from) (lo + i)).bit
+    decision : (i : ℕ) → i < n + m → bit r.word i ≡ (at_state c y (olds M from) (lo + i)).bit
     decision i h = ap (λ (w : ℕ). bit w i) ew ∙ ⊎_elim low high (below_or n m i h)
       where
-        low : i < n → bit (r₁.word * 2 ^ n + r₂.word) i ≡ (atState c y (olds M from) (lo + i)).bit
+        low : i < n → bit (r₁.word * 2 ^ n + r₂.word) i ≡ (at_state c y (olds M from) (lo + i)).bit
         low g =
             bit-low n r₁.word r₂.word i g ∙ q.decision i g
             ∙ ap (λ (s : Taken). s.bit) (state-same M₁ p.size (part-others (lo + n) m l k M₁ r₁ p) (lo + i) (omega arith))
 
-        high : (j : ℕ) × ((j < m) × (i ≡ n + j)) → bit (r₁.word * 2 ^ n + r₂.word) i ≡ (atState c y (olds M from) (lo + i)).bit
+        high : (j : ℕ) × ((j < m) × (i ≡ n + j)) → bit (r₁.word * 2 ^ n + r₂.word) i ≡ (at_state c y (olds M from) (lo + i)).bit
         high (j, (g, e)) =
             let a : lo + i ≡ lo + n + j = omega arith in
             rw (a, e) (bit_high n r₁.word r₂.word j q.short ∙ p.decision j g)

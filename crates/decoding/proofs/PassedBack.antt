@@ -20,13 +20,13 @@ use Rattle.decoding.proofs.MarkCounts.{ending-by, live_ones}
 use Rattle.decoding.proofs.Packed.{digit-masked, one-off}
 use Rattle.decoding.proofs.PassedRows.{active-below, counted}
 use Rattle.decoding.specs.declared.live.Live.{Live}
-use Rattle.decoding.specs.LiveRows.{AllActive, EndsAre, LiveAt, PassedTo, PlateRows, activeMarks, begunBefore, endingBy, isLive, liveMarks}
+use Rattle.decoding.specs.LiveRows.{AllActive, EndsAre, LiveAt, PassedTo, PlateRows, active_marks, begun_before, ending_by, is_live, live_marks}
 use Rattle.trellises.proofs.AmongRows.{TakenFrom, all-taken, among_first, none-taken, one-taken, position, row_within, section-of-active}
 use Rattle.trellises.proofs.HeldSection.{appended}
 use Rattle.trellises.proofs.OneBegins.{section-begins}
 use Rattle.trellises.specs.declared.Section.{Section}
-use Rattle.trellises.specs.RowsAmong.{rowsAmong}
-use Rattle.trellises.specs.SectionOf.{held, isActive, quiet, sectionOf, withActive, with_row}
+use Rattle.trellises.specs.RowsAmong.{rows_among}
+use Rattle.trellises.specs.SectionOf.{held, is_active, quiet, section_of, with_active, with_row}
 use Rattle.words.proofs.Ends.{one-before}
 use Rattle.words.proofs.Span.{zero_one}
 use Rattle.words.proofs.Word.{bit-lt, bits_below}
@@ -59,7 +59,7 @@ module _ {rows : List ℕ} {which t : ℕ} where
     same = refl;
   }
 
-  pub column-end : {left column : ℕ} → ColumnFrom rows which t left column → left ≤ 0 → column ≡ (held (sectionOf (rowsAmong rows which) t)).column
+  pub column-end : {left column : ℕ} → ColumnFrom rows which t left column → left ≤ 0 → column ≡ (held (section_of (rows_among rows which) t)).column
   column-end c e = c.same ∙ ap (λ (z : Section). z.column) (all-taken rows which t c.taken (omega arith))
 
   -- the last row that is left
@@ -80,8 +80,8 @@ module _ {rows : List ℕ} {which t : ℕ} where
       pub left-falls : bit_xor left (1 * 2 ^ j % 2 ^ 64) < left
       left-falls = omega (arith, off, pow_pos j)
 
-      column-with : (row : ℕ) (s : Section) → isActive t row ≡ true → (s.column * 2 + bit row t) % 2 ^ 64 ≡ (held (with_row t row s)).column
-      unfolding with_row withActive
+      column-with : (row : ℕ) (s : Section) → is_active t row ≡ true → (s.column * 2 + bit row t) % 2 ^ 64 ≡ (held (with_row t row s)).column
+      unfolding with_row with_active
       column-with row s e = rw e
 
       -- it is taken in
@@ -99,52 +99,52 @@ module _ {rows : List ℕ} {which t : ℕ} where
 
 -- ---- the section of the active rows
 
-module _ {rows : List ℕ} {k : ℕ} (p : PlateRows rows k) (t : ℕ) {which : ℕ} (e : which ≡ activeMarks (take k rows) t) where
+module _ {rows : List ℕ} {k : ℕ} (p : PlateRows rows k) (t : ℕ) {which : ℕ} (e : which ≡ active_marks (take k rows) t) where
   abbrev plate : List ℕ
   plate = take k rows
 
   -- a row named is a row of the plate
   named : (j : ℕ) → bit which j ≡ 1 → j < k
-  named j o = one-before k (activeMarks plate t) j (active-below p t) (ap (λ (w : ℕ). bit w j) (sym e) ∙ o)
+  named j o = one-before k (active_marks plate t) j (active-below p t) (ap (λ (w : ℕ). bit w j) (sym e) ∙ o)
 
   pub all-active : AllActive rows which t
   all-active j h o =
       let g = named j o in
-      subst (λ (row : ℕ). isActive t row ≡ true) (get_or-take k rows j 0 g)
-      (passes (isActive t (get_or plate j 0)) (sym (marks-bit (isActive t) plate j (omega (arith, counted p))) ∙ ap (λ (w : ℕ). bit w j) (sym e) ∙ o))
+      subst (λ (row : ℕ). is_active t row ≡ true) (get_or-take k rows j 0 g)
+      (passes (is_active t (get_or plate j 0)) (sym (marks-bit (is_active t) plate j (omega (arith, counted p))) ∙ ap (λ (w : ℕ). bit w j) (sym e) ∙ o))
     where
       passes : (b : Bool) → ◌≡◌ {A = ℕ} (cond b 1 0) 1 → b ≡ true
       passes true q = refl
       passes false q = absurd (omega arith)
 
-  section-is : held (sectionOf (rowsAmong rows which) t) ≡ sectionOf (take k rows) t
+  section-is : held (section_of (rows_among rows which) t) ≡ section_of (take k rows) t
   section-is =
-      ap (λ (w : ℕ). held (sectionOf (rowsAmong rows w) t)) e
-      ∙ ap (λ (l : List ℕ). held (sectionOf l t)) (among_first k rows (activeMarks plate t) (active-below p t))
-      ∙ section-of-active plate (activeMarks plate t) t (omega (arith, counted p, p.few)) (marks-bit (isActive t) plate)
+      ap (λ (w : ℕ). held (section_of (rows_among rows w) t)) e
+      ∙ ap (λ (l : List ℕ). held (section_of l t)) (among_first k rows (active_marks plate t) (active-below p t))
+      ∙ section-of-active plate (active_marks plate t) t (omega (arith, counted p, p.few)) (marks-bit (is_active t) plate)
 
   -- by whether a row begins
-  by-begins : {A : Type 0} → ((j : ℕ) → j < length (take k rows) → firsts (take k rows) j ≡ t → (sectionOf (take k rows) t).begins ≡ true → A)
-      → (((j : ℕ) → j < length (take k rows) → firsts (take k rows) j ≡ t → ⊥) → (sectionOf (take k rows) t).begins ≡ false → A) → A
-  by-begins {A} some none = go (sectionOf plate t).begins refl
+  by-begins : {A : Type 0} → ((j : ℕ) → j < length (take k rows) → firsts (take k rows) j ≡ t → (section_of (take k rows) t).begins ≡ true → A)
+      → (((j : ℕ) → j < length (take k rows) → firsts (take k rows) j ≡ t → ⊥) → (section_of (take k rows) t).begins ≡ false → A) → A
+  by-begins {A} some none = go (section_of plate t).begins refl
     where
-      go : (b : Bool) → (sectionOf (take k rows) t).begins ≡ b → A
+      go : (b : Bool) → (section_of (take k rows) t).begins ≡ b → A
       go true q = let b = (section-begins plate p.spans t).0 q in some b.row b.there b.here q
       go false q = none (none-begins plate p.spans t q) q
 
   -- where so many rows have begun behind the section, the last of them begins in it, or none does
-  module _ {next : ℕ} (b : next ≡ begunBefore (take k rows) (suc t)) where
+  module _ {next : ℕ} (b : next ≡ begun_before (take k rows) (suc t)) where
     pub last-there : {j : ℕ} → next ≡ suc j → j < k
     last-there q = omega (arith, b, begun-few (suc t) plate, counted p)
 
-    pub last_begins : {j : ℕ} → next ≡ suc j → firsts (take k rows) j ≡ t → liveMarks (take k rows) t + 2 ^ j ≡ which
+    pub last_begins : {j : ℕ} → next ≡ suc j → firsts (take k rows) j ≡ t → live_marks (take k rows) t + 2 ^ j ≡ which
     last_begins {j} q f = with-beginning plate p.spans t j (omega (arith, last-there q, counted p)) f ∙ sym e
 
     pub before_last : {j : ℕ} → next ≡ suc j → firsts (take k rows) j ≡ t
         → LiveAt (take k rows) t (record { marks = bit_xor which (1 * 2 ^ j % 2 ^ 64); next = j })
     before_last {j} q f = record {
-      marks-are = one-off which j (omega (arith, last-there q, p.few)) one ∙ omega (arith, last_begins q f);
-      next-is = sym (begun-row plate p.spans t (record { row = j; there = omega (arith, last-there q, counted p); here = f }));
+      marks_are = one-off which j (omega (arith, last-there q, p.few)) one ∙ omega (arith, last_begins q f);
+      next_is = sym (begun-row plate p.spans t (record { row = j; there = omega (arith, last-there q, counted p); here = f }));
     }
       where
         one : bit which j ≡ 1
@@ -153,24 +153,24 @@ module _ {rows : List ℕ} {k : ℕ} (p : PlateRows rows k) (t : ℕ) {which : �
     pub before-all : ((j : ℕ) → next ≡ suc j → firsts (take k rows) j ≡ t → ⊥) → LiveAt (take k rows) t (record { marks = which; next = next })
     before-all n =
         by-begins (λ j h f q. absurd (n j (begun q ∙ ap suc (begun-row plate p.spans t (record { row = j; there = h; here = f }))) f))
-        (λ m q. record { marks-are = e ∙ sym (without-beginning plate p.spans t m); next-is = begun q })
+        (λ m q. record { marks_are = e ∙ sym (without-beginning plate p.spans t m); next_is = begun q })
       where
-        begun : {x : Bool} → (sectionOf (take k rows) t).begins ≡ x → next ≡ more x (begunBefore (take k rows) t)
-        begun q = b ∙ begun-next plate p.spans t ∙ ap (λ (x : Bool). more x (begunBefore plate t)) q
+        begun : {x : Bool} → (section_of (take k rows) t).begins ≡ x → next ≡ more x (begun_before (take k rows) t)
+        begun q = b ∙ begun-next plate p.spans t ∙ ap (λ (x : Bool). more x (begun_before plate t)) q
 
   -- the section passed
   module _ {ends : List ℕ} (a : EndsAre (take k rows) ends) (h : t < 64) {before : Live} (l : LiveAt (take k rows) t before) where
     pub before-few : ones before.marks ≤ 64
     before-few =
-        let m : before.marks < 2 ^ length plate = subst (λ (w : ℕ). w < 2 ^ length plate) (sym l.marks-are) (marks-below (isLive t) plate) in
+        let m : before.marks < 2 ^ length plate = subst (λ (w : ℕ). w < 2 ^ length plate) (sym l.marks_are) (marks-below (is_live t) plate) in
         omega (arith, counted p, p.few, ones-le (length plate) before.marks m)
 
-    begins-is : ltb before.marks which ≡ (sectionOf (take k rows) t).begins
+    begins-is : ltb before.marks which ≡ (section_of (take k rows) t).begins
     begins-is =
-        by-begins (λ j g f q. lt-ltb before.marks which (omega (arith, e, l.marks-are, with-beginning plate p.spans t j g f, pow_pos j)) ∙ sym q)
-        (λ n q. le-ltb before.marks which (omega (arith, e, l.marks-are, without-beginning plate p.spans t n)) ∙ sym q)
+        by-begins (λ j g f q. lt-ltb before.marks which (omega (arith, e, l.marks_are, with-beginning plate p.spans t j g f, pow_pos j)) ∙ sym q)
+        (λ n q. le-ltb before.marks which (omega (arith, e, l.marks_are, without-beginning plate p.spans t n)) ∙ sym q)
 
-    pub passed-back : {ending column : ℕ} → ending ≡ endingBy which (get_or ends t 0) → column ≡ (held (sectionOf (rowsAmong rows which) t)).column
+    pub passed-back : {ending column : ℕ} → ending ≡ ending_by which (get_or ends t 0) → column ≡ (held (section_of (rows_among rows which) t)).column
         → PassedTo (take k rows) t
         (record {
           section = record {
@@ -187,14 +187,14 @@ module _ {rows : List ℕ} {k : ℕ} (p : PlateRows rows k) (t : ℕ) {which : �
       live = l;
     }
       where
-        lives : ones before.marks ≡ (sectionOf (take k rows) t).live
-        lives = ap ones l.marks-are ∙ live_ones plate t
+        lives : ones before.marks ≡ (section_of (take k rows) t).live
+        lives = ap ones l.marks_are ∙ live_ones plate t
 
-        ends_is : ltb 0 (get_or ends t 0) ≡ (sectionOf (take k rows) t).ends
+        ends_is : ltb 0 (get_or ends t 0) ≡ (section_of (take k rows) t).ends
         ends_is = (ending-by plate p.spans ends t a h).0
 
-        ending-is : ending ≡ (sectionOf (take k rows) t).ending
-        ending-is = n ∙ ap (λ (w : ℕ). endingBy w (get_or ends t 0)) e ∙ (ending-by plate p.spans ends t a h).1
+        ending-is : ending ≡ (section_of (take k rows) t).ending
+        ending-is = n ∙ ap (λ (w : ℕ). ending_by w (get_or ends t 0)) e ∙ (ending-by plate p.spans ends t a h).1
 
-        column-is : column ≡ (sectionOf (take k rows) t).column
+        column-is : column ≡ (section_of (take k rows) t).column
         column-is = m ∙ ap (λ (z : Section). z.column) section-is

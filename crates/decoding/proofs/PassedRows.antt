@@ -10,13 +10,13 @@ use native.Mathlib.Omega.{arith}
 use Prim.Native.Nat.{◌%◌, ◌*◌, ◌+◌, ◌-◌, ◌<◌, ◌^◌, suc, zero, zero-le, ℕ, ◌≤◌}
 use Rattle.decoding.proofs.BegunRows.{begun-row, next-only, none-begins}
 use Rattle.decoding.proofs.LiveMarks.{last-active, marks-below, marks-bit, with-beginning, with-ending, without-beginning}
-use Rattle.decoding.specs.LiveRows.{BeginsHere, EndsAre, PassedTo, PlateRows, activeMarks, begunBefore, liveMarks, mark_of}
+use Rattle.decoding.specs.LiveRows.{BeginsHere, EndsAre, PassedTo, PlateRows, active_marks, begun_before, live_marks, mark_of}
 use Rattle.plates.specs.Profile.{live}
 use Rattle.trellises.proofs.AmongRows.{shifted_one}
 use Rattle.trellises.proofs.OneBegins.{section-begins}
 use Rattle.trellises.specs.declared.Section.{Section}
-use Rattle.trellises.specs.RowsAmong.{rowsAmong}
-use Rattle.trellises.specs.SectionOf.{held, isActive, sectionOf}
+use Rattle.trellises.specs.RowsAmong.{rows_among}
+use Rattle.trellises.specs.SectionOf.{held, is_active, section_of}
 use Rattle.trellises.specs.Smallest.{Begins}
 use Rattle.words.proofs.Ends.{some-pos}
 use Rattle.words.proofs.Span.{first-unique, last-unique}
@@ -35,16 +35,16 @@ module _ {rows : List ℕ} {k : ℕ} (p : PlateRows rows k) where
     within : j < length plate
     within = omega (arith, counted)
 
-    one-there : 0 < get_or rows j 0
-    one-there = subst (λ (w : ℕ). 0 < w) (get_or-take k rows j 0 h) (some-pos (get_or plate j 0) (firsts plate j) (p.spans.first j within).one)
+    one_there : 0 < get_or rows j 0
+    one_there = subst (λ (w : ℕ). 0 < w) (get_or-take k rows j 0 h) (some-pos (get_or plate j 0) (firsts plate j) (p.spans.first j within).one)
 
     pub row_first : {r : ℕ} → FirstOne (get_or rows j 0) r → r ≡ firsts (take k rows) j
     row_first {r} f =
-        first-unique (f.some one-there) (subst (λ (w : ℕ). First w (firsts plate j)) (get_or-take k rows j 0 h) (p.spans.first j within))
+        first-unique (f.some one_there) (subst (λ (w : ℕ). First w (firsts plate j)) (get_or-take k rows j 0 h) (p.spans.first j within))
 
     pub row_last : {r : ℕ} → LastOne (get_or rows j 0) r → r ≡ lasts (take k rows) j
     row_last {r} l =
-        last-unique (l.some one-there) (subst (λ (w : ℕ). Last w (lasts plate j)) (get_or-take k rows j 0 h) (p.spans.last j within))
+        last-unique (l.some one_there) (subst (λ (w : ℕ). Last w (lasts plate j)) (get_or-take k rows j 0 h) (p.spans.last j within))
 
     pub row_ends : {r : ℕ} → LastOne (get_or rows j 0) r → r < 64
     unfolding last
@@ -53,29 +53,29 @@ module _ {rows : List ℕ} {k : ℕ} (p : PlateRows rows k) where
   -- ---- section t: what joins the live rows on one side, so that they are the active ones
 
   module _ (t : ℕ) where
-    pub active-below : activeMarks (take k rows) t < 2 ^ k
-    active-below = subst (λ (n : ℕ). activeMarks plate t < 2 ^ n) counted (marks-below (isActive t) plate)
+    pub active-below : active_marks (take k rows) t < 2 ^ k
+    active-below = subst (λ (n : ℕ). active_marks plate t < 2 ^ n) counted (marks-below (is_active t) plate)
 
-    pub active-fits : {which : ℕ} → which ≡ activeMarks (take k rows) t → which < 2 ^ 64
+    pub active-fits : {which : ℕ} → which ≡ active_marks (take k rows) t → which < 2 ^ 64
     active-fits e = subst (λ (w : ℕ). w < 2 ^ 64) (sym e) (lt_of_lt_of_le active-below (pow_mono p.few))
 
     -- the next row to begin, where it begins here
-    module _ {next : ℕ} (b : next ≡ begunBefore (take k rows) t) where
-      none-joins : (next < k → firsts (take k rows) next ≡ t → ⊥) → liveMarks (take k rows) t + 0 ≡ activeMarks (take k rows) t
+    module _ {next : ℕ} (b : next ≡ begun_before (take k rows) t) where
+      none-joins : (next < k → firsts (take k rows) next ≡ t → ⊥) → live_marks (take k rows) t + 0 ≡ active_marks (take k rows) t
       none-joins n =
-          let here : begunBefore plate t < length plate → firsts plate (begunBefore plate t) ≡ t → ⊥ =
+          let here : begun_before plate t < length plate → firsts plate (begun_before plate t) ≡ t → ⊥ =
           λ l e. n (omega (arith, counted)) (ap (firsts plate) b ∙ e) in
           omega (arith, without-beginning plate p.spans t (next-only plate p.spans t here))
 
-      next-joins : next < k → firsts (take k rows) next ≡ t → liveMarks (take k rows) t + 1 * 2 ^ next % 2 ^ 64 ≡ activeMarks (take k rows) t
+      next-joins : next < k → firsts (take k rows) next ≡ t → live_marks (take k rows) t + 1 * 2 ^ next % 2 ^ 64 ≡ active_marks (take k rows) t
       next-joins h e =
-          ap (λ (m : ℕ). liveMarks plate t + m) (shifted_one next (omega (arith, p.few)))
+          ap (λ (m : ℕ). live_marks plate t + m) (shifted_one next (omega (arith, p.few)))
           ∙ with-beginning plate p.spans t next (omega (arith, counted)) e
 
       pub none_here : (next < k → firsts (take k rows) next ≡ t → ⊥) → BeginsHere (take k rows) t (record { row = 0; mark = 0 })
-      none_here n = record { row = go (sectionOf plate t).begins refl; mark = none-joins n }
+      none_here n = record { row = go (section_of plate t).begins refl; mark = none-joins n }
         where
-          go : (g : Bool) → (sectionOf (take k rows) t).begins ≡ g → 0 ≡ cond g (get_or (take k rows) (begunBefore (take k rows) t) 0) 0
+          go : (g : Bool) → (section_of (take k rows) t).begins ≡ g → 0 ≡ cond g (get_or (take k rows) (begun_before (take k rows) t) 0) 0
           go false q = refl
           go true q =
               let a = (section-begins plate p.spans t).0 q in
@@ -86,7 +86,7 @@ module _ {rows : List ℕ} {k : ℕ} (p : PlateRows rows k) where
           → BeginsHere (take k rows) t (record { row = get_or rows next 0; mark = 1 * 2 ^ next % 2 ^ 64 })
       next_here h e = record {
         row = sym (get_or-take k rows next 0 h) ∙ ap (λ (j : ℕ). get_or plate j 0) b
-            ∙ sym (ap (λ (g : Bool). cond g (get_or plate (begunBefore plate t) 0) 0) ((section-begins plate p.spans t).1 (record { row = next; there = omega (arith, counted); here = e })));
+            ∙ sym (ap (λ (g : Bool). cond g (get_or plate (begun_before plate t) 0) 0) ((section-begins plate p.spans t).1 (record { row = next; there = omega (arith, counted); here = e })));
         mark = next-joins h e;
       }
 
@@ -99,7 +99,7 @@ module _ {rows : List ℕ} {k : ℕ} (p : PlateRows rows k) where
           go zero q = zero-le
           go (suc j) q = let s = a.some t j h q in omega (arith, counted, p.few)
 
-      pub ending-joins : {live mark : ℕ} → live ≡ liveMarks (take k rows) (suc t) → mark ≡ mark_of (get_or ends t 0) → live + mark ≡ activeMarks (take k rows) t
+      pub ending-joins : {live mark : ℕ} → live ≡ live_marks (take k rows) (suc t) → mark ≡ mark_of (get_or ends t 0) → live + mark ≡ active_marks (take k rows) t
       ending-joins l m = ap₂ ◌+◌ l m ∙ with-ending plate p.spans ends t a h
 
 -- the bit of a row, by one more than the row

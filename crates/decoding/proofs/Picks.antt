@@ -14,27 +14,27 @@ use Rattle.decoding.specs.Choosing.{AloneFits, AloneTaken, ChoiceFits, Chosen}
 use Rattle.decoding.specs.declared.blocks.Picked.{Picked}
 use Rattle.decoding.specs.declared.choices.Choice.{Choice}
 use Rattle.decoding.specs.declared.Counts.{Counts}
-use Rattle.decoding.specs.Picking.{Lone, LoneFits, LoneTaken, PickFits, PickTaken, loneMetric, pickMetric, picksSecond}
+use Rattle.decoding.specs.Picking.{Lone, LoneFits, LoneTaken, PickFits, PickTaken, lone_metric, pick_metric, picks_second}
 
 copy : (z : ℤ) (n : ℕ) → n ≤ 2 ^ 30 → nat_abs z ≤ n → kept z ≡ z
 copy z n k h = back z (omega arith)
 
 module _ {M : List ℤ} {at : ℕ} {near signs : List ℤ} {side i : ℕ} (h : Lone M at near signs side) (l : i < 32) where
   -- the machine's copies of the old metric and of the sign
-  near-small : nat_abs (get_or near i (pos 0)) ≤ 2 ^ 27
-  near-small = h.near-small i l
+  near_small : nat_abs (get_or near i (pos 0)) ≤ 2 ^ 27
+  near_small = h.near_small i l
 
   sign_small : nat_abs (get_or signs (side + i) (pos 0)) ≤ 2 ^ 20
-  sign_small = h.sign_small (side + i) (omega (arith, h.side-le))
+  sign_small = h.sign_small (side + i) (omega (arith, h.side_le))
 
   near-copy : kept ((get_or near i (pos 0))) ≡ get_or near i (pos 0)
-  near-copy = copy _ (2 ^ 27) (omega arith) near-small
+  near-copy = copy _ (2 ^ 27) (omega arith) near_small
 
   sign-copied : kept ((get_or signs (side + i) (pos 0))) ≡ get_or signs (side + i) (pos 0)
   sign-copied = copy _ (2 ^ 20) (omega arith) sign_small
 
-  sum-small : nat_abs (loneMetric near signs side i) ≤ 2 ^ 30
-  sum-small = omega (arith, abs-add (get_or signs (side + i) (pos 0)) (get_or near i (pos 0)), near-small, sign_small)
+  sum-small : nat_abs (lone_metric near signs side i) ≤ 2 ^ 30
+  sum-small = omega (arith, abs-add (get_or signs (side + i) (pos 0)) (get_or near i (pos 0)), near_small, sign_small)
 
 -- a state that one branch leaves
 module _ {M : List ℤ} {at : ℕ} {near signs : List ℤ} {side i : ℕ} {k : Counts} (h : LoneFits M at near signs side i k) where
@@ -46,12 +46,12 @@ module _ {M : List ℤ} {at : ℕ} {near signs : List ℤ} {side i : ℕ} {k : C
 
   pub lone-asks : AloneFits (kept (get_or near i (pos 0))) (kept (get_or signs (side + i) (pos 0))) k
   lone-asks =
-      rw (is-near, is-sign) (record { near = near-small h.strip h.state; sign = sign_small h.strip h.state; additions = h.additions })
+      rw (is-near, is-sign) (record { near = near_small h.strip h.state; sign = sign_small h.strip h.state; additions = h.additions })
 
   pub lone-done : {t : Choice} → AloneTaken (kept (get_or near i (pos 0))) (kept (get_or signs (side + i) (pos 0))) k t
       → LoneTaken M at near signs side i k (set M (at + i) (kept t.metric)) t.counts
   lone-done {t} g =
-      let e : t.metric ≡ loneMetric near signs side i = rw (is-near, is-sign) at g.metric in
+      let e : t.metric ≡ lone_metric near signs side i = rw (is-near, is-sign) at g.metric in
       record {
         metric = ap (λ (z : ℤ). set M (at + i) z) (ap kept e ∙ back _ (sum-small h.strip h.state));
         additions = g.additions;
@@ -77,40 +77,40 @@ module _ {M : List ℤ} {at : ℕ} {near far : List ℤ} {weights : List ℕ} {s
   abbrev u : ℤ
   u = kept (get_or ties (side + i) (pos 0))
 
-  far-small : nat_abs (get_or far i (pos 0)) ≤ 2 ^ 27
-  far-small = h.strip.far-small i h.state
+  far_small : nat_abs (get_or far i (pos 0)) ≤ 2 ^ 27
+  far_small = h.strip.far_small i h.state
 
-  tie-small : nat_abs (get_or ties (side + i) (pos 0)) ≤ 1
-  tie-small = h.strip.tie-small (side + i) (omega (arith, h.strip.lone.side-le, h.state))
+  tie_small : nat_abs (get_or ties (side + i) (pos 0)) ≤ 1
+  tie_small = h.strip.tie_small (side + i) (omega (arith, h.strip.lone.side_le, h.state))
 
   is-a : a ≡ get_or near i (pos 0)
   is-a = near-copy h.strip.lone h.state
 
   is_b : b ≡ get_or far i (pos 0)
-  is_b = copy _ (2 ^ 27) (omega arith) far-small
+  is_b = copy _ (2 ^ 27) (omega arith) far_small
 
   is-q : q ≡ get_or signs (side + i) (pos 0)
   is-q = sign-copied h.strip.lone h.state
 
   is-u : u ≡ get_or ties (side + i) (pos 0)
-  is-u = copy _ 1 (omega arith) tie-small
+  is-u = copy _ 1 (omega arith) tie_small
 
   pub pick-asks : ChoiceFits a b q u p.counts
   pick-asks = rw (is-a, is_b, is-q, is-u) (record {
-    near = near-small h.strip.lone h.state;
-    far = far-small;
+    near = near_small h.strip.lone h.state;
+    far = far_small;
     sign = sign_small h.strip.lone h.state;
-    tie = tie-small;
+    tie = tie_small;
     additions = h.additions;
     comparisons = h.comparisons;
   })
 
   module _ {t : Choice} (g : Chosen a b q u p.counts t) {v : ℕ} (ev : v ≡ cond (eqb t.second 0) 0 (get_or weights i 0)) where
     abbrev takes : Bool
-    takes = picksSecond near far signs ties side i
+    takes = picks_second near far signs ties side i
 
-    metric-is : t.metric ≡ pickMetric near far signs ties side i
-    metric-is = rw (is-a, is_b, is-q, is-u) at g.metric
+    metric_is : t.metric ≡ pick_metric near far signs ties side i
+    metric_is = rw (is-a, is_b, is-q, is-u) at g.metric
 
     second_is : t.second ≡ cond takes 1 0
     second_is = rw (is-a, is_b, is-q, is-u) at g.second
@@ -124,21 +124,21 @@ module _ {M : List ℤ} {at : ℕ} {near far : List ℤ} {weights : List ℕ} {s
         ev ∙ ap (λ (n : ℕ). cond (eqb n 0) 0 (get_or weights i 0)) second_is ∙ by-second (get_or weights i 0) takes
         ∙ ap (λ (n : ℕ). cond takes n 0) (h.strip.masks.weight i h.state)
 
-    metric-small : nat_abs (pickMetric near far signs ties side i) ≤ 2 ^ 30
+    metric-small : nat_abs (pick_metric near far signs ties side i) ≤ 2 ^ 30
     metric-small =
         size-cond takes _ _
         (omega (
           arith,
           abs-add (get_or far i (pos 0)) (neg_ℤ (get_or signs (side + i) (pos 0))),
           abs_neg (get_or signs (side + i) (pos 0)),
-          far-small,
+          far_small,
           sign_small h.strip.lone h.state,
         ))
         (sum-small h.strip.lone h.state)
 
     pub pick-done : PickTaken M at near far signs ties side i p (set M (at + i) (kept t.metric)) (record { word = bit_or p.word v; counts = t.counts })
     pick-done = record {
-      metric = ap (λ (z : ℤ). set M (at + i) z) (ap kept metric-is ∙ back _ metric-small);
+      metric = ap (λ (z : ℤ). set M (at + i) z) (ap kept metric_is ∙ back _ metric-small);
       word = ap (bit_or p.word) weight_is ∙ packed_above i p.word h.short takes;
       additions = g.additions;
       comparisons = g.comparisons;

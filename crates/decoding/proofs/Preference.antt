@@ -8,8 +8,8 @@ use mir.Syntax.{w32}
 use mir.Val.{SFits, of_z, to_z}
 use native.Mathlib.Omega.{arith}
 use Prim.Native.Nat.{◌<◌, ◌^◌, suc, zero, ℕ, ◌≤◌}
-use Rattle.decoding.proofs.Integers.{abs-add, abs_neg, back, difference-fits, difference-is, sum_fits, sum_is}
-use Rattle.decoding.specs.Choosing.{takesSecond}
+use Rattle.decoding.proofs.Integers.{abs-add, abs_neg, back, difference-fits, difference_is, sum_fits, sum_is}
+use Rattle.decoding.specs.Choosing.{takes_second}
 use Rattle.decoding.specs.Taking.{signed}
 
 -- the bit 1 adds the negation
@@ -51,7 +51,7 @@ module _ (a b q t : ℤ) (ha : nat_abs a ≤ 2 ^ 27) (hb : nat_abs b ≤ 2 ^ 27)
   second_fits = difference-fits b q eb eq (omega arith) (omega arith)
 
   second_is : to_z w32 (of_z w32 (b' -ℤ q')) ≡ b -ℤ q
-  second_is = difference-is b q eb eq (omega arith) (omega arith)
+  second_is = difference_is b q eb eq (omega arith) (omega arith)
 
   second-size : nat_abs (b -ℤ q) ≤ 2 ^ 28
   second-size = omega (arith, abs-add b (neg_ℤ q), abs_neg q)
@@ -63,15 +63,15 @@ module _ (a b q t : ℤ) (ha : nat_abs a ≤ 2 ^ 27) (hb : nat_abs b ≤ 2 ^ 27)
   raised_is = sum_is (b -ℤ q) t second_is et (omega (arith, second-size)) (omega arith)
 
   pub taken_is : (d : ℕ) → d ≡ cond (lt_z (to_z w32 (of_z w32 (q' +ℤ a'))) (to_z w32 (of_z w32 (to_z w32 (of_z w32 (b' -ℤ q')) +ℤ t')))) 1 0
-      → d ≡ cond (takesSecond a b q t) 1 0
+      → d ≡ cond (takes_second a b q t) 1 0
   taken_is d e = rw (first-is, raised_is) at e
 
-  pub metric-is : (d : ℕ) (r : ℤ) → d ≡ cond (takesSecond a b q t) 1 0
+  pub metric_is : (d : ℕ) (r : ℤ) → d ≡ cond (takes_second a b q t) 1 0
       → r ≡ cond (eqb d 0) (to_z w32 (of_z w32 (q' +ℤ a'))) (to_z w32 (of_z w32 (b' -ℤ q')))
-      → to_z w32 (of_z w32 r) ≡ cond (takesSecond a b q t) (b -ℤ q) (q +ℤ a)
-  metric-is d r ed er =
-      let e : r ≡ cond (takesSecond a b q t) (b -ℤ q) (q +ℤ a) =
+      → to_z w32 (of_z w32 r) ≡ cond (takes_second a b q t) (b -ℤ q) (q +ℤ a)
+  metric_is d r ed er =
+      let e : r ≡ cond (takes_second a b q t) (b -ℤ q) (q +ℤ a) =
       er ∙ ap (λ (n : ℕ). cond (eqb n 0) (to_z w32 (of_z w32 (q' +ℤ a'))) (to_z w32 (of_z w32 (b' -ℤ q')))) ed
-      ∙ by-test (takesSecond a b q t) _ _ ∙ ap₂ (λ (x y : ℤ). cond (takesSecond a b q t) x y) second_is first-is in
+      ∙ by-test (takes_second a b q t) _ _ ∙ ap₂ (λ (x y : ℤ). cond (takes_second a b q t) x y) second_is first-is in
       ap (λ (z : ℤ). to_z w32 (of_z w32 z)) e
-      ∙ back _ (size-cond (takesSecond a b q t) (b -ℤ q) (q +ℤ a) (omega (arith, second-size)) (omega (arith, abs-add q a)))
+      ∙ back _ (size-cond (takes_second a b q t) (b -ℤ q) (q +ℤ a) (omega (arith, second-size)) (omega (arith, abs-add q a)))

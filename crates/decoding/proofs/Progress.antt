@@ -20,12 +20,12 @@ use Rattle.decoding.specs.declared.Counts.{Counts}
 use Rattle.decoding.specs.declared.states.Run.{Run}
 use Rattle.decoding.specs.Halves.{BlockReady}
 use Rattle.decoding.specs.Patterns.{Pattern}
-use Rattle.decoding.specs.Running.{Part, Ready, RunFits, addsOf, comparesOf}
+use Rattle.decoding.specs.Running.{Part, Ready, RunFits, adds_of, compares_of}
 use Rattle.decoding.specs.Stepping.{StepFits, Stepped, olds}
 use Rattle.decoding.specs.Tables.{FillFits, Tables, Weights}
-use Rattle.decoding.specs.Taking.{Taken, atState, counting}
+use Rattle.decoding.specs.Taking.{Taken, at_state, counting}
 use Rattle.trellises.specs.declared.Section.{Section}
-use Rattle.trellises.specs.Numbers.{bit_of, leadsTo}
+use Rattle.trellises.specs.Numbers.{bit_of, leads_to}
 use Rattle.words.specs.Word.{bit}
 
 -- how many decision words 64 states or more have
@@ -37,7 +37,7 @@ make a b = record { additions = a; comparisons = b }
 
 -- what n states count
 counting-is : (c : Section) (y : ℤ) (old : ℕ → ℤ) (n : ℕ) (k : Counts)
-    → counting c y old n k ≡ record { additions = k.additions + n * addsOf c; comparisons = k.comparisons + n * comparesOf c }
+    → counting c y old n k ≡ record { additions = k.additions + n * adds_of c; comparisons = k.comparisons + n * compares_of c }
 counting-is c y old zero k = ap₂ make (omega arith) (omega arith)
 counting-is c y old (suc n) k =
     let h = counting-is c y old n k in
@@ -45,11 +45,11 @@ counting-is c y old (suc n) k =
     (ap₂ ◌+◌ (ap (λ (z : Counts). z.additions) h) (adds c.begins refl) ∙ omega arith)
     (ap₂ ◌+◌ (ap (λ (z : Counts). z.comparisons) h) (compares c.begins refl) ∙ omega arith)
   where
-    adds : (b : Bool) → c.begins ≡ b → (atState c y old n).additions ≡ cond c.begins 2 1
+    adds : (b : Bool) → c.begins ≡ b → (at_state c y old n).additions ≡ cond c.begins 2 1
     adds true e = rw e
     adds false e = rw e
 
-    compares : (b : Bool) → c.begins ≡ b → (atState c y old n).comparisons ≡ cond c.begins 1 0
+    compares : (b : Bool) → c.begins ≡ b → (at_state c y old n).comparisons ≡ cond c.begins 1 0
     compares true e = rw e
     compares false e = rw e
 
@@ -58,22 +58,22 @@ pub step-ready : (M : List ℤ) (from to : ℕ) (D : List ℕ) (c : Section) (y 
 step-ready M from to D c y k h = record {
   section = h.section;
   gain = h.gain;
-  place = λ x l. omega (arith, h.leads x l, h.old-room);
-  small = λ x l. h.small (leadsTo c x) (h.leads x l);
+  place = λ x l. omega (arith, h.leads x l, h.old_room);
+  small = λ x l. h.small (leads_to c x) (h.leads x l);
   apart = λ x l. ⊎_elim (λ a. inl (omega (arith, h.leads x l))) (λ a. inr (omega arith)) h.apart;
-  room = h.new-room;
+  room = h.new_room;
 }
 
 module _ (M : List ℤ) (from to : ℕ) (D : List ℕ) (c : Section) (y : ℤ) (k : Counts) where
   pub record Upto (n : ℕ) (M₁ : List ℤ) (D₁ : List ℕ) (k₁ : Counts) : Type 0 where
     pub within : n ≤ 2 ^ c.live
     pub size : length M₁ ≡ length M
-    pub metric : (i : ℕ) → i < n → olds M₁ to i ≡ (atState c y (olds M from) i).metric
+    pub metric : (i : ℕ) → i < n → olds M₁ to i ≡ (at_state c y (olds M from) i).metric
     pub others : (j : ℕ) → (j < to) ⊎ (to + n ≤ j) → get_or M₁ j (pos 0) ≡ get_or M j (pos 0)
     pub words : length D₁ ≡ length D
-    pub decision : 0 < length D → (i : ℕ) → i < n → bit (get_or D₁ (i / 64) 0) (i % 64) ≡ (atState c y (olds M from) i).bit
-    pub additions : k₁.additions ≡ k.additions + n * addsOf c
-    pub comparisons : k₁.comparisons ≡ k.comparisons + n * comparesOf c
+    pub decision : 0 < length D → (i : ℕ) → i < n → bit (get_or D₁ (i / 64) 0) (i % 64) ≡ (at_state c y (olds M from) i).bit
+    pub additions : k₁.additions ≡ k.additions + n * adds_of c
+    pub comparisons : k₁.comparisons ≡ k.comparisons + n * compares_of c
 
   pub upto-none : Upto 0 M D k
   upto-none = record {
@@ -113,34 +113,34 @@ module _ (M : List ℤ) (from to : ℕ) (D : List ℕ) (c : Section) (y : ℤ) (
         word = l;
         states = g;
         pattern = p;
-        additions = omega (arith, u.additions, h.additions, times-le (a * 64) (2 ^ 12) (addsOf c) 2 few (adds-le c));
-        comparisons = omega (arith, u.comparisons, h.comparisons, times-le (a * 64) (2 ^ 12) (comparesOf c) 1 few (compares-le c));
+        additions = omega (arith, u.additions, h.additions, times-le (a * 64) (2 ^ 12) (adds_of c) 2 few (adds-le c));
+        comparisons = omega (arith, u.comparisons, h.comparisons, times-le (a * 64) (2 ^ 12) (compares_of c) 1 few (compares-le c));
       }
 
       -- that word done
       module _ (n : ℕ) (l : n ≤ 64) (g : a * 64 + n ≤ 2 ^ c.live) (M₂ : List ℤ) (D₂ : List ℕ) (k₂ : Counts)
           (b : Block M₁ from to D₁ c y a n k₁ M₂ D₂ k₂) where
-        same : (i : ℕ) → i < 2 ^ c.live → atState c y (olds M₁ from) i ≡ atState c y (olds M from) i
+        same : (i : ℕ) → i < 2 ^ c.live → at_state c y (olds M₁ from) i ≡ at_state c y (olds M from) i
         same = state-same M from to c y (step-ready M from to D c y k h) M₁ u.size others-all
 
-        metric : (i : ℕ) → i < a * 64 + n → olds M₂ to i ≡ (atState c y (olds M from) i).metric
+        metric : (i : ℕ) → i < a * 64 + n → olds M₂ to i ≡ (at_state c y (olds M from) i).metric
         metric i m = ⊎_elim low high (below_or (a * 64) n i m)
           where
-            low : i < a * 64 → olds M₂ to i ≡ (atState c y (olds M from) i).metric
+            low : i < a * 64 → olds M₂ to i ≡ (at_state c y (olds M from) i).metric
             low q = b.part.others (to + i) (inl (omega arith)) ∙ u.metric i q
 
-            high : (j : ℕ) × ((j < n) × (i ≡ a * 64 + j)) → olds M₂ to i ≡ (atState c y (olds M from) i).metric
+            high : (j : ℕ) × ((j < n) × (i ≡ a * 64 + j)) → olds M₂ to i ≡ (at_state c y (olds M from) i).metric
             high (j, (q, e)) = rw e (b.part.metric j q ∙ ap (λ (s : Taken). s.metric) (same (a * 64 + j) (omega arith)))
 
-        decision : 0 < length D → (i : ℕ) → i < a * 64 + n → bit (get_or D₂ (i / 64) 0) (i % 64) ≡ (atState c y (olds M from) i).bit
+        decision : 0 < length D → (i : ℕ) → i < a * 64 + n → bit (get_or D₂ (i / 64) 0) (i % 64) ≡ (at_state c y (olds M from) i).bit
         decision some i m = ap (λ (d : List ℕ). bit (get_or d (i / 64) 0) (i % 64)) b.stored ∙ ⊎_elim low high (below_or (a * 64) n i m)
           where
-            low : i < a * 64 → bit (get_or (set D₁ a b.word) (i / 64) 0) (i % 64) ≡ (atState c y (olds M from) i).bit
+            low : i < a * 64 → bit (get_or (set D₁ a b.word) (i / 64) 0) (i % 64) ≡ (at_state c y (olds M from) i).bit
             low q =
                 let e : i / 64 ≡ a → ⊥ = λ z. omega arith in
                 rw (get_or-set_other D₁ a (i / 64) b.word 0 e) (u.decision some i q)
 
-            high : (j : ℕ) × ((j < n) × (i ≡ a * 64 + j)) → bit (get_or (set D₁ a b.word) (i / 64) 0) (i % 64) ≡ (atState c y (olds M from) i).bit
+            high : (j : ℕ) × ((j < n) × (i ≡ a * 64 + j)) → bit (get_or (set D₁ a b.word) (i / 64) 0) (i % 64) ≡ (at_state c y (olds M from) i).bit
             high (j, (q, e)) =
                 let d : i / 64 ≡ a = omega arith in
                 let r : i % 64 ≡ j = omega arith in
@@ -203,19 +203,19 @@ module _ {M : List ℤ} {from to : ℕ} {D : List ℕ} {c : Section} {y : ℤ} {
 pub record WordsDone (M : List ℤ) (from to : ℕ) (D : List ℕ) (c : Section) (y : ℤ) (words : ℕ) (k : Counts) (at : ℕ) (M₁ : List ℤ) (D₁ : List ℕ)
     (near far : List ℤ) (k₁ : Counts) : Type 0 where
   pub count : words * 64 ≡ 2 ^ c.live
-  pub near-size : length near ≡ 32
-  pub far-size : length far ≡ 32
+  pub near_size : length near ≡ 32
+  pub far_size : length far ≡ 32
   pub done : Upto M from to D c y k (at * 64) M₁ D₁ k₁
 
 -- the tables are filled
 pub fill-asks : {M : List ℤ} {from to : ℕ} {D : List ℕ} {c : Section} {y : ℤ} {k : Counts} → StepFits M from to D c y k
     → {signs ties : List ℤ} {weights : List ℕ} → length signs ≡ 64 → length ties ≡ 64 → Weights weights → FillFits signs ties weights (kept y)
-fill-asks h s t m = rw (gain-kept h) (record { signs-size = s; ties-size = t; masks = m; gain = h.gain })
+fill-asks h s t m = rw (gain-kept h) (record { signs_size = s; ties_size = t; masks = m; gain = h.gain })
 
 module _ {M : List ℤ} {from to : ℕ} {D : List ℕ} {c : Section} {y : ℤ} {k : Counts} (wide : 6 ≤ c.live) (h : StepFits M from to D c y k) where
   pub words-none : {words : ℕ} → words ≡ 2 ^ (c.live - 6) → {near far : List ℤ} → length near ≡ 32 → length far ≡ 32
       → WordsDone M from to D c (kept y) words k 0 M D near far k
-  words-none {words} e n f = record { count = word_count c.live words wide e; near-size = n; far-size = f; done = upto-none M from to D c (kept y) k }
+  words-none {words} e n f = record { count = word_count c.live words wide e; near_size = n; far_size = f; done = upto-none M from to D c (kept y) k }
 
   module _ {words at : ℕ} {M₁ : List ℤ} {D₁ : List ℕ} {near far : List ℤ} {k₁ : Counts}
       (s : WordsDone M from to D c (kept y) words k at M₁ D₁ near far k₁) where
@@ -241,8 +241,8 @@ module _ {M : List ℤ} {from to : ℕ} {D : List ℕ} {c : Section} {y : ℤ} {
         word = v;
         pattern = λ i g. ap (λ (x : ℕ). bit x i) e ∙ low_word w i g ∙ p.bits i (omega arith);
         tables = t;
-        near-size = s.near-size;
-        far-size = s.far-size;
+        near_size = s.near_size;
+        far_size = s.far_size;
       }
 
       pub word_fits : {w : ℕ} → Pattern c.column w → BlockFits M₁ from to c (kept y) w at 64 k₁
@@ -254,7 +254,7 @@ module _ {M : List ℤ} {from to : ℕ} {D : List ℕ} {c : Section} {y : ℤ} {
           let e : (at + 1) * 64 ≡ at * 64 + 64 = omega arith in
           record {
             count = s.count;
-            near-size = b.near-size;
-            far-size = b.far-size;
+            near_size = b.near_size;
+            far_size = b.far_size;
             done = rw e (upto-more M from to D c (kept y) k (asked h) at M₁ D₁ k₁ s.done 64 (omega arith) next-within M₂ D₂ k₂ b.block);
           }

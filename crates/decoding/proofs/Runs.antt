@@ -14,18 +14,18 @@ use Rattle.decoding.proofs.Parts.{join, part-others, still-ready}
 use Rattle.decoding.proofs.Targets.{live-le}
 use Rattle.decoding.specs.declared.Counts.{Counts}
 use Rattle.decoding.specs.declared.states.Run.{Run}
-use Rattle.decoding.specs.Running.{Part, Ready, RunFits, StateFits, addsOf, comparesOf}
+use Rattle.decoding.specs.Running.{Part, Ready, RunFits, StateFits, adds_of, compares_of}
 use Rattle.trellises.specs.declared.Section.{Section}
 
 -- a state adds at most two branches and makes at most one comparison
-pub adds-le : (c : Section) → addsOf c ≤ 2
+pub adds-le : (c : Section) → adds_of c ≤ 2
 adds-le c = go c.begins
   where
     go : (b : Bool) → cond b 2 1 ≤ 2
     go true = omega arith
     go false = omega arith
 
-pub compares-le : (c : Section) → comparesOf c ≤ 1
+pub compares-le : (c : Section) → compares_of c ≤ 1
 compares-le c = go c.begins
   where
     go : (b : Bool) → cond b 1 0 ≤ 1
@@ -55,10 +55,10 @@ module _ (M : List ℤ) (from to : ℕ) (c : Section) (y : ℤ) where
     after-ready = still-ready M from to c y ready M₁ p.size (part-others M from to c y ready (lo + i) (n - i) (omega arith) k M₁ _ p)
 
     pub adds-room : k₁.additions ≤ k.additions + 2 * (n - i)
-    adds-room = omega (arith, p.additions, times-le (n - i) (n - i) (addsOf c) 2 (omega arith) (adds-le c))
+    adds-room = omega (arith, p.additions, times-le (n - i) (n - i) (adds_of c) 2 (omega arith) (adds-le c))
 
     pub compares-room : k₁.comparisons ≤ k.comparisons + (n - i)
-    compares-room = omega (arith, p.comparisons, times-le (n - i) (n - i) (comparesOf c) 1 (omega arith) (compares-le c))
+    compares-room = omega (arith, p.comparisons, times-le (n - i) (n - i) (compares_of c) 1 (omega arith) (compares-le c))
 
     pub lower : (M₂ : List ℤ) (r : Run) (z : ℕ) → Part M₁ from to c y (lo + (i - d)) d k₁ M₂ r → z ≡ v * 2 ^ d + r.word
         → Part M from to c y (lo + (i - d)) (n - (i - d)) k M₂ (record { word = z; counts = r.counts })

@@ -13,7 +13,7 @@ use native.Mathlib.Nat.{le_refl}
 use native.Mathlib.Omega.{arith}
 use Prim.Native.Nat.{◌+◌, ◌<◌, suc, zero, ℕ, ◌≤◌}
 use Rattle.decoding.proofs.MetricBounds.{Within}
-use Rattle.decoding.specs.Decode.{SampleOver, sampleCount}
+use Rattle.decoding.specs.Decode.{SampleOver, sample_count}
 use Rattle.decoding.specs.Metric.{limit}
 use Rattle.decoding.specs.Searching.{IsOver}
 use Rattle.plates.specs.declared.Plate.{Plate}
@@ -26,8 +26,8 @@ over-high (pos a) e = ltb-true limit a e
 over-high (negsuc a) e = absurd (false≢true e)
 
 pub over-low : (y : ℤ) → lt_z (pos limit) y ≡ false → IsOver y (lt_z y (negsuc 2046))
-over-low (pos a) e = record { yes-is = λ f. absurd (false≢true f); no-is = λ f. ltb-false limit a e }
-over-low (negsuc a) e = record { yes-is = λ f. omega (arith, ltb-true 2046 a f); no-is = λ f. omega (arith, ltb-false 2046 a f) }
+over-low (pos a) e = record { yes_is = λ f. absurd (false≢true f); no_is = λ f. ltb-false limit a e }
+over-low (negsuc a) e = record { yes_is = λ f. omega (arith, ltb-true 2046 a f); no_is = λ f. omega (arith, ltb-false 2046 a f) }
 
 -- one more sample within the limit
 pub passed : (samples : List ℤ) (i : ℕ) → ((j : ℕ) → j < i → nat_abs (get_or samples j (pos 0)) ≤ limit) → nat_abs (get_or samples i (pos 0)) ≤ limit
@@ -56,7 +56,7 @@ none_over samples n i k = upto (length samples) (le_refl (length samples)) i k
     upto (suc j) h i k = passed samples j (upto j (omega arith)) (here j h (upto j (omega arith)) (dec_le (nat_abs (get_or samples j (pos 0))) limit)) i (omega arith)
 
 -- samples whose number is not refused are n
-pub samples-are-n : (plate : Plate) (samples : List ℤ) → ((q : Refusal) → sampleCount plate samples q → ⊥) → length samples ≡ plate.n
+pub samples-are-n : (plate : Plate) (samples : List ℤ) → ((q : Refusal) → sample_count plate samples q → ⊥) → length samples ≡ plate.n
 samples-are-n plate samples passes = go (ℕ_discrete (length samples) plate.n)
   where
     go : Dec (length samples ≡ plate.n) → length samples ≡ plate.n

@@ -12,7 +12,7 @@ use Rattle.decoding.proofs.Digits.{bit_high, bit-low, cat-lt}
 use Rattle.decoding.proofs.Parts.{below_or}
 use Rattle.decoding.specs.declared.blocks.Picked.{Picked}
 use Rattle.decoding.specs.declared.Counts.{Counts}
-use Rattle.decoding.specs.Picking.{Lone, LoneFits, LoneTaken, Lones, LonesFit, PickFits, PickTaken, Picks, PicksFit, Stored, loneMetric, pickMetric, picksSecond}
+use Rattle.decoding.specs.Picking.{Lone, LoneFits, LoneTaken, Lones, LonesFit, PickFits, PickTaken, Picks, PicksFit, Stored, lone_metric, pick_metric, picks_second}
 use Rattle.words.specs.Word.{bit}
 
 -- ---- metrics stored one after the other
@@ -45,10 +45,10 @@ module _ (M : List ℤ) (at : ℕ) (f : ℕ → ℤ) where
 same-room : (M M₁ : List ℤ) (at : ℕ) (near signs : List ℤ) (side : ℕ) → Lone M at near signs side → length M₁ ≡ length M → Lone M₁ at near signs side
 same-room M M₁ at near signs side h e = record {
   room = omega (arith, h.room);
-  near-size = h.near-size;
-  signs-size = h.signs-size;
-  side-le = h.side-le;
-  near-small = h.near-small;
+  near_size = h.near_size;
+  signs_size = h.signs_size;
+  side_le = h.side_le;
+  near_small = h.near_small;
   sign_small = h.sign_small;
 }
 
@@ -66,7 +66,7 @@ module _ {M : List ℤ} {at : ℕ} {near signs : List ℤ} {side : ℕ} {k : Cou
 
     pub lones-more : {M₂ : List ℤ} {k₂ : Counts} → LoneTaken M₁ at near signs side i k₁ M₂ k₂ → Lones M at near signs side (i + 1) k M₂ k₂
     lones-more t = record {
-      stored = rw t.metric (stored_more M at (loneMetric near signs side) i M₁ p.stored (omega (arith, h.strip.room)));
+      stored = rw t.metric (stored_more M at (lone_metric near signs side) i M₁ p.stored (omega (arith, h.strip.room)));
       additions = omega (arith, t.additions, p.additions);
       comparisons = t.comparisons ∙ p.comparisons;
     }
@@ -76,7 +76,7 @@ module _ {M : List ℤ} {at : ℕ} {near signs : List ℤ} {side : ℕ} {k : Cou
 module _ {M : List ℤ} {at : ℕ} {near far : List ℤ} {weights : List ℕ} {signs ties : List ℤ} {side : ℕ} {k : Counts}
     (h : PicksFit M at near far weights signs ties side k) where
   abbrev takes : ℕ → Bool
-  takes = picksSecond near far signs ties side
+  takes = picks_second near far signs ties side
 
   pub picks-none : Picks M at near far signs ties side 0 k M (record { word = 0; counts = k })
   picks-none = record {
@@ -92,10 +92,10 @@ module _ {M : List ℤ} {at : ℕ} {near far : List ℤ} {weights : List ℕ} {s
     pick-fits = record {
       strip = record {
         lone = same-room M M₁ at near signs side h.strip.lone p.stored.size;
-        far-size = h.strip.far-size;
-        far-small = h.strip.far-small;
-        ties-size = h.strip.ties-size;
-        tie-small = h.strip.tie-small;
+        far_size = h.strip.far_size;
+        far_small = h.strip.far_small;
+        ties_size = h.strip.ties_size;
+        tie_small = h.strip.tie_small;
         masks = h.strip.masks;
       };
       state = l;
@@ -110,15 +110,15 @@ module _ {M : List ℤ} {at : ℕ} {near far : List ℤ} {weights : List ℕ} {s
       above true = omega arith
       above false = omega arith
 
-      word-is : s.word ≡ cond (takes i) 1 0 * 2 ^ i + r.word
-      word-is = t.word ∙ above (takes i)
+      word_is : s.word ≡ cond (takes i) 1 0 * 2 ^ i + r.word
+      word_is = t.word ∙ above (takes i)
 
       digit_lt : (b : Bool) → cond b 1 0 < 2
       digit_lt true = omega arith
       digit_lt false = omega arith
 
       second : (j : ℕ) → j < i + 1 → bit s.word j ≡ cond (takes j) 1 0
-      second j m = ap (λ (w : ℕ). bit w j) word-is ∙ ⊎_elim low (λ w. high (omega (arith, w.1.0, w.1.1))) (below_or i 1 j m)
+      second j m = ap (λ (w : ℕ). bit w j) word_is ∙ ⊎_elim low (λ w. high (omega (arith, w.1.0, w.1.1))) (below_or i 1 j m)
         where
           low : j < i → bit (cond (takes i) 1 0 * 2 ^ i + r.word) j ≡ cond (takes j) 1 0
           low q = bit-low i (cond (takes i) 1 0) r.word j q ∙ p.second j q
@@ -131,9 +131,9 @@ module _ {M : List ℤ} {at : ℕ} {near far : List ℤ} {weights : List ℕ} {s
 
       pub picks_more : Picks M at near far signs ties side (i + 1) k M₂ s
       picks_more = record {
-        stored = rw t.metric (stored_more M at (pickMetric near far signs ties side) i M₁ p.stored (omega (arith, h.strip.lone.room)));
+        stored = rw t.metric (stored_more M at (pick_metric near far signs ties side) i M₁ p.stored (omega (arith, h.strip.lone.room)));
         second = second;
-        short = rw word-is (cat-lt i 1 (cond (takes i) 1 0) r.word (digit_lt (takes i)) p.short);
+        short = rw word_is (cat-lt i 1 (cond (takes i) 1 0) r.word (digit_lt (takes i)) p.short);
         additions = omega (arith, t.additions, p.additions);
         comparisons = omega (arith, t.comparisons, p.comparisons);
       }

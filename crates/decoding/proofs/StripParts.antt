@@ -10,23 +10,23 @@ use mathlib.Core.Path.{ap, ap₂, sym, ◌∙◌, ◌≡◌}
 use native.Mathlib.Nat.{add_assoc, add_comm, div-add-mod', mod-lt}
 use native.Mathlib.Omega.{arith}
 use Prim.Native.Nat.{◌%◌, ◌*◌, ◌+◌, ◌-◌, ◌/◌, ◌<◌, ◌^◌, ℕ, ◌≤◌}
-use Rattle.decoding.proofs.Branches.{alone-is, farAt, nearAt, signAt, tieAt, two-bit, two-metric}
+use Rattle.decoding.proofs.Branches.{alone-is, far_at, near_at, sign_at, tie_at, two-bit, two-metric}
 use Rattle.decoding.proofs.Digits.{bit-low}
 use Rattle.decoding.proofs.Parities.{block-parity}
 use Rattle.decoding.proofs.Preference.{sign-size}
 use Rattle.decoding.proofs.Targets.{first-branch, leads-place, live-le, place-lt, second-branch}
-use Rattle.decoding.specs.Choosing.{takesSecond}
+use Rattle.decoding.specs.Choosing.{takes_second}
 use Rattle.decoding.specs.declared.blocks.Picked.{Picked}
 use Rattle.decoding.specs.declared.Counts.{Counts}
 use Rattle.decoding.specs.Halves.{StripDone, StripFits}
-use Rattle.decoding.specs.Picking.{Lone, Lones, LonesFit, Picks, PicksFit, pickMetric, picksSecond}
+use Rattle.decoding.specs.Picking.{Lone, Lones, LonesFit, Picks, PicksFit, pick_metric, picks_second}
 use Rattle.decoding.specs.Running.{Part, place_of}
 use Rattle.decoding.specs.Stepping.{olds}
 use Rattle.decoding.specs.Strips.{FetchFits, Gathered, landing}
-use Rattle.decoding.specs.Tables.{turnedBit}
-use Rattle.decoding.specs.Taking.{Taken, atState, signed}
+use Rattle.decoding.specs.Tables.{turned_bit}
+use Rattle.decoding.specs.Taking.{Taken, at_state, signed}
 use Rattle.trellises.specs.declared.Section.{Section}
-use Rattle.trellises.specs.Numbers.{bit_of, leadsTo, without}
+use Rattle.trellises.specs.Numbers.{bit_of, leads_to, without}
 use Rattle.words.proofs.Parity.{differ-mod}
 use Rattle.words.proofs.Word.{bit-lt, bit-xor}
 use Rattle.words.specs.Ends.{first}
@@ -53,12 +53,12 @@ module _ {M : List ℤ} {from to : ℕ} {c : Section} {y : ℤ} {weights : List 
   pub first-lt : first < 2 ^ 12
   first-lt = omega (arith, h.states, size-le)
 
-  near-lands : (e i : ℕ) → e ≡ place_of c → i < 32 → landing from e first i ≡ from + leadsTo c (first + i)
+  near-lands : (e i : ℕ) → e ≡ place_of c → i < 32 → landing from e first i ≡ from + leads_to c (first + i)
   near-lands e i ee l =
       ap (λ (n : ℕ). from + without n (first + i)) ee
       ∙ ap (λ (n : ℕ). from + n) (sym (leads-place c h.ready.section (first + i) (omega (arith, state-lt i l, size-le))))
 
-  far-lands : (e s i : ℕ) → e ≡ place_of c → s ≡ 2 ^ c.live → i < 32 → landing from e (first + s) i ≡ from + leadsTo c (first + i + 2 ^ c.live)
+  far-lands : (e s i : ℕ) → e ≡ place_of c → s ≡ 2 ^ c.live → i < 32 → landing from e (first + s) i ≡ from + leads_to c (first + i + 2 ^ c.live)
   far-lands e s i ee es l =
       let p : first + s + i ≡ first + i + 2 ^ c.live = omega arith in
       ap₂ (λ (n x : ℕ). from + without n x) ee p
@@ -76,7 +76,7 @@ module _ {M : List ℤ} {from to : ℕ} {c : Section} {y : ℤ} {weights : List 
       aligned = h.aligned;
       place = from-lt;
       gather = record {
-        size = h.prepared.near-size;
+        size = h.prepared.near_size;
         there = λ i l. rw (near-lands e i ee l) (h.ready.place (first + i) (first-branch c h.ready.section (first + i) (state-lt i l)));
       };
     }
@@ -89,7 +89,7 @@ module _ {M : List ℤ} {from to : ℕ} {c : Section} {y : ℤ} {weights : List 
       aligned = omega (arith, h.aligned, whole);
       place = from-lt;
       gather = record {
-        size = h.prepared.far-size;
+        size = h.prepared.far_size;
         there = λ i l.
             rw (far-lands e s i ee es l)
             (h.ready.place (first + i + 2 ^ c.live) (second-branch c h.ready.section (first + i) (state-lt i l) b));
@@ -102,12 +102,12 @@ module _ {M : List ℤ} {from to : ℕ} {c : Section} {y : ℤ} {weights : List 
   -- ---- what is read: old metrics, signs and ties
 
   module _ {near : List ℤ} {e : ℕ} (ee : e ≡ place_of c) (g : Gathered M (landing from e first) 32 near) where
-    near-is : (i : ℕ) → i < 32 → get_or near i (pos 0) ≡ nearAt c y old (first + i)
+    near-is : (i : ℕ) → i < 32 → get_or near i (pos 0) ≡ near_at c y old (first + i)
     near-is i l = g.here i l ∙ ap (λ (j : ℕ). get_or M j (pos 0)) (near-lands e i ee l)
 
     -- the strip's side of the tables
     module _ {side : ℕ} (es : side ≡ w % 2 * 32) where
-      turned-is : (i : ℕ) → i < 32 → turnedBit h.prepared.word (w % 2) i ≡ bit_of c (first + i)
+      turned-is : (i : ℕ) → i < 32 → turned_bit h.prepared.word (w % 2) i ≡ bit_of c (first + i)
       turned-is i l =
           let z : first + 0 ≡ first = omega arith in
           let a : w % 2 ≡ parity first c.column = h.bits 0 (omega arith) ∙ ap (λ (x : ℕ). parity x c.column) z in
@@ -115,10 +115,10 @@ module _ {M : List ℤ} {from to : ℕ} {c : Section} {y : ℤ} {weights : List 
           ∙ sym (ap (λ (x : ℕ). parity (x + i) c.column) h.aligned ∙ block-parity 5 h.strip i c.column l
           ∙ ap (λ (x : ℕ). (parity x c.column + parity i c.column) % 2) (sym h.aligned))
 
-      sign-is : (i : ℕ) → i < 32 → get_or signs (side + i) (pos 0) ≡ signAt c y old (first + i)
+      sign-is : (i : ℕ) → i < 32 → get_or signs (side + i) (pos 0) ≡ sign_at c y old (first + i)
       sign-is i l = rw es (h.prepared.tables.sign (w % 2) i (omega arith) l ∙ ap (λ (d : ℕ). signed d y) (turned-is i l))
 
-      tie-is : (i : ℕ) → i < 32 → get_or ties (side + i) (pos 0) ≡ tieAt c y old (first + i)
+      tie-is : (i : ℕ) → i < 32 → get_or ties (side + i) (pos 0) ≡ tie_at c y old (first + i)
       tie-is i l = rw es (h.prepared.tables.tie (w % 2) i (omega arith) l ∙ ap pos (turned-is i l))
 
       -- a place of the tables, in either half
@@ -128,12 +128,12 @@ module _ {M : List ℤ} {from to : ℕ} {c : Section} {y : ℤ} {weights : List 
       pub lone-strip : Lone M (to + first) near signs side
       lone-strip = record {
         room = omega (arith, h.ready.room, h.states);
-        near-size = g.size;
-        signs-size = h.prepared.tables.signs-size;
-        side-le = omega arith;
-        near-small = λ i l. rw (near-is i l) (h.ready.small (first + i) (first-branch c h.ready.section (first + i) (state-lt i l)));
+        near_size = g.size;
+        signs_size = h.prepared.tables.signs_size;
+        side_le = omega arith;
+        near_small = λ i l. rw (near-is i l) (h.ready.small (first + i) (first-branch c h.ready.section (first + i) (state-lt i l)));
         sign_small = either-half (λ (i : ℕ). nat_abs (get_or signs i (pos 0)) ≤ 2 ^ 20) (λ d i hd hi.
-            rw (h.prepared.tables.sign d i hd hi) (omega (arith, sign-size (turnedBit h.prepared.word d i) y, h.ready.gain)));
+            rw (h.prepared.tables.sign d i hd hi) (omega (arith, sign-size (turned_bit h.prepared.word d i) y, h.ready.gain)));
       }
 
       pub lones-asks : LonesFit M (to + first) near signs side k
@@ -156,22 +156,22 @@ module _ {M : List ℤ} {from to : ℕ} {c : Section} {y : ℤ} {weights : List 
         })
 
         pub lones-done : StripDone M from to c y first 32 k M₁ near far₀ (record { word = low; counts = k₁ })
-        lones-done = record { part = lones-part; near-size = g.size; far-size = h.prepared.far-size }
+        lones-done = record { part = lones-part; near_size = g.size; far_size = h.prepared.far_size }
 
       -- ---- two branches a state
 
       module _ (b : c.begins ≡ true) {far : List ℤ} {s : ℕ} (ez : s ≡ 2 ^ c.live) (g₂ : Gathered M (landing from e (first + s)) 32 far) where
-        far-is : (i : ℕ) → i < 32 → get_or far i (pos 0) ≡ farAt c y old (first + i)
+        far-is : (i : ℕ) → i < 32 → get_or far i (pos 0) ≡ far_at c y old (first + i)
         far-is i l = g₂.here i l ∙ ap (λ (j : ℕ). get_or M j (pos 0)) (far-lands e s i ee ez l)
 
         pub picks-asks : PicksFit M (to + first) near far weights signs ties side k
         picks-asks = record {
           strip = record {
             lone = lone-strip;
-            far-size = g₂.size;
-            far-small = λ i l. rw (far-is i l) (h.ready.small (first + i + 2 ^ c.live) (second-branch c h.ready.section (first + i) (state-lt i l) b));
-            ties-size = h.prepared.tables.ties-size;
-            tie-small = either-half (λ (i : ℕ). nat_abs (get_or ties i (pos 0)) ≤ 1) (λ d i hd hi. rw (h.prepared.tables.tie d i hd hi) (omega arith));
+            far_size = g₂.size;
+            far_small = λ i l. rw (far-is i l) (h.ready.small (first + i + 2 ^ c.live) (second-branch c h.ready.section (first + i) (state-lt i l) b));
+            ties_size = h.prepared.tables.ties_size;
+            tie_small = either-half (λ (i : ℕ). nat_abs (get_or ties i (pos 0)) ≤ 1) (λ d i hd hi. rw (h.prepared.tables.tie d i hd hi) (omega arith));
             masks = h.prepared.masks;
           };
           additions = omega (arith, h.additions);
@@ -183,16 +183,16 @@ module _ {M : List ℤ} {from to : ℕ} {c : Section} {y : ℤ} {weights : List 
           v = r.word
 
           abbrev takes : ℕ → Bool
-          takes i = takesSecond (nearAt c y old (first + i)) (farAt c y old (first + i)) (signAt c y old (first + i)) (tieAt c y old (first + i))
+          takes i = takes_second (near_at c y old (first + i)) (far_at c y old (first + i)) (sign_at c y old (first + i)) (tie_at c y old (first + i))
 
-          same_test : (i : ℕ) → i < 32 → picksSecond near far signs ties side i ≡ takes i
+          same_test : (i : ℕ) → i < 32 → picks_second near far signs ties side i ≡ takes i
           same_test i l = rw (near-is i l, far-is i l, sign-is i l, tie-is i l)
 
-          same-metric : (i : ℕ) → i < 32 → pickMetric near far signs ties side i ≡ (atState c y old (first + i)).metric
+          same-metric : (i : ℕ) → i < 32 → pick_metric near far signs ties side i ≡ (at_state c y old (first + i)).metric
           same-metric i l =
               rw (near-is i l, far-is i l, sign-is i l, tie-is i l) (sym (two-metric c y old (first + i) b h.ready.section (state-lt i l)))
 
-          decide : (i : ℕ) → i < 32 → bit (bit_xor (w % 2 ^ 32) v) i ≡ (atState c y old (first + i)).bit
+          decide : (i : ℕ) → i < 32 → bit (bit_xor (w % 2 ^ 32) v) i ≡ (at_state c y old (first + i)).bit
           decide i l =
               let n : bit v i ≡ cond (takes i) 1 0 = q.second i l ∙ ap (λ (t : Bool). cond t 1 0) (same_test i l) in
               let p : bit (w % 2 ^ 32) i ≡ bit_of c (first + i) = low_word w i l ∙ h.bits i l in
@@ -212,4 +212,4 @@ module _ {M : List ℤ} {from to : ℕ} {c : Section} {y : ℤ} {weights : List 
           })
 
           pub picks_done : StripDone M from to c y first 32 k M₁ near far (record { word = bit_xor low r.word; counts = r.counts })
-          picks_done = record { part = picks-part; near-size = g.size; far-size = g₂.size }
+          picks_done = record { part = picks-part; near_size = g.size; far_size = g₂.size }

@@ -10,7 +10,7 @@ use native.Mathlib.Nat.{suc-mul}
 use native.Mathlib.Omega.{arith}
 use Prim.Native.Nat.{◌*◌, ◌+◌, ◌<◌, suc, suc-le-suc, zero, zero-le, ℕ, ◌≤◌}
 use Rattle.decoding.specs.Totals.{leading, total}
-use Rattle.trellises.specs.Graph.{Branch, noBranch}
+use Rattle.trellises.specs.Graph.{Branch, no_branch}
 use Rattle.words.specs.Choice.{more}
 
 -- two sums, added term by term
@@ -51,7 +51,7 @@ one_more A x a (suc n) l h = go (ℕ_discrete x a) (one_more A x (suc a) n)
     go (no d) ih = rw (ne_eqb x a d) (omega (arith, ih (omega arith) (omega arith)))
 
 -- each member leads to one of m states, so all states together have as many as there are
-pub leading-total : (branches : List Branch) (m : ℕ) → ((i : ℕ) → i < length branches → (get_or branches i noBranch).to < m)
+pub leading-total : (branches : List Branch) (m : ℕ) → ((i : ℕ) → i < length branches → (get_or branches i no_branch).to < m)
     → total 0 m (λ j. leading j branches) ≡ length branches
 leading-total [] m h = omega (arith, total-equal 0 0 m)
 leading-total (branch ∷ branches) m h =
@@ -59,7 +59,7 @@ leading-total (branch ∷ branches) m h =
     ∙ ap suc (leading-total branches m (λ i l. h (suc i) (suc-le-suc l)))
 
 -- a member that leads to j is counted there
-pub leading-some : (branches : List Branch) (j i : ℕ) → i < length branches → (get_or branches i noBranch).to ≡ j → 1 ≤ leading j branches
+pub leading-some : (branches : List Branch) (j i : ℕ) → i < length branches → (get_or branches i no_branch).to ≡ j → 1 ≤ leading j branches
 leading-some [] j i h e = absurd (omega arith)
 leading-some (branch ∷ branches) j zero h e = rw (eq-eqb branch.to j e) (omega arith)
 leading-some (branch ∷ branches) j (suc i) h e = omega (arith, at_least (eqb branch.to j) (leading j branches), leading-some branches j i (omega arith) e)

@@ -15,18 +15,18 @@ use Rattle.decoding.specs.declared.sweep.Standing.{Standing}
 use Rattle.decoding.specs.LiveRows.{EndsAre}
 use Rattle.decoding.specs.Stepping.{olds}
 use Rattle.decoding.specs.Sweeping.{BeforeSection, Kept, RoomsFit, SectionSwept, SizesFit, Swept}
-use Rattle.trellises.specs.SectionOf.{sectionOf}
+use Rattle.trellises.specs.SectionOf.{section_of}
 use Rattle.trellises.specs.States.{table}
 
 pub kept_refl : (z : Sizes) (metrics : List ℤ) (decisions : List ℕ) → Kept z metrics decisions metrics decisions
-kept_refl z metrics decisions = record { metrics-size = refl; metrics-rest = λ i h. refl; decisions-size = refl; decisions-rest = λ i h. refl }
+kept_refl z metrics decisions = record { metrics_size = refl; metrics_rest = λ i h. refl; decisions_size = refl; decisions_rest = λ i h. refl }
 
 pub kept_trans : {z : Sizes} {a b c : List ℤ} {p q r : List ℕ} → Kept z a p b q → Kept z b q c r → Kept z a p c r
 kept_trans x y = record {
-  metrics-size = y.metrics-size ∙ x.metrics-size;
-  metrics-rest = λ i h. y.metrics-rest i h ∙ x.metrics-rest i h;
-  decisions-size = y.decisions-size ∙ x.decisions-size;
-  decisions-rest = λ i h. y.decisions-rest i h ∙ x.decisions-rest i h;
+  metrics_size = y.metrics_size ∙ x.metrics_size;
+  metrics_rest = λ i h. y.metrics_rest i h ∙ x.metrics_rest i h;
+  decisions_size = y.decisions_size ∙ x.decisions_size;
+  decisions_rest = λ i h. y.decisions_rest i h ∙ x.decisions_rest i h;
 }
 
 -- rooms that keep their lengths are still long enough
@@ -35,16 +35,16 @@ pub rooms-kept : {z : Sizes} {samples metrics metrics' : List ℤ} {decisions de
 rooms-kept k r = record {
   size = r.size;
   within = r.within;
-  metric-room = omega (arith, r.metric-room, k.metrics-size);
-  decision-room = omega (arith, r.decision-room, k.decisions-size);
+  metric_room = omega (arith, r.metric_room, k.metrics_size);
+  decision_room = omega (arith, r.decision_room, k.decisions_size);
 }
 
 module _ (table : List ℕ) (z : Sizes) (samples metrics : List ℤ) (decisions : List ℕ) (fit : SizesFit table z) (rooms : RoomsFit z samples metrics decisions) where
   half-positive : 0 < z.half
-  half-positive = omega (arith, fit.half_room z.n (le_refl z.n), pow_pos (sectionOf (take z.k table) z.n).live)
+  half-positive = omega (arith, fit.half_room z.n (le_refl z.n), pow_pos (section_of (take z.k table) z.n).live)
 
   pub room-start : 0 < length metrics
-  room-start = omega (arith, half-positive, rooms.metric-room)
+  room-start = omega (arith, half-positive, rooms.metric_room)
 
   no-samples : drop z.n samples ≡ []
   no-samples = drop_of_length-le samples {i = z.n} (omega (arith, rooms.size))
@@ -55,16 +55,16 @@ module _ (table : List ℕ) (z : Sizes) (samples metrics : List ℤ) (decisions 
   sweep-start = record {
     swept = record {
       side = inl refl;
-      live = record { marks-are = sym fit.end_live; next-is = sym fit.all-begun };
-      metric = λ i h. only i (omega (arith, h, ap (λ (x : ℕ). 2 ^ x) fit.end-state)) ∙ ap (λ (ys : List ℤ). best (sectionOf (take z.k table)) ys z.n i) (sym no-samples);
+      live = record { marks_are = sym fit.end_live; next_is = sym fit.all_begun };
+      metric = λ i h. only i (omega (arith, h, ap (λ (x : ℕ). 2 ^ x) fit.end_state)) ∙ ap (λ (ys : List ℤ). best (section_of (take z.k table)) ys z.n i) (sym no-samples);
       decision = λ d u h k. absurd (omega arith);
-      counts = ap (λ (ys : List ℤ). counted (sectionOf (take z.k table)) ys z.n) (sym no-samples);
+      counts = ap (λ (ys : List ℤ). counted (section_of (take z.k table)) ys z.n) (sym no-samples);
     };
     kept = record {
-      metrics-size = length-set metrics 0 (pos 0);
-      metrics-rest = λ i h. get_or-set_other metrics 0 i (pos 0) (pos 0) (λ e. omega (arith, e, h, half-positive));
-      decisions-size = refl;
-      decisions-rest = λ i h. refl;
+      metrics_size = length-set metrics 0 (pos 0);
+      metrics_rest = λ i h. get_or-set_other metrics 0 i (pos 0) (pos 0) (λ e. omega (arith, e, h, half-positive));
+      decisions_size = refl;
+      decisions_rest = λ i h. refl;
     };
   }
     where
@@ -76,7 +76,7 @@ module _ (table : List ℕ) (z : Sizes) (samples metrics : List ℤ) (decisions 
       → SectionSwept table z samples t metrics decisions metrics' decisions' s → BeforeSection table z ends samples (t - 1) metrics' decisions' s
   before-section ends e t p h metrics' decisions' s w = record {
     fit = fit;
-    ends-are = e;
+    ends_are = e;
     rooms = rooms-kept w.kept rooms;
     depth = omega arith;
     swept = let d : t ≡ suc (t - 1) = omega arith in subst (λ (u : ℕ). Swept (take z.k table) z samples u metrics' decisions' s) d w.swept;

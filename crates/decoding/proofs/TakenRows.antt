@@ -14,16 +14,16 @@ use native.Mathlib.Omega.{arith}
 use Prim.Native.Nat.{◌%◌, ◌*◌, ◌+◌, ◌/◌, ◌<◌, ◌^◌, suc, suc-le-suc, zero, zero-le, ℕ, ◌≤◌}
 use Rattle.decoding.proofs.BegunRows.{begun-are, begun-few, begun-next, begun-row}
 use Rattle.decoding.proofs.LiveMarks.{in_order}
-use Rattle.decoding.specs.Backward.{branchBy, follow}
-use Rattle.decoding.specs.LiveRows.{Taken, beginningRow, begunBefore}
-use Rattle.plates.proofs.Live.{live-is}
+use Rattle.decoding.specs.Backward.{branch_by, follow}
+use Rattle.decoding.specs.LiveRows.{Taken, beginning_row, begun_before}
+use Rattle.plates.proofs.Live.{live_is}
 use Rattle.plates.specs.Profile.{live}
 use Rattle.trellises.proofs.Active.{is-active}
 use Rattle.trellises.proofs.OneBegins.{section-begins}
 use Rattle.trellises.proofs.SectionAgrees.{chosen, live-count, section-agrees}
 use Rattle.trellises.specs.declared.Section.{Section}
-use Rattle.trellises.specs.Numbers.{bit_of, leadsTo}
-use Rattle.trellises.specs.SectionOf.{isActive, sectionOf}
+use Rattle.trellises.specs.Numbers.{bit_of, leads_to}
+use Rattle.trellises.specs.SectionOf.{is_active, section_of}
 use Rattle.trellises.specs.Smallest.{Begins}
 use Rattle.trellises.specs.States.{active, state_of}
 use Rattle.words.proofs.Choice.{count_none, gather-lt, gather-same, spread-gather}
@@ -102,7 +102,7 @@ sum_more rows j u h =
 
 module _ (rows : List ℕ) (s : Spans rows (firsts rows) (lasts rows)) (t : ℕ) where
   abbrev c : Section
-  c = sectionOf rows t
+  c = section_of rows t
 
   abbrev state : ℕ → ℕ → ℕ
   state depth u = state_of rows (firsts rows) (lasts rows) depth u
@@ -125,73 +125,73 @@ module _ (rows : List ℕ) (s : Spans rows (firsts rows) (lasts rows)) (t : ℕ)
       go j k (no a) (yes b) = inl ((s.last j k).zeros t b)
       go j k (no a) (no b) = inr (takes u j k (omega arith) (omega arith))
 
-  branch_leads : (u : ℕ) → leadsTo c (branch u) ≡ state (suc t) u
+  branch_leads : (u : ℕ) → leads_to c (branch u) ≡ state (suc t) u
   branch_leads u =
-      (section-agrees rows s t).to-state (branch u) (gather-lt (length rows) (active (firsts rows) (lasts rows) t) u)
+      (section-agrees rows s t).to_state (branch u) (gather-lt (length rows) (active (firsts rows) (lasts rows) t) u)
       ∙ gather-same (length rows) (live (firsts rows) (lasts rows) (suc t)) (chosen rows t (branch u)) u
-      (λ j k m. let a = live-is (firsts rows) (lasts rows) (suc t) j m in takes u j k (omega arith) (omega arith))
+      (λ j k m. let a = live_is (firsts rows) (lasts rows) (suc t) j m in takes u j k (omega arith) (omega arith))
 
   -- a row that began before is active if it is live
-  went_on : (j : ℕ) → j < length rows → j < begunBefore rows t → active (firsts rows) (lasts rows) t j ≡ live (firsts rows) (lasts rows) t j
+  went_on : (j : ℕ) → j < length rows → j < begun_before rows t → active (firsts rows) (lasts rows) t j ≡ live (firsts rows) (lasts rows) t j
   went_on j k h =
       let a = (begun-are t rows s.rising j k).0 h in
       rw (le-leb (firsts rows j) t (omega arith), lt-ltb (firsts rows j) t a)
 
   -- the row that begins is the next one
-  next-begins : (sectionOf rows t).begins ≡ true → (begunBefore rows t < length rows) × (firsts rows (begunBefore rows t) ≡ t)
+  next-begins : (section_of rows t).begins ≡ true → (begun_before rows t < length rows) × (firsts rows (begun_before rows t) ≡ t)
   next-begins b =
       let a = (section-begins rows s t).0 b in
       let e = begun-row rows s t a in
       (omega (arith, a.there, e), ap (firsts rows) e ∙ a.here)
 
   -- it is not the zero word
-  pub next-some : (sectionOf rows t).begins ≡ true → eqb (get_or rows (begunBefore rows t) 0) 0 ≡ false
+  pub next-some : (section_of rows t).begins ≡ true → eqb (get_or rows (begun_before rows t) 0) 0 ≡ false
   next-some b =
       let n = next-begins b in
-      ne_eqb (get_or rows (begunBefore rows t) 0) 0
-      (λ e. omega (arith, some-pos (get_or rows (begunBefore rows t) 0) (firsts rows (begunBefore rows t)) (s.first (begunBefore rows t) n.0).one))
+      ne_eqb (get_or rows (begun_before rows t) 0) 0
+      (λ e. omega (arith, some-pos (get_or rows (begun_before rows t) 0) (firsts rows (begun_before rows t)) (s.first (begun_before rows t) n.0).one))
 
-  module _ (u : ℕ) (h : u < 2 ^ begunBefore rows t) where
-    same : (j : ℕ) → j < begunBefore rows t → active (firsts rows) (lasts rows) t j ≡ live (firsts rows) (lasts rows) t j
+  module _ (u : ℕ) (h : u < 2 ^ begun_before rows t) where
+    same : (j : ℕ) → j < begun_before rows t → active (firsts rows) (lasts rows) t j ≡ live (firsts rows) (lasts rows) t j
     same j l = went_on j (omega (arith, begun-few t rows)) l
 
     -- no row more is taken
     stays : branch u ≡ state t u
-    stays = gather-few (length rows) (active (firsts rows) (lasts rows) t) (live (firsts rows) (lasts rows) t) (begunBefore rows t) u h same
+    stays = gather-few (length rows) (active (firsts rows) (lasts rows) t) (live (firsts rows) (lasts rows) t) (begun_before rows t) u h same
 
     -- the row that begins is taken
-    joins : (sectionOf rows t).begins ≡ true → branch (u + 2 ^ begunBefore rows t) ≡ state t u + 2 ^ (sectionOf rows t).live
+    joins : (section_of rows t).begins ≡ true → branch (u + 2 ^ begun_before rows t) ≡ state t u + 2 ^ (section_of rows t).live
     joins b =
         let n = next-begins b in
-        let a : active (firsts rows) (lasts rows) t (begunBefore rows t) ≡ true = rw (le-leb (firsts rows (begunBefore rows t)) t (omega (arith, n.1)), le-leb t (lasts rows (begunBefore rows t)) (omega (arith, n.1, in_order rows s (begunBefore rows t) n.0))) in
-        gather-top (length rows) (active (firsts rows) (lasts rows) t) (live (firsts rows) (lasts rows) t) (begunBefore rows t) u n.0 h same a
-        (λ j m k l. omega (arith, live-is (firsts rows) (lasts rows) t j l, (begun-are t rows s.rising j k).1 (live-is (firsts rows) (lasts rows) t j l).0))
+        let a : active (firsts rows) (lasts rows) t (begun_before rows t) ≡ true = rw (le-leb (firsts rows (begun_before rows t)) t (omega (arith, n.1)), le-leb t (lasts rows (begun_before rows t)) (omega (arith, n.1, in_order rows s (begun_before rows t) n.0))) in
+        gather-top (length rows) (active (firsts rows) (lasts rows) t) (live (firsts rows) (lasts rows) t) (begun_before rows t) u n.0 h same a
+        (λ j m k l. omega (arith, live_is (firsts rows) (lasts rows) t j l, (begun-are t rows s.rising j k).1 (live_is (firsts rows) (lasts rows) t j l).0))
         ∙ ap (λ (x : ℕ). state t u + 2 ^ x) (sym (live-count t rows))
 
   -- ---- the walk through section t
 
   module _ {sum i : ℕ} (w : Taken rows t sum i) where
     -- the state's own branch has the sum's bit
-    pub state-bit : bit_of (sectionOf rows t) i ≡ bit sum t
+    pub state-bit : bit_of (section_of rows t) i ≡ bit sum t
     state-bit =
-        ap (bit_of c) (w.state-is ∙ sym (stays w.by w.begun)) ∙ branch-bit w.by ∙ ap (λ (x : ℕ). bit x t) (sym w.sum_is)
+        ap (bit_of c) (w.state_is ∙ sym (stays w.by w.begun)) ∙ branch-bit w.by ∙ ap (λ (x : ℕ). bit x t) (sym w.sum_is)
 
-    pub taken-on : (d : ℕ) → Taken rows (suc t) (bit_xor sum (cond (eqb (bit sum t) d) 0 (beginningRow rows t))) (follow (sectionOf rows t) i d)
+    pub taken-on : (d : ℕ) → Taken rows (suc t) (bit_xor sum (cond (eqb (bit sum t) d) 0 (beginning_row rows t))) (follow (section_of rows t) i d)
     taken-on d = go c.begins refl (eqb (bit sum t) d) refl
       where
         n : ℕ
-        n = begunBefore rows t
+        n = begun_before rows t
 
-        by : (b e : Bool) → c.begins ≡ b → eqb (bit sum t) d ≡ e → branchBy c i d ≡ cond (b && not e) (i + 2 ^ c.live) i
+        by : (b e : Bool) → c.begins ≡ b → eqb (bit sum t) d ≡ e → branch_by c i d ≡ cond (b && not e) (i + 2 ^ c.live) i
         by b e p q = ap₂ (λ (x y : Bool). cond (x && not y) (i + 2 ^ c.live) i) p (ap (λ (x : ℕ). eqb x d) state-bit ∙ q)
 
         none : (b e : Bool) → c.begins ≡ b → eqb (bit sum t) d ≡ e → (b && not e) ≡ false
-            → bit_xor sum (cond e 0 (cond b (get_or rows n 0) 0)) ≡ sum → Taken rows (suc t) (bit_xor sum (cond (eqb (bit sum t) d) 0 (beginningRow rows t))) (follow c i d)
+            → bit_xor sum (cond e 0 (cond b (get_or rows n 0) 0)) ≡ sum → Taken rows (suc t) (bit_xor sum (cond (eqb (bit sum t) d) 0 (beginning_row rows t))) (follow c i d)
         none b e p q f x = record {
           by = w.by;
-          begun = lt_of_lt_of_le w.begun (pow_mono {i = n} {j = begunBefore rows (suc t)} (subst (λ (m : ℕ). n ≤ m) (sym (begun-next rows s t)) (grows c.begins)));
+          begun = lt_of_lt_of_le w.begun (pow_mono {i = n} {j = begun_before rows (suc t)} (subst (λ (m : ℕ). n ≤ m) (sym (begun-next rows s t)) (grows c.begins)));
           sum_is = ap₂ (λ (e b : Bool). bit_xor sum (cond e 0 (cond b (get_or rows n 0) 0))) q p ∙ x ∙ w.sum_is;
-          state-is = ap (leadsTo c) (by b e p q ∙ ap (λ (z : Bool). cond z (i + 2 ^ c.live) i) f ∙ w.state-is ∙ sym (stays w.by w.begun)) ∙ branch_leads w.by;
+          state_is = ap (leads_to c) (by b e p q ∙ ap (λ (z : Bool). cond z (i + 2 ^ c.live) i) f ∙ w.state_is ∙ sym (stays w.by w.begun)) ∙ branch_leads w.by;
         }
           where
             grows : (b : Bool) → n ≤ more b n
@@ -199,7 +199,7 @@ module _ (rows : List ℕ) (s : Spans rows (firsts rows) (lasts rows)) (t : ℕ)
             grows false = omega arith
 
         go : (b : Bool) → c.begins ≡ b → (e : Bool) → eqb (bit sum t) d ≡ e
-            → Taken rows (suc t) (bit_xor sum (cond (eqb (bit sum t) d) 0 (beginningRow rows t))) (follow c i d)
+            → Taken rows (suc t) (bit_xor sum (cond (eqb (bit sum t) d) 0 (beginning_row rows t))) (follow c i d)
         go true p true q = none true true p q refl (xor_zero_r sum)
         go false p true q = none false true p q refl (xor_zero_r sum)
         go false p false q = none false false p q refl (xor_zero_r sum)
@@ -207,18 +207,18 @@ module _ (rows : List ℕ) (s : Spans rows (firsts rows) (lasts rows)) (t : ℕ)
           by = w.by + 2 ^ n;
           begun = subst (λ (m : ℕ). w.by + 2 ^ n < 2 ^ m) (sym (begun-next rows s t ∙ ap (λ (b : Bool). more b n) p)) (omega (arith, w.begun, pow-suc 2 n));
           sum_is = ap₂ (λ (e b : Bool). bit_xor sum (cond e 0 (cond b (get_or rows n 0) 0))) q p ∙ ap (λ (x : ℕ). bit_xor x (get_or rows n 0)) w.sum_is ∙ sym (sum_more rows n w.by w.begun);
-          state-is = ap (leadsTo c) (by true false p q ∙ ap (λ (x : ℕ). x + 2 ^ c.live) w.state-is ∙ sym (joins w.by w.begun p)) ∙ branch_leads (w.by + 2 ^ n);
+          state_is = ap (leads_to c) (by true false p q ∙ ap (λ (x : ℕ). x + 2 ^ c.live) w.state_is ∙ sym (joins w.by w.begun p)) ∙ branch_leads (w.by + 2 ^ n);
         }
 
   -- the branch as the code finds it, by the row taken
   pub branch-is : {sum i : ℕ} → Taken rows t sum i → (d : ℕ)
-      → cond (eqb (cond (eqb (bit sum t) d) 0 (beginningRow rows t)) 0) i (i + 2 ^ (sectionOf rows t).live) ≡ branchBy (sectionOf rows t) i d
+      → cond (eqb (cond (eqb (bit sum t) d) 0 (beginning_row rows t)) 0) i (i + 2 ^ (section_of rows t).live) ≡ branch_by (section_of rows t) i d
   branch-is {sum} {i} w d =
       go c.begins refl (eqb (bit sum t) d)
       ∙ sym (ap (λ (x : ℕ). cond (c.begins && not (eqb x d)) (i + 2 ^ c.live) i) (state-bit w))
     where
       go : (b : Bool) → c.begins ≡ b → (e : Bool)
-          → cond (eqb (cond e 0 (cond b (get_or rows (begunBefore rows t) 0) 0)) 0) i (i + 2 ^ c.live) ≡ cond (b && not e) (i + 2 ^ c.live) i
+          → cond (eqb (cond e 0 (cond b (get_or rows (begun_before rows t) 0) 0)) 0) i (i + 2 ^ c.live) ≡ cond (b && not e) (i + 2 ^ c.live) i
       go true p true = refl
       go true p false = ap (λ (z : Bool). cond z i (i + 2 ^ c.live)) (next-some p)
       go false p true = refl

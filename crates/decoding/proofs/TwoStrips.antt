@@ -40,7 +40,7 @@ module _ {M : List ℤ} {from to : ℕ} {c : Section} {y : ℤ} {weights : List 
   strips-none = record {
     aligned = refl;
     within = omega arith;
-    done = record { part = no-states M from to c (kept y) (first + 64) k; near-size = h.prepared.near-size; far-size = h.prepared.far-size };
+    done = record { part = no-states M from to c (kept y) (first + 64) k; near_size = h.prepared.near_size; far_size = h.prepared.far_size };
   }
 
   module _ {i : ℕ} {M₁ near far : List ℤ} {v : ℕ} {k₁ : Counts} (s : Strips M from to c (kept y) first k i M₁ near far v k₁) where
@@ -69,8 +69,8 @@ module _ {M : List ℤ} {from to : ℕ} {c : Section} {y : ℤ} {weights : List 
           word = h.prepared.word;
           pattern = h.prepared.pattern;
           tables = rw gain-kept h.prepared.tables;
-          near-size = s.done.near-size;
-          far-size = s.done.far-size;
+          near_size = s.done.near_size;
+          far_size = s.done.far_size;
         };
         ready = after-ready M from to c (kept y) ready first 64 h.states k i 32 enough s.within M₁ v k₁ s.done.part;
         strip = h.strip + (i - 32) / 32;
@@ -104,8 +104,8 @@ module _ {M : List ℤ} {from to : ℕ} {c : Section} {y : ℤ} {weights : List 
         done = record {
           part = lower M from to c (kept y) ready first 64 h.states k i 32 enough s.within M₁ v k₁ s.done.part M₂ r _ d.part
               (packed-below 32 v r.word word_room d.part.short);
-          near-size = d.near-size;
-          far-size = d.far-size;
+          near_size = d.near_size;
+          far_size = d.far_size;
         };
       }
 
@@ -133,6 +133,6 @@ module _ {M : List ℤ} {from to : ℕ} {c : Section} {y : ℤ} {w at : ℕ} {k 
       → WordDone M from to D c y at k M₁ D₁ near far r.counts
   word-done {r = r} d e = record {
     block = record { word = r.word; part = rw word-gain at d.part; stored = e };
-    near-size = d.near-size;
-    far-size = d.far-size;
+    near_size = d.near_size;
+    far_size = d.far_size;
   }

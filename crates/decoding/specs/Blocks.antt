@@ -25,5 +25,5 @@ pub record Block (metrics : List ℤ) (from to : ℕ) (decisions : List ℕ) (c 
 pub record WordDone (metrics : List ℤ) (from to : ℕ) (decisions : List ℕ) (c : Section) (y : ℤ) (at : ℕ) (k : Counts)
     (metrics' : List ℤ) (decisions' : List ℕ) (near' far' : List ℤ) (k' : Counts) : Type 0 where
   pub block : Block metrics from to decisions c y at 64 k metrics' decisions' k'
-  pub near-size : length near' ≡ 32
-  pub far-size : length far' ≡ 32
+  pub near_size : length near' ≡ 32
+  pub far_size : length far' ≡ 32

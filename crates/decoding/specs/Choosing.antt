@@ -6,8 +6,8 @@ use Rattle.decoding.specs.declared.choices.Choice.{Choice}
 
 -- whether the second of two branches is taken: a and b are the metrics where they lead, q is what the first one's bit adds, and t
 -- breaks the tie
-abbrev pub takesSecond : ℤ → ℤ → ℤ → ℤ → Bool
-takesSecond a b q t = lt_z (q +ℤ a) ((b -ℤ q) +ℤ t)
+abbrev pub takes_second : ℤ → ℤ → ℤ → ℤ → Bool
+takes_second a b q t = lt_z (q +ℤ a) ((b -ℤ q) +ℤ t)
 
 -- no sum of one branch overflows
 pub record AloneFits (a q : ℤ) (k : Counts) : Type 0 where
@@ -32,7 +32,7 @@ pub record AloneTaken (a q : ℤ) (k : Counts) (r : Choice) : Type 0 where
 
 -- two branches added, and compared
 pub record Chosen (a b q t : ℤ) (k : Counts) (r : Choice) : Type 0 where
-  pub metric : r.metric ≡ cond (takesSecond a b q t) (b -ℤ q) (q +ℤ a)
-  pub second : r.second ≡ cond (takesSecond a b q t) 1 0
+  pub metric : r.metric ≡ cond (takes_second a b q t) (b -ℤ q) (q +ℤ a)
+  pub second : r.second ≡ cond (takes_second a b q t) 1 0
   pub additions : r.counts.additions ≡ k.additions + 2
   pub comparisons : r.counts.comparisons ≡ k.comparisons + 1

@@ -6,10 +6,10 @@ use Rattle.words.specs.Sum.{taken}
 use Rattle.words.specs.Word.{bit}
 
 -- a row taken off a word that has a one at the row's first one
-abbrev pub lessRow : ℕ → ℕ → ℕ
-lessRow row w = bit_xor (taken (bit w (first row)) row) w
+abbrev pub less_row : ℕ → ℕ → ℕ
+less_row row w = bit_xor (taken (bit w (first row)) row) w
 
 -- rows taken off one after the other, from the first to the last
-abbrev pub takenOff : List ℕ → ℕ → ℕ
-takenOff [] w = w
-takenOff (row ∷ rows) w = takenOff rows (lessRow row w)
+abbrev pub taken_off : List ℕ → ℕ → ℕ
+taken_off [] w = w
+taken_off (row ∷ rows) w = taken_off rows (less_row row w)

@@ -17,8 +17,8 @@ pub record BlockReady (c : Section) (y : ℤ) (weights : List ℕ) (signs ties n
   pub word : ℕ
   pub pattern : (i : ℕ) → i < 32 → bit word i ≡ parity i c.column
   pub tables : Tables word y signs ties
-  pub near-size : length near ≡ 32
-  pub far-size : length far ≡ 32
+  pub near_size : length near ≡ 32
+  pub far_size : length far ≡ 32
 
 -- what n states from `first` on ask, whose bits are the lowest of w: n is 32 or 64
 pub record StripFits (metrics : List ℤ) (from to : ℕ) (c : Section) (y : ℤ) (weights : List ℕ) (signs ties : List ℤ) (w first n : ℕ)
@@ -35,5 +35,5 @@ pub record StripFits (metrics : List ℤ) (from to : ℕ) (c : Section) (y : ℤ
 -- they are done, and the rooms for old metrics are there still
 pub record StripDone (metrics : List ℤ) (from to : ℕ) (c : Section) (y : ℤ) (first n : ℕ) (k : Counts) (metrics' near' far' : List ℤ) (r : Run) : Type 0 where
   pub part : Part metrics from to c y first n k metrics' r
-  pub near-size : length near' ≡ 32
-  pub far-size : length far' ≡ 32
+  pub near_size : length near' ≡ 32
+  pub far_size : length far' ≡ 32

@@ -7,6 +7,6 @@ abbrev pub limit : ℕ
 limit = 2047
 
 -- the sample added where the word's bit is 0 and subtracted where it is 1, over all positions
-abbrev pub metricOf : List ℤ → ℕ → ℤ
-metricOf [] w = pos 0
-metricOf (y ∷ ys) w = signed (w % 2) y +ℤ metricOf ys (w / 2)
+abbrev pub metric_of : List ℤ → ℕ → ℤ
+metric_of [] w = pos 0
+metric_of (y ∷ ys) w = signed (w % 2) y +ℤ metric_of ys (w / 2)

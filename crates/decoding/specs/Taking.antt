@@ -3,7 +3,7 @@
 use Rattle.std.specs.Prelude.{ℕ, zero, suc, ◌+◌, ◌^◌, eqb, ℤ, ◌+ℤ◌, neg_ℤ, Bool, cond, not}
 use Rattle.std.specs.Int.Signed.{lt_z}
 use Rattle.trellises.specs.declared.Section.{Section}
-use Rattle.trellises.specs.Numbers.{bit_of, leadsTo}
+use Rattle.trellises.specs.Numbers.{bit_of, leads_to}
 use Rattle.decoding.specs.declared.Counts.{Counts}
 
 -- what a bit adds to a metric: the sample for 0, and its negation for 1
@@ -26,15 +26,15 @@ preferred m b o = cond (eqb b 0) (not (lt_z m o)) (lt_z o m)
 module _ (c : Section) (y : ℤ) (old : ℕ → ℤ) where
   -- branch x added: what its bit adds, and the best from where it leads
   abbrev pub added : ℕ → ℤ
-  added x = signed (bit_of c x) y +ℤ old (leadsTo c x)
+  added x = signed (bit_of c x) y +ℤ old (leads_to c x)
 
   -- the first branch
   abbrev pub taking : ℕ → Taken
   taking x = record { metric = added x; bit = bit_of c x; additions = 1; comparisons = 0 }
 
   -- a further branch, added and compared
-  abbrev pub takingAlso : Taken → ℕ → Taken
-  takingAlso s x = record {
+  abbrev pub taking_also : Taken → ℕ → Taken
+  taking_also s x = record {
     metric = cond (preferred (added x) (bit_of c x) s.metric) (added x) s.metric;
     bit = cond (preferred (added x) (bit_of c x) s.metric) (bit_of c x) s.bit;
     additions = s.additions + 1;
@@ -42,13 +42,13 @@ module _ (c : Section) (y : ℤ) (old : ℕ → ℤ) where
   }
 
   -- state i: the branch that takes no beginning row and, where a row begins, the one that takes it
-  abbrev pub atState : ℕ → Taken
-  atState i = cond c.begins (takingAlso (taking i) (i + 2 ^ c.live)) (taking i)
+  abbrev pub at_state : ℕ → Taken
+  at_state i = cond c.begins (taking_also (taking i) (i + 2 ^ c.live)) (taking i)
 
   -- what the first n states counted, one after the other, on top of k
   abbrev pub counting : ℕ → Counts → Counts
   counting zero k = k
   counting (suc n) k = record {
-    additions = (counting n k).additions + (atState n).additions;
-    comparisons = (counting n k).comparisons + (atState n).comparisons;
+    additions = (counting n k).additions + (at_state n).additions;
+    comparisons = (counting n k).comparisons + (at_state n).comparisons;
   }

@@ -3,6 +3,6 @@ use Rattle.std.specs.Prelude.{ℕ, ◌/◌, ◌%◌, ℤ, List, [], ◌∷◌}
 use Rattle.decoding.specs.Taking.{signed}
 
 -- the samples, each with its sign turned where m has a one
-abbrev pub turnedBy : ℕ → List ℤ → List ℤ
-turnedBy m [] = []
-turnedBy m (y ∷ ys) = signed (m % 2) y ∷ turnedBy (m / 2) ys
+abbrev pub turned_by : ℕ → List ℤ → List ℤ
+turned_by m [] = []
+turned_by m (y ∷ ys) = signed (m % 2) y ∷ turned_by (m / 2) ys

@@ -1,6 +1,6 @@
 // Decoding parted in two: the metric without the word, and the word without its metric.
 ghost use Rattle.decoding.specs.Apart.{Chooses, Measures};
-ghost use Rattle.plates.specs.Prepare.{ofParts};
+ghost use Rattle.plates.specs.Prepare.{of_parts};
 
 use crate::rooms::{clear_metrics, sizes_of};
 use crate::samples::first_over;
@@ -46,7 +46,7 @@ pub fn best_metric_parts<'a>(
     samples: &[i16],
     metrics: &mut [i32],
 ) -> Measured
-    ensures { Measures (ofParts n k mask rows.now profile.now) samples.now metrics.old metrics.new result }
+    ensures { Measures (of_parts n k mask rows.now profile.now) samples.now metrics.old metrics.new result }
 {
     if !plates::parts_prepared(n, k, mask, rows, profile) {
         return Measured::Refused(Refusal::NotPrepared);
@@ -79,7 +79,7 @@ pub fn best_word_parts<'a>(
     metrics: &mut [i32],
     decisions: &mut [u64],
 ) -> Chosen
-    ensures { Chooses (ofParts n k mask rows.now profile.now) samples.now metrics.old decisions.old metrics.new decisions.new result }
+    ensures { Chooses (of_parts n k mask rows.now profile.now) samples.now metrics.old decisions.old metrics.new decisions.new result }
 {
     match crate::decode_parts(n, k, mask, rows, profile, samples, metrics, decisions) {
         Decoded::Found(answer) => {

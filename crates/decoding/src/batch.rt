@@ -5,7 +5,7 @@ ghost use Rattle.decoding.specs.Batching.{AreBlocks, BlockFits, BlockPut, Blocks
 ghost use Rattle.decoding.specs.LiveRows.{EndsAre};
 ghost use Rattle.decoding.specs.Searching.{Searched};
 ghost use Rattle.decoding.specs.Sweeping.{RoomsFit, SizesFit};
-ghost use Rattle.plates.specs.Prepare.{IsPrepared, ofParts};
+ghost use Rattle.plates.specs.Prepare.{IsPrepared, of_parts};
 
 use crate::live::ending_rows;
 use crate::rooms::{clear_decisions, clear_metrics, sizes_of};
@@ -152,8 +152,8 @@ fn blocks_prepared<'a>(
     metrics: &mut [i32],
     decisions: &mut [u64],
 ) -> Batch
-    requires { IsPrepared (ofParts n k mask rows.now profile.now) }
-    ensures { DecodesBlocks (ofParts n k mask rows.now profile.now) samples.now found.old scores.old metrics.old decisions.old found.new scores.new metrics.new decisions.new result }
+    requires { IsPrepared (of_parts n k mask rows.now profile.now) }
+    ensures { DecodesBlocks (of_parts n k mask rows.now profile.now) samples.now found.old scores.old metrics.old decisions.old found.new scores.new metrics.new decisions.new result }
 {
     if !are_blocks(samples.len(), n, found.len(), scores.len()) {
         return Batch::Refused(Refusal::SampleCount);
@@ -199,7 +199,7 @@ pub fn decode_blocks<'a>(
     metrics: &mut [i32],
     decisions: &mut [u64],
 ) -> Batch
-    ensures { DecodesBlocks (ofParts n k mask rows.now profile.now) samples.now found.old scores.old metrics.old decisions.old found.new scores.new metrics.new decisions.new result }
+    ensures { DecodesBlocks (of_parts n k mask rows.now profile.now) samples.now found.old scores.old metrics.old decisions.old found.new scores.new metrics.new decisions.new result }
 {
     if plates::parts_prepared(n, k, mask, rows, profile) {
         return blocks_prepared(

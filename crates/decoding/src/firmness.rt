@@ -4,7 +4,7 @@ ghost use Rattle.decoding.specs.Firmness.{TellsFirmness};
 ghost use Rattle.decoding.specs.Forcing.{BestForced, FirstWith, ReadAt};
 ghost use Rattle.decoding.specs.LiveRows.{EndsAre};
 ghost use Rattle.decoding.specs.Sweeping.{RoomsFit, SizesFit};
-ghost use Rattle.plates.specs.Prepare.{ofParts};
+ghost use Rattle.plates.specs.Prepare.{of_parts};
 
 use crate::choices::sign_of;
 use crate::live::ending_rows;
@@ -151,7 +151,7 @@ pub fn firmness_parts<'a>(
     metrics: &mut [i32],
     decisions: &mut [u64],
 ) -> Flagged
-    ensures { TellsFirmness (ofParts n k mask rows.now profile.now) samples.now position metrics.old decisions.old metrics.new decisions.new result }
+    ensures { TellsFirmness (of_parts n k mask rows.now profile.now) samples.now position metrics.old decisions.old metrics.new decisions.new result }
 {
     if !plates::parts_prepared(n, k, mask, rows, profile) {
         return Flagged::Refused(Refusal::NotPrepared);

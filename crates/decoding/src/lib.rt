@@ -1,6 +1,6 @@
 // Decoding: the word of a plate that has the greatest correlation with soft samples.
 ghost use Rattle.decoding.specs.Decode.{Decodes};
-ghost use Rattle.plates.specs.Prepare.{ofParts};
+ghost use Rattle.plates.specs.Prepare.{of_parts};
 
 use crate::prepared::decode_prepared;
 use plates::{Plate, Refusal};
@@ -58,7 +58,7 @@ pub fn decode_parts<'a>(
     metrics: &mut [i32],
     decisions: &mut [u64],
 ) -> Decoded
-    ensures { Decodes (ofParts n k mask rows.now profile.now) samples.now metrics.old decisions.old metrics.new decisions.new result }
+    ensures { Decodes (of_parts n k mask rows.now profile.now) samples.now metrics.old decisions.old metrics.new decisions.new result }
 {
     if plates::parts_prepared(n, k, mask, rows, profile) {
         return decode_prepared(n, k, mask, rows, profile, samples, metrics, decisions);

@@ -1,8 +1,8 @@
 // The live rows of a plate, kept from section to section as the bits of one number: a section costs as many steps as it has rows.
 ghost use Rattle.std.specs.Prelude.{length, take, ◌≡◌, suc, ◌+◌, ◌<◌, ◌≤◌};
-ghost use Rattle.decoding.specs.LiveRows.{AllActive, BeginsHere, EndsAre, LiveAt, LiveBefore, PassedTo, PlateRows, begunBefore, endingBy, leadsBy, mark_of};
-ghost use Rattle.trellises.specs.RowsAmong.{rowsAmong};
-ghost use Rattle.trellises.specs.SectionOf.{held, sectionOf};
+ghost use Rattle.decoding.specs.LiveRows.{AllActive, BeginsHere, EndsAre, LiveAt, LiveBefore, PassedTo, PlateRows, begun_before, ending_by, leads_by, mark_of};
+ghost use Rattle.trellises.specs.RowsAmong.{rows_among};
+ghost use Rattle.trellises.specs.SectionOf.{held, section_of};
 
 use crate::states::target;
 use trellises::Section;
@@ -57,7 +57,7 @@ pub fn mark_of(following: u8) -> u64
 // Row `next` and its bit, where that row begins at t; 0 and 0 where it does not, and where there is no such row.
 pub fn row_beginning(rows: &[u64], k: usize, next: usize, t: usize) -> Beginning
     requires plate_rows { PlateRows rows.now k }
-    requires next_value { next ≡ begunBefore (take k rows.now) t }
+    requires next_value { next ≡ begun_before (take k rows.now) t }
     ensures { BeginsHere (take k rows.now) t result }
 {
     if k <= next {
@@ -76,7 +76,7 @@ pub fn row_beginning(rows: &[u64], k: usize, next: usize, t: usize) -> Beginning
 // How many of the active rows stand below the row that ends, by one more than that row; all of them where none ends.
 fn rows_below(active: u64, following: u8) -> usize
     requires { following ≤ 64 }
-    ensures { result ≡ endingBy active following }
+    ensures { result ≡ ending_by active following }
 {
     if following == 0 {
         return u64::count_ones(active) as usize;
@@ -88,7 +88,7 @@ fn rows_below(active: u64, following: u8) -> usize
 // Where a branch leads that takes some of the active rows: without the row that ends, by one more than it, where one does.
 pub fn leads(active: u64, following: u8, branch: usize) -> usize
     requires { following ≤ 64 }
-    ensures { result ≡ leadsBy active following branch }
+    ensures { result ≡ leads_by active following branch }
 {
     if following == 0 {
         return branch;
@@ -123,7 +123,7 @@ fn rows_before(rows: &[u64], active: u64, next: usize, t: usize) -> Live
 // Position t of the active rows: the first of them has weight 1, the next 2, and so on.
 fn column_of(rows: &[u64], active: u64, t: usize) -> u64
     requires { (length rows.now ≡ 64) × (t < 64) × AllActive rows.now active t }
-    ensures { result ≡ (held (sectionOf (rowsAmong rows.now active) t)).column }
+    ensures { result ≡ (held (section_of (rows_among rows.now active) t)).column }
 {
     let mut column: u64 = 0;
     let mut left = active;

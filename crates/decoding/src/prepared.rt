@@ -1,6 +1,6 @@
 // Decoding of a plate that has been tested.
 ghost use Rattle.decoding.specs.Decode.{Decodes};
-ghost use Rattle.plates.specs.Prepare.{IsPrepared, ofParts};
+ghost use Rattle.plates.specs.Prepare.{IsPrepared, of_parts};
 
 use crate::Decoded;
 use crate::live::ending_rows;
@@ -20,8 +20,8 @@ pub fn decode_prepared<'a>(
     metrics: &mut [i32],
     decisions: &mut [u64],
 ) -> Decoded
-    requires { IsPrepared (ofParts n k mask rows.now profile.now) }
-    ensures { Decodes (ofParts n k mask rows.now profile.now) samples.now metrics.old decisions.old metrics.new decisions.new result }
+    requires { IsPrepared (of_parts n k mask rows.now profile.now) }
+    ensures { Decodes (of_parts n k mask rows.now profile.now) samples.now metrics.old decisions.old metrics.new decisions.new result }
 {
     if samples.len() != n {
         return Decoded::Refused(Refusal::SampleCount);

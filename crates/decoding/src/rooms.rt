@@ -1,8 +1,8 @@
 // The working rooms: how much of them a decode needs, and putting that much to zero. What is left of the mask goes with the sizes.
 ghost use Rattle.std.specs.Prelude.{pos, drop, get_or, length, replicate, take, ◌++◌, ◌≡◌, suc, max, ◌/◌, ◌^◌, ◌≤◌, ◌<◌};
-ghost use Rattle.decoding.specs.Cosets.{takenOff};
-ghost use Rattle.decoding.specs.Needs.{SizesOf, widestEntry};
-ghost use Rattle.plates.specs.Prepare.{IsPrepared, ofParts};
+ghost use Rattle.decoding.specs.Cosets.{taken_off};
+ghost use Rattle.decoding.specs.Needs.{SizesOf, widest_entry};
+ghost use Rattle.plates.specs.Prepare.{IsPrepared, of_parts};
 
 use crate::cosets::rest_of;
 use crate::sweep::Sizes;
@@ -23,7 +23,7 @@ fn wide(entry: u64) -> usize
 // The largest of the first n + 1 profile entries.
 fn widest(profile: &[u64], n: usize) -> usize
     requires { n < length profile.now }
-    ensures { result ≡ widestEntry profile.now n }
+    ensures { result ≡ widest_entry profile.now n }
 {
     let mut most = wide(profile[0]);
     let mut t = 0;
@@ -37,7 +37,7 @@ fn widest(profile: &[u64], n: usize) -> usize
 // What is left of a mask once the first k rows are taken off it; of no mask nothing is.
 fn rest_of_mask(rows: &[u64], k: usize, mask: u64) -> u64
     requires { k ≤ length rows.now }
-    ensures { result ≡ takenOff (take k rows.now) mask }
+    ensures { result ≡ taken_off (take k rows.now) mask }
 {
     if mask == 0 {
         return 0;
@@ -47,7 +47,7 @@ fn rest_of_mask(rows: &[u64], k: usize, mask: u64) -> u64
 
 // How large a decode of a prepared plate is, and what is left of its mask.
 pub fn sizes_of<'a>(n: usize, k: usize, mask: u64, rows: &'a [u64], profile: &'a [u64]) -> Sizes
-    requires { IsPrepared (ofParts n k mask rows.now profile.now) }
+    requires { IsPrepared (of_parts n k mask rows.now profile.now) }
     ensures { SizesOf n k mask rows.now profile.now result }
 {
     let rest = rest_of_mask(rows, k, mask);

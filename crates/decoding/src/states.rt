@@ -2,7 +2,7 @@
 ghost use Rattle.std.specs.Prelude.{false, true, ◌≡◌, ◌+◌, ◌<◌, ◌^◌};
 ghost use Rattle.decoding.specs.Running.{Part, RunFits, SourceFits, StateFits, place_of};
 ghost use Rattle.decoding.specs.Stepping.{SectionFits};
-ghost use Rattle.trellises.specs.Numbers.{leadsTo, without};
+ghost use Rattle.trellises.specs.Numbers.{leads_to, without};
 
 use crate::{Counts, choices};
 use trellises::Section;
@@ -41,7 +41,7 @@ pub fn target(place: usize, x: usize) -> usize
 // Where the metric stands to which a branch leads.
 pub fn source(from: usize, section: Section, x: usize) -> usize
     requires { SourceFits from section x }
-    ensures { result ≡ from + leadsTo section x }
+    ensures { result ≡ from + leads_to section x }
 {
     from + target(place(section), x)
 }
@@ -49,7 +49,7 @@ pub fn source(from: usize, section: Section, x: usize) -> usize
 // How far the second branch of a state leads past its first.
 fn stride(section: Section) -> usize
     requires { SectionFits section }
-    ensures { result ≡ leadsTo section (2 ^ section.live) }
+    ensures { result ≡ leads_to section (2 ^ section.live) }
 {
     target(place(section), power(section.live))
 }

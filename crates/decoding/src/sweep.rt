@@ -1,7 +1,7 @@
 // The sections of a plate taken one after the other, from the far end to the start.
 ghost use Rattle.std.specs.Prelude.{nat_abs, pos, get_or, length, take, ◌≡◌, ◌^◌, ◌<◌, ◌≤◌};
 ghost use Rattle.decoding.specs.LiveRows.{EndsAre};
-ghost use Rattle.decoding.specs.Sweeping.{BeforeSection, RoomsFit, SectionSwept, SizesFit, forcedTo, gainsOf};
+ghost use Rattle.decoding.specs.Sweeping.{BeforeSection, RoomsFit, SectionSwept, SizesFit, forced_to, gains_of};
 
 use crate::Counts;
 use crate::choices::sign_of;
@@ -44,7 +44,7 @@ pub fn gain(sample: i16) -> i32
 // The sample at t, or the gain in its place.
 fn forced_gain(samples: &[i16], forced: Forced, t: usize) -> i32
     requires { t < length samples.now }
-    ensures { result ≡ get_or (forcedTo samples.now forced) t (pos 0) }
+    ensures { result ≡ get_or (forced_to samples.now forced) t (pos 0) }
 {
     if t == forced.position {
         return forced.gain;
@@ -55,8 +55,8 @@ fn forced_gain(samples: &[i16], forced: Forced, t: usize) -> i32
 // The gain with which section t is taken: its sign is turned where the rest has a one, so that a codeword scores what its word does.
 fn gain_at(samples: &[i16], sizes: Sizes, forced: Forced, t: usize) -> i32
     requires t_in_bounds { t < length samples.now }
-    requires pos_bound { nat_abs (get_or (forcedTo samples.now forced) t (pos 0)) ≤ 2 ^ 20 }
-    ensures { result ≡ get_or (gainsOf sizes samples.now forced) t (pos 0) }
+    requires pos_bound { nat_abs (get_or (forced_to samples.now forced) t (pos 0)) ≤ 2 ^ 20 }
+    ensures { result ≡ get_or (gains_of sizes samples.now forced) t (pos 0) }
 {
     sign_of(
         words::bit_at(sizes.rest, t),
@@ -76,8 +76,8 @@ fn sweep_section(
     decisions: &mut [u64],
     at: Standing,
 ) -> Standing
-    requires { BeforeSection rows.now sizes ends.now (gainsOf sizes samples.now forced) t metrics.old decisions.old at }
-    ensures { SectionSwept rows.now sizes (gainsOf sizes samples.now forced) t metrics.old decisions.old metrics.new decisions.new result }
+    requires { BeforeSection rows.now sizes ends.now (gains_of sizes samples.now forced) t metrics.old decisions.old at }
+    ensures { SectionSwept rows.now sizes (gains_of sizes samples.now forced) t metrics.old decisions.old metrics.new decisions.new result }
 {
     let passed = pass_back(rows, sizes.k, ends, at.live, t);
     let to = sizes.half - at.from;
@@ -112,8 +112,8 @@ pub fn sweep(
 ) -> Standing
     requires sizes_fit { SizesFit rows.now sizes }
     requires ends_are { EndsAre (take sizes.k rows.now) ends.now }
-    requires rooms_fit { RoomsFit sizes (gainsOf sizes samples.now forced) metrics.old decisions.old }
-    ensures { SectionSwept rows.now sizes (gainsOf sizes samples.now forced) 0 metrics.old decisions.old metrics.new decisions.new result }
+    requires rooms_fit { RoomsFit sizes (gains_of sizes samples.now forced) metrics.old decisions.old }
+    ensures { SectionSwept rows.now sizes (gains_of sizes samples.now forced) 0 metrics.old decisions.old metrics.new decisions.new result }
 {
     metrics[0] = 0;
     let mut at = Standing {

@@ -1,11 +1,11 @@
 // The codeword read off the decisions, from the start to the far end, and its word.
 ghost use Rattle.std.specs.Int.Bits.{bit_xor};
 ghost use Rattle.std.specs.Prelude.{eqb, get_or, length, take, cond, ◌≡◌, suc, ◌+◌, ◌-◌, ◌*◌, ◌/◌, ◌%◌, ◌^◌, ◌≤◌, ◌<◌};
-ghost use Rattle.decoding.specs.Backward.{wordFrom};
-ghost use Rattle.decoding.specs.LiveRows.{endingCount};
+ghost use Rattle.decoding.specs.Backward.{word_from};
+ghost use Rattle.decoding.specs.LiveRows.{ending_count};
 ghost use Rattle.decoding.specs.Sweeping.{BeforeWalk, WalkFits, Walked};
-ghost use Rattle.decoding.specs.Turning.{turnedBy};
-ghost use Rattle.trellises.specs.SectionOf.{sectionOf};
+ghost use Rattle.decoding.specs.Turning.{turned_by};
+ghost use Rattle.trellises.specs.SectionOf.{section_of};
 ghost use Rattle.words.specs.Word.{bit};
 
 use crate::live::{leads, mark_of, row_beginning};
@@ -63,8 +63,8 @@ fn and_beginning(rows: usize, row: u64) -> usize
 
 // So many rows without the row that ends, by one more than that row; 0 where none does.
 fn but_ending(rows: usize, following: u8) -> usize
-    requires { endingCount following ≤ rows }
-    ensures { result ≡ rows - endingCount following }
+    requires { ending_count following ≤ rows }
+    ensures { result ≡ rows - ending_count following }
 {
     if following == 0 { rows } else { rows - 1 }
 }
@@ -79,8 +79,8 @@ fn walk_section(
     t: usize,
     at: Walk,
 ) -> Walk
-    requires { BeforeWalk rows.now sizes ends.now (turnedBy sizes.rest samples.now) decisions.now t at }
-    ensures { Walked (take sizes.k rows.now) (turnedBy sizes.rest samples.now) (suc t) result }
+    requires { BeforeWalk rows.now sizes ends.now (turned_by sizes.rest samples.now) decisions.now t at }
+    ensures { Walked (take sizes.k rows.now) (turned_by sizes.rest samples.now) (suc t) result }
 {
     let beginning = row_beginning(rows, sizes.k, at.next, t);
     let row = beginning.row;
@@ -107,8 +107,8 @@ pub fn read_off(
     samples: &[i16],
     decisions: &[u64],
 ) -> u64
-    requires { WalkFits rows.now sizes ends.now (turnedBy sizes.rest samples.now) decisions.now }
-    ensures { result ≡ bit_xor (wordFrom (sectionOf (take sizes.k rows.now)) (turnedBy sizes.rest samples.now) 0 0) sizes.rest }
+    requires { WalkFits rows.now sizes ends.now (turned_by sizes.rest samples.now) decisions.now }
+    ensures { result ≡ bit_xor (word_from (section_of (take sizes.k rows.now)) (turned_by sizes.rest samples.now) 0 0) sizes.rest }
 {
     let mut at = Walk {
         word: 0,

@@ -1,4 +1,4 @@
--- A1, parity checks from the code designers: H matrices as MacKay's alist text. Definitions: alists/specs/Text (`alistText`: the lines in the request's
+-- A1, parity checks from the code designers: H matrices as MacKay's alist text. Definitions: alists/specs/Text (`alist_text`: the lines in the request's
 -- order), Reading (`reading`), OwnForm (`OwnForm`), Accepted (`Sized`, `Accepted`), Calls (`Reads`,
 -- `WritesAlist`), and demands/specs/AlistFaults (`FirstFaulty`: each line judged against those above it, the first that is faulty, missing or extra).
 use lib.ListN.{drop, get_or, length, replicate, take}
@@ -14,12 +14,12 @@ use Rattle.alists.proofs.OwnFormKeeps.{own-form-keeps}
 use Rattle.alists.proofs.ReadsBack.{accepted-reads, written-reads-back}
 use Rattle.alists.proofs.WrittenForm.{written-is-own-form}
 use Rattle.alists.specs.Accepted.{Accepted, Sized}
-use Rattle.alists.specs.Calls.{Reads, WritesAlist, replyOf, table_of, writeConditions}
+use Rattle.alists.specs.Calls.{Reads, WritesAlist, reply_of, table_of, write_conditions}
 use Rattle.alists.specs.declared.Alist.{Alist}
 use Rattle.alists.specs.declared.Alist.TheVariants.{Matrix, Refused}
 use Rattle.alists.specs.OwnForm.{OwnForm}
-use Rattle.alists.specs.Reading.{Reading, faultIn, matrix, reading}
-use Rattle.alists.specs.Text.{alistText}
+use Rattle.alists.specs.Reading.{Reading, fault_in, matrix, reading}
+use Rattle.alists.specs.Text.{alist_text}
 use Rattle.demands.proofs.Demand1.{its-number}
 use Rattle.demands.proofs.AlistFaults.{matrix-has-none, told-exactly}
 use Rattle.demands.specs.AlistFaults.{FirstFaulty, NoneFaulty}
@@ -36,7 +36,7 @@ use Rattle.listings.specs.declared.Written.TheVariants as W
 -- ---- what is read and written
 
 -- a written text reads back as the same matrix: columns and rows 1 to 64, and no one at n or beyond
-pub written-text-reads-back : (n : ℕ) (rows : List ℕ) → Sized n rows → reading (alistText n rows) ≡ matrix n rows
+pub written-text-reads-back : (n : ℕ) (rows : List ℕ) → Sized n rows → reading (alist_text n rows) ≡ matrix n rows
 written-text-reads-back = written-reads-back
 
 -- by the two calls: what `write` wrote, `read` reads so
@@ -45,7 +45,7 @@ pub write-then-read : (n : ℕ) (rows room : List ℕ) (size : ℕ) (room' table
 write-then-read n rows room size room' table r table' w x = written-and-read n rows room size room' table w x
 
 -- text in our form, read and written, keeps its bytes
-pub own-form-keeps-bytes : (text : List ℕ) (n : ℕ) (rows : List ℕ) → OwnForm text → reading text ≡ matrix n rows → alistText n rows ≡ text
+pub own-form-keeps-bytes : (text : List ℕ) (n : ℕ) (rows : List ℕ) → OwnForm text → reading text ≡ matrix n rows → alist_text n rows ≡ text
 own-form-keeps-bytes = own-form-keeps
 
 pub read-then-write : (text table : List ℕ) (n count : ℕ) (table' room : List ℕ) (r : Written) (room' : List ℕ) → OwnForm text
@@ -54,7 +54,7 @@ pub read-then-write : (text table : List ℕ) (n count : ℕ) (table' room : Lis
 read-then-write text table n count table' room r room' f x h w = read-and-written text table n count table' room f x h w
 
 -- we write in our form: spaces between numbers, a line feed after each line, indices ascending
-pub written-in-own-form : (n : ℕ) (rows : List ℕ) → Sized n rows → OwnForm (alistText n rows)
+pub written-in-own-form : (n : ℕ) (rows : List ℕ) → Sized n rows → OwnForm (alist_text n rows)
 written-in-own-form = written-is-own-form
 
 -- beyond our form, reading accepts only several spaces for one and indices in any order, and it accepts these
@@ -74,7 +74,7 @@ sixteen-has-line l = (refl, refl)
 
 -- the line told is the first that is faulty, missing or extra: the lines of the text by its line feeds, each judged against those above it
 -- (specs/AlistFaults, which names no reader)
-pub line-told-exactly : (text : List ℕ) (l : ℕ) → (reading text ≡ faultIn l) ↔ FirstFaulty [] (lines text) l
+pub line-told-exactly : (text : List ℕ) (l : ℕ) → (reading text ≡ fault_in l) ↔ FirstFaulty [] (lines text) l
 line-told-exactly = told-exactly
 
 -- and a text that reads as a matrix has none
@@ -83,15 +83,15 @@ matrix-has-no-fault = matrix-has-none
 
 module _ (text table : List ℕ) (r : Alist) (table' : List ℕ) (x : Reads text table r table') where
   -- refused exactly where the reading is a fault in a line, and with nothing else
-  pub read-refuses-exactly : (q : Refusal) → (r ≡ Refused q) ↔ ((l : ℕ) × (reading text ≡ faultIn l) × (q ≡ AlistFault l))
+  pub read-refuses-exactly : (q : Refusal) → (r ≡ Refused q) ↔ ((l : ℕ) × (reading text ≡ fault_in l) × (q ≡ AlistFault l))
   read-refuses-exactly q = (
     (λ e. told (reading text) refl (sym x.replies ∙ e)),
-    λ y. x.replies ∙ ap replyOf y.1 ∙ ap Refused (sym y.2),
+    λ y. x.replies ∙ ap reply_of y.1 ∙ ap Refused (sym y.2),
   )
     where
-      told : (z : Reading) → reading text ≡ z → replyOf z ≡ Refused q → (l : ℕ) × (reading text ≡ faultIn l) × (q ≡ AlistFault l)
+      told : (z : Reading) → reading text ≡ z → reply_of z ≡ Refused q → (l : ℕ) × (reading text ≡ fault_in l) × (q ≡ AlistFault l)
       told (matrix n rows) e f = let z : ◌≡◌ {A = ℕ} 0 1 = cc in absurd (omega arith)
-      told (faultIn l) e f = (l, e, cc)
+      told (fault_in l) e f = (l, e, cc)
 
   -- a refused call leaves the table
   pub read-refused-unchanged : (q : Refusal) → r ≡ Refused q → table' ≡ table
@@ -100,29 +100,29 @@ module _ (text table : List ℕ) (r : Alist) (table' : List ℕ) (x : Reads text
   -- one that succeeds leaves the rows there, and zeros behind them
   pub read-leaves-rows : (n : ℕ) (rows : List ℕ) → reading text ≡ matrix n rows
       → (r ≡ Matrix n (length rows)) × (table' ≡ rows ++ replicate (64 - length rows) 0)
-  read-leaves-rows n rows e = (x.replies ∙ ap replyOf e, x.leaves ∙ ap (λ (z : Reading). table_of z table) e)
+  read-leaves-rows n rows e = (x.replies ∙ ap reply_of e, x.leaves ∙ ap (λ (z : Reading). table_of z table) e)
 
 -- ---- refusals of writing: 1 to 3, then 16 with place 0 for a matrix with no rows, then 11
 
 module _ (n : ℕ) (rows room : List ℕ) where
-  pub write-numbers : Numbered (writeConditions n rows room) (1 ∷ 2 ∷ 3 ∷ 16 ∷ 11 ∷ [])
+  pub write-numbers : Numbered (write_conditions n rows room) (1 ∷ 2 ∷ 3 ∷ 16 ∷ 11 ∷ [])
   write-numbers = (its-number, (its-number, ((λ q c. ap number c.is), (its-number, (its-number, tt)))))
 
   module _ (r : Written) (room' : List ℕ) (w : WritesAlist n rows room r room') where
     -- refused exactly under them, and then the room is as it was
-    pub write-refuses : WriteRefuses (writeConditions n rows room) room r room'
+    pub write-refuses : WriteRefuses (write_conditions n rows room) room r room'
     write-refuses = (
       (λ q. (
-        (λ e. (subst (WritesAs (writeConditions n rows room) (alistText n rows) room room') e w.reply).0),
+        (λ e. (subst (WritesAs (write_conditions n rows room) (alist_text n rows) room room') e w.reply).0),
         λ h. (write-determined n rows room {s = W.Refused q} {b = room} w (record { reply = (h, refl) })).0,
       )),
-      λ q e. (subst (WritesAs (writeConditions n rows room) (alistText n rows) room room') e w.reply).1,
+      λ q e. (subst (WritesAs (write_conditions n rows room) (alist_text n rows) room room') e w.reply).1,
     )
 
     -- else the text stands at the start of the room, and the bytes behind it are as they were
     pub write-leaves-text : (size : ℕ) → r ≡ W.Bytes size
-        → (size ≡ length (alistText n rows)) × (room' ≡ alistText n rows ++ drop (length (alistText n rows)) room)
-    write-leaves-text size e = let y = subst (WritesAs (writeConditions n rows room) (alistText n rows) room room') e w.reply in (y.1, y.2)
+        → (size ≡ length (alist_text n rows)) × (room' ≡ alist_text n rows ++ drop (length (alist_text n rows)) room)
+    write-leaves-text size e = let y = subst (WritesAs (write_conditions n rows room) (alist_text n rows) room room') e w.reply in (y.1, y.2)
 
 -- place 0
 pub no-rows-has-place-zero : (number (AlistFault 0) ≡ 16) × (place (AlistFault 0) ≡ 0)

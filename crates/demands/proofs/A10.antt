@@ -19,7 +19,7 @@ use Rattle.asking.specs.declared.Reason.{Reason}
 use Rattle.asking.specs.declared.Verdict.{Verdict}
 use Rattle.asking.specs.declared.Verdict.TheVariants.{Explained, Refused}
 use Rattle.decoding.specs.declared.Answer.{Answer}
-use Rattle.decoding.specs.Decode.{Decodes, decisionNeed, decodeConditions, metricNeed}
+use Rattle.decoding.specs.Decode.{Decodes, decision_need, decode_conditions, metric_need}
 use Rattle.demands.proofs.Demand1.{decode-numbers}
 use Rattle.demands.specs.Refusing.{Numbered, RefusesExactly}
 use Rattle.plates.proofs.Refusing.{never_both}
@@ -40,28 +40,28 @@ use Rattle.decoding.specs.declared.Decoded.TheVariants as D
 
 module _ (plate : Plate) (samples : List ℤ) (w : ℕ) (metrics : List ℤ) (decisions : List ℕ) where
   -- the conditions, in order; they are those of the word call and of decode, so that decode-passes says where none of them holds
-  pub why-not-numbers : Numbered (decodeConditions plate samples metrics decisions) (5 ∷ 6 ∷ 7 ∷ 8 ∷ 9 ∷ [])
+  pub why-not-numbers : Numbered (decode_conditions plate samples metrics decisions) (5 ∷ 6 ∷ 7 ∷ 8 ∷ 9 ∷ [])
   why-not-numbers = decode-numbers plate samples metrics decisions
 
   -- the two rooms after the call, and its reply
   module _ (metrics' : List ℤ) (decisions' : List ℕ) (r : Verdict) (p : Asks plate samples w metrics decisions metrics' decisions' r) where
     -- refused exactly under them
-    pub why-not-refuses-exactly : RefusesExactly Refused (decodeConditions plate samples metrics decisions) r
+    pub why-not-refuses-exactly : RefusesExactly Refused (decode_conditions plate samples metrics decisions) r
     why-not-refuses-exactly q = (
       (λ e. (subst (Asks plate samples w metrics decisions metrics' decisions') e p).0),
       λ h. (why-not-determined plate samples w metrics decisions r (Refused q) metrics' metrics decisions' decisions p (h, refl, refl)).0,
     )
 
     -- where none of them holds a reason is given
-    pub why-not-passed-explained : Passes (decodeConditions plate samples metrics decisions) → (reason : Reason) × (r ≡ Explained reason)
+    pub why-not-passed-explained : Passes (decode_conditions plate samples metrics decisions) → (reason : Reason) × (r ≡ Explained reason)
     why-not-passed-explained h = go r refl
       where
         go : (s : Verdict) → r ≡ s → (reason : Reason) × (r ≡ Explained reason)
         go (Explained reason) e = (reason, e)
-        go (Refused q) e = absurd (never_both (decodeConditions plate samples metrics decisions) h q ((why-not-refuses-exactly q).0 e))
+        go (Refused q) e = absurd (never_both (decode_conditions plate samples metrics decisions) h q ((why-not-refuses-exactly q).0 e))
 
     -- each exactly when it holds against the answer of decoding, whatever the rooms of the two calls
-    pub why-not-exactly : Passes (decodeConditions plate samples metrics decisions) → (room room' : List ℤ) (words words' : List ℕ) (a : Answer)
+    pub why-not-exactly : Passes (decode_conditions plate samples metrics decisions) → (room room' : List ℤ) (words words' : List ℕ) (a : Answer)
         → Decodes plate samples room words room' words' (D.Found a) → (reason : Reason) → (r ≡ Explained reason) ↔ Explains plate samples a w reason
     why-not-exactly h room room' words words' a d reason = given-exactly plate samples w metrics decisions r metrics' decisions' p h a d.1 reason
 
@@ -71,10 +71,10 @@ module _ (plate : Plate) (samples : List ℤ) (w : ℕ) (metrics : List ℤ) (de
 
     -- one that succeeds zeroes the room it needs, as decoding does, and touches no more
     pub why-not-explained-zeroes : (reason : Reason) → r ≡ Explained reason
-        → (metrics' ≡ replicate (metricNeed plate) (pos 0) ++ drop (metricNeed plate) metrics)
-        × (decisions' ≡ replicate (decisionNeed plate) 0 ++ drop (decisionNeed plate) decisions)
+        → (metrics' ≡ replicate (metric_need plate) (pos 0) ++ drop (metric_need plate) metrics)
+        × (decisions' ≡ replicate (decision_need plate) 0 ++ drop (decision_need plate) decisions)
     why-not-explained-zeroes reason e =
-        let x = subst (Asks plate samples w metrics decisions metrics' decisions') e p in (x.2.metrics-zero, x.2.decisions-zero)
+        let x = subst (Asks plate samples w metrics decisions metrics' decisions') e p in (x.2.metrics_zero, x.2.decisions_zero)
 
 -- ---- exactly one of the four, for every word
 
@@ -120,7 +120,7 @@ module _ (plate : Plate) (given : IsPrepared plate) (w : ℕ) where
 
   -- and it is replied exactly then
   pub replied-at-n-exactly : (samples metrics metrics' room room' : List ℤ) (decisions decisions' words words' : List ℕ) (r : Verdict)
-      → Asks plate samples w metrics decisions metrics' decisions' r → Passes (decodeConditions plate samples metrics decisions) → (a : Answer)
+      → Asks plate samples w metrics decisions metrics' decisions' r → Passes (decode_conditions plate samples metrics decisions) → (a : Answer)
       → Decodes plate samples room words room' words' (D.Found a)
       → (r ≡ Explained (Y.NoCodeword plate.n)) ↔ (((c : ℕ) × IsWord plate c × ((i : ℕ) → i < plate.n → bit c i ≡ bit w i)) × (2 ^ plate.n ≤ w))
   replied-at-n-exactly samples metrics metrics' room room' decisions decisions' words words' r p h a d =

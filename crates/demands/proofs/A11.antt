@@ -1,7 +1,7 @@
 -- A11, masked plates: the words of a plate are codewords plus mask modulo 2 (plates/specs/Code: `Masked`, Prepare: `IsWord`), and the promises of all
 -- calls but the weights (A9: `weights-of-matrix`) speak of those; demands 2 and 3 are stated over them. Here: the words, profile and counts, 23, refusal 5,
 -- the mask line of a sheet and its 17, and a masked decode against a plain one. What a zero mask gives: ZeroMasks. 23 stands after 3 and before 4 by
--- Demand1: `prepare-numbers`; the mask is reversed with the rows in A4's statement, by sheets/specs/Turned: `restTurned`.
+-- Demand1: `prepare-numbers`; the mask is reversed with the rows in A4's statement, by sheets/specs/Turned: `rest_turned`.
 use lib.Bits.{bit_xor, xor_comm}
 use lib.IntN.{ℤ}
 use lib.ListN.{length}
@@ -20,9 +20,9 @@ use Rattle.decoding.proofs.MaskedDecoding.{PlainlyBest, decode-masked, metric-ma
 use Rattle.decoding.specs.declared.Answer.{Answer}
 use Rattle.decoding.specs.declared.Decoded.TheVariants.{Found}
 use Rattle.decoding.specs.Decode.{Best, Decodes}
-use Rattle.decoding.specs.Turning.{turnedBy}
+use Rattle.decoding.specs.Turning.{turned_by}
 use Rattle.demands.proofs.Demand1.{prepare-refuses-exactly}
-use Rattle.demands.specs.Masks.{AlikeButMask, withMask}
+use Rattle.demands.specs.Masks.{AlikeButMask, with_mask}
 use Rattle.plates.proofs.PrepareDetermined.{prepare-determined}
 use Rattle.plates.proofs.SoundIsPrepared.{prepared, sound}
 use Rattle.plates.specs.Code.{InCode, Masked}
@@ -34,23 +34,23 @@ use Rattle.plates.specs.declared.Refusal.{Refusal}
 use Rattle.plates.specs.declared.Refusal.TheVariants.{MaskBeyond}
 use Rattle.plates.specs.declared.Verdict.{Verdict}
 use Rattle.plates.specs.declared.Verdict.TheVariants.{Accepted, Refused}
-use Rattle.plates.specs.Prepare.{IsPrepared, IsWord, PlateOf, Prepares, PreparesAs, RowOver, badLength, prepareConditions, rows_of, tooManyRows}
+use Rattle.plates.specs.Prepare.{IsPrepared, IsWord, PlateOf, Prepares, PreparesAs, RowOver, bad_length, prepare_conditions, rows_of, too_many_rows}
 use Rattle.plates.specs.Refusals.{Passes, Refuses, number, place}
-use Rattle.plates.specs.Replying.{refusedWith}
+use Rattle.plates.specs.Replying.{refused_with}
 use Rattle.sheets.proofs.ZeroMasks.{no-mask-is-zero, zero-mask}
 use Rattle.sheets.specs.declared.Order.{Order}
 use Rattle.sheets.specs.declared.word.Word.{Word}
 use Rattle.sheets.specs.declared.word.Word.TheVariants.{Block, Cover, End, Heard, Mask, Other, Row}
-use Rattle.sheets.specs.Faults.{Part, Wrong, after, first_word, in_turn, onBlocks, onCover, onHeard, onMask, onNothing, onRows, outOfTurn}
-use Rattle.sheets.specs.Lines.{rowRest}
-use Rattle.sheets.specs.Masks.{maskBy, maskIs}
-use Rattle.sheets.specs.Sheet.{Contents, masksOf, reading, says}
+use Rattle.sheets.specs.Faults.{Part, Wrong, after, first_word, in_turn, on_blocks, on_cover, on_heard, on_mask, on_nothing, on_rows, out_of_turn}
+use Rattle.sheets.specs.Lines.{row_rest}
+use Rattle.sheets.specs.Masks.{mask_by, mask_is}
+use Rattle.sheets.specs.Sheet.{Contents, masks_of, reading, says}
 use Rattle.sheets.specs.ZeroMasks.{AlikeButLine, ZeroMasked}
 use Rattle.trellises.proofs.AcceptedIsPrepared.{accepted, accepted-mask}
 use Rattle.trellises.proofs.MaskedGraph.{masked-branches}
 use Rattle.trellises.proofs.PlateGenerates.{code-closed, code-zero}
 use Rattle.trellises.proofs.WordsTrellis.{accepted-words}
-use Rattle.trellises.specs.Branching.{codeTrellis}
+use Rattle.trellises.specs.Branching.{code_trellis}
 use Rattle.words.proofs.Word.{xor_assoc, xor-cancel, xor_self}
 
 -- ---- the words
@@ -83,13 +83,13 @@ module _ (C : ℕ → Type 0) (zero_in : C 0) (closed : (a b : ℕ) → C a → 
 
 module _ (n : ℕ) (kind : Kind) (rows : List ℕ) (mask : ℕ) (r : Prepared) (p : Prepares n kind rows mask r) where
   -- 23 is replied exactly where 1 to 3 are not and the mask has a one at n or beyond
-  pub mask-refused-exactly : (r.verdict ≡ Refused MaskBeyond) ↔ (Passes (badLength n ∷ tooManyRows rows ∷ RowOver n rows ∷ []) × (2 ^ n ≤ mask))
+  pub mask-refused-exactly : (r.verdict ≡ Refused MaskBeyond) ↔ (Passes (bad_length n ∷ too_many_rows rows ∷ RowOver n rows ∷ []) × (2 ^ n ≤ mask))
   mask-refused-exactly = (
     (λ e. first ((prepare-refuses-exactly n kind rows mask r p MaskBeyond).0 e)),
     λ h. (prepare-refuses-exactly n kind rows mask r p MaskBeyond).1 (inr (h.0.0, inr (h.0.1.0, inr (h.0.1.1.0, inl (h.1, refl))))),
   )
     where
-      first : Refuses (prepareConditions n kind rows mask) MaskBeyond → Passes (badLength n ∷ tooManyRows rows ∷ RowOver n rows ∷ []) × (2 ^ n ≤ mask)
+      first : Refuses (prepare_conditions n kind rows mask) MaskBeyond → Passes (bad_length n ∷ too_many_rows rows ∷ RowOver n rows ∷ []) × (2 ^ n ≤ mask)
       first (inl a) = absurd (omega (arith, ap number a.1))
       first (inr (a, inl b)) = absurd (omega (arith, ap number b.1))
       first (inr (a, inr (b, inl c))) = absurd (omega (arith, ap number c.is))
@@ -113,7 +113,7 @@ pub prepared-is-own : (plate : Plate) → IsPrepared plate → (r : Prepared) �
 prepared-is-own plate p r x = prepare-determined plate.n G (rows_of plate) plate.mask r (record { verdict = Accepted; plate = plate }) x p.same
 
 -- with another mask it is prepared exactly if that one has no one at n or beyond
-pub remasked-prepared : (plate : Plate) → IsPrepared plate → (mask : ℕ) → IsPrepared (withMask mask plate) ↔ (mask < 2 ^ plate.n)
+pub remasked-prepared : (plate : Plate) → IsPrepared plate → (mask : ℕ) → IsPrepared (with_mask mask plate) ↔ (mask < 2 ^ plate.n)
 remasked-prepared plate given mask = (
   (λ p. (sound p).masked),
   λ h.
@@ -126,10 +126,10 @@ remasked-prepared plate given mask = (
         table = s.table;
         below = s.below;
         reduced = s.reduced;
-        unused-rows = s.unused-rows;
+        unused_rows = s.unused_rows;
         entries = s.entries;
         profile = s.profile;
-        unused-entries = s.unused-entries;
+        unused_entries = s.unused_entries;
         narrow = s.narrow;
       }),
 )
@@ -137,23 +137,23 @@ remasked-prepared plate given mask = (
 -- ---- profile and counts
 
 -- a plate with another mask: all else, its states, its branches and its counts are as they were
-pub alike : (mask : ℕ) (plate : Plate) → AlikeButMask plate (withMask mask plate)
+pub alike : (mask : ℕ) (plate : Plate) → AlikeButMask plate (with_mask mask plate)
 alike mask plate = record {
-  same-n = refl;
-  same-k = refl;
+  same_n = refl;
+  same_k = refl;
   same_rows = refl;
-  same-profile = refl;
-  same-states = λ t. refl;
-  same-branches = λ t. masked-branches plate.mask (codeTrellis plate) t ∙ sym (masked-branches mask (codeTrellis plate) t);
-  same-additions = mask-branches plate.mask (codeTrellis plate) plate.n ∙ sym (mask-branches mask (codeTrellis plate) plate.n);
-  same-comparisons = mask-entering plate.mask (codeTrellis plate) plate.n ∙ sym (mask-entering mask (codeTrellis plate) plate.n);
+  same_profile = refl;
+  same_states = λ t. refl;
+  same_branches = λ t. masked-branches plate.mask (code_trellis plate) t ∙ sym (masked-branches mask (code_trellis plate) t);
+  same_additions = mask-branches plate.mask (code_trellis plate) plate.n ∙ sym (mask-branches mask (code_trellis plate) plate.n);
+  same_comparisons = mask-entering plate.mask (code_trellis plate) plate.n ∙ sym (mask-entering mask (code_trellis plate) plate.n);
 }
 
 -- one matrix prepared with two masks of its length
 module _ (n : ℕ) (kind : Kind) (rows : List ℕ) (m m' : ℕ) (h : m < 2 ^ n) (h' : m' < 2 ^ n) (r s : Prepared) (p : Prepares n kind rows m r)
     (q : Prepares n kind rows m' s) where
   -- what refuses the one refuses the other
-  other-refuses : (c : Refusal) → Refuses (prepareConditions n kind rows m) c → Refuses (prepareConditions n kind rows m') c
+  other-refuses : (c : Refusal) → Refuses (prepare_conditions n kind rows m) c → Refuses (prepare_conditions n kind rows m') c
   other-refuses c (inl a) = inl a
   other-refuses c (inr (a, inl b)) = inr (a, inl b)
   other-refuses c (inr (a, inr (b, inl o))) = inr (a, inr (b, inl o))
@@ -161,22 +161,22 @@ module _ (n : ℕ) (kind : Kind) (rows : List ℕ) (m m' : ℕ) (h : m < 2 ^ n) 
   other-refuses c (inr (a, inr (b, inr (o, inr (x, d))))) = inr (a, inr (b, inr (o, inr ((λ y z. omega (arith, z.0, h')), d))))
 
   -- and the plate of the one, with the other mask, is that of the other
-  other-accepts : (plate : Plate) → Passes (prepareConditions n kind rows m) × PlateOf (InCode kind n rows) n m plate
-      → s ≡ record { verdict = Accepted; plate = withMask m' plate }
+  other-accepts : (plate : Plate) → Passes (prepare_conditions n kind rows m) × PlateOf (InCode kind n rows) n m plate
+      → s ≡ record { verdict = Accepted; plate = with_mask m' plate }
   other-accepts plate ((a, (b, (c, (d, e)))), x) =
-      prepare-determined n kind rows m' s (record { verdict = Accepted; plate = withMask m' plate }) q (record {
+      prepare-determined n kind rows m' s (record { verdict = Accepted; plate = with_mask m' plate }) q (record {
         reply = (
           (a, (b, (c, ((λ y z. omega (arith, z.0, h')), e)))),
           record {
-            length-n = x.length-n;
+            length_n = x.length_n;
             mask_is = refl;
             few = x.few;
             table = x.table;
             rows = x.rows;
-            unused-rows = x.unused-rows;
+            unused_rows = x.unused_rows;
             entries = x.entries;
             profile = x.profile;
-            unused-entries = x.unused-entries;
+            unused_entries = x.unused_entries;
           },
         );
       })
@@ -185,14 +185,14 @@ module _ (n : ℕ) (kind : Kind) (rows : List ℕ) (m m' : ℕ) (h : m < 2 ^ n) 
   pub same-verdict : s.verdict ≡ r.verdict
   same-verdict = go r.verdict r.plate p.reply
     where
-      go : (v : Verdict) (plate : Plate) → PreparesAs (prepareConditions n kind rows m) (InCode kind n rows) n m plate v → s.verdict ≡ v
+      go : (v : Verdict) (plate : Plate) → PreparesAs (prepare_conditions n kind rows m) (InCode kind n rows) n m plate v → s.verdict ≡ v
       go (Refused c) plate x =
-          ap (λ (y : Prepared). y.verdict) (prepare-determined n kind rows m' s (refusedWith c) q (record { reply = (other-refuses c x.0, refl) }))
+          ap (λ (y : Prepared). y.verdict) (prepare-determined n kind rows m' s (refused_with c) q (record { reply = (other-refuses c x.0, refl) }))
       go Accepted plate x = ap (λ (y : Prepared). y.verdict) (other-accepts plate x)
 
   module _ (e : r.verdict ≡ Accepted) where
     -- the plates differ in their masks alone
-    pub differ-in-mask : s.plate ≡ withMask m' r.plate
+    pub differ-in-mask : s.plate ≡ with_mask m' r.plate
     differ-in-mask = ap (λ (y : Prepared). y.plate) (other-accepts r.plate (accepted n kind rows m r p e))
 
     -- profile and counts do not change
@@ -205,7 +205,7 @@ module _ (n : ℕ) (kind : Kind) (rows : List ℕ) (m m' : ℕ) (h : m < 2 ^ n) 
         → a.counts ≡ b.counts
     decode-counts-unchanged samples samples' metrics metrics' room room' decisions decisions' words words' a b x y =
         let c = profile-and-counts-unchanged in
-        counts_same (x.1.additions ∙ c.same-additions ∙ sym y.1.additions) (x.1.comparisons ∙ c.same-comparisons ∙ sym y.1.comparisons)
+        counts_same (x.1.additions ∙ c.same_additions ∙ sym y.1.additions) (x.1.comparisons ∙ c.same_comparisons ∙ sym y.1.comparisons)
 
     -- the plates have the same words exactly if the masks' sum is a codeword
     pub same-plate-words : ((w : ℕ) → IsWord r.plate w ↔ IsWord s.plate w) ↔ InCode kind n rows (bit_xor m m')
@@ -228,7 +228,7 @@ module _ (n : ℕ) (kind : Kind) (rows : List ℕ) (m m' : ℕ) (h : m < 2 ^ n) 
 -- one matrix prepared with a mask and without
 module _ (n : ℕ) (kind : Kind) (rows : List ℕ) (mask : ℕ) (h : mask < 2 ^ n) (r s : Prepared) (p : Prepares n kind rows mask r)
     (q : Prepares n kind rows 0 s) (e : r.verdict ≡ Accepted) (samples : List ℤ) where
-  plain : s.plate ≡ withMask 0 r.plate
+  plain : s.plate ≡ with_mask 0 r.plate
   plain = differ-in-mask n kind rows mask 0 h (pow_pos n) r s p q e
 
   -- The answer's word plus mask is a codeword of greatest metric with the samples whose signs are turned where the mask has ones; of equals it is
@@ -236,35 +236,35 @@ module _ (n : ℕ) (kind : Kind) (rows : List ℕ) (mask : ℕ) (h : mask < 2 ^ 
   pub masked-decode : (a : Answer) → Best r.plate samples a ↔ PlainlyBest s.plate mask samples a
   masked-decode a =
       subst (λ (x : Plate). Best r.plate samples a ↔ PlainlyBest x mask samples a) (sym plain)
-      (subst (λ (x : ℕ). Best r.plate samples a ↔ PlainlyBest (withMask 0 r.plate) x samples a) (accepted-mask n kind rows mask r p e)
+      (subst (λ (x : ℕ). Best r.plate samples a ↔ PlainlyBest (with_mask 0 r.plate) x samples a) (accepted-mask n kind rows mask r p e)
       (decode-masked r.plate samples a))
 
   -- so metric and counts are those of a plain decode of these samples
-  pub masked-metric : (a b : Answer) → Best r.plate samples a → Best s.plate (turnedBy mask samples) b → (a.metric ≡ b.metric) × (a.counts ≡ b.counts)
+  pub masked-metric : (a b : Answer) → Best r.plate samples a → Best s.plate (turned_by mask samples) b → (a.metric ≡ b.metric) × (a.counts ≡ b.counts)
   masked-metric a b x y =
       metric-masked r.plate samples a b x
-      (subst (λ (m : ℕ). Best (withMask 0 r.plate) (turnedBy m samples) b) (sym (accepted-mask n kind rows mask r p e))
-      (subst (λ (z : Plate). Best z (turnedBy mask samples) b) plain y))
+      (subst (λ (m : ℕ). Best (with_mask 0 r.plate) (turned_by m samples) b) (sym (accepted-mask n kind rows mask r p e))
+      (subst (λ (z : Plate). Best z (turned_by mask samples) b) plain y))
 
 -- ---- the mask line of a sheet
 
 -- after the cover a mask line may stand; in every other part, so after a mask, a row, a block or a heard line, before the cover and after end, it is 17
-pub mask-after-cover : in_turn onMask Mask ≡ true
+pub mask-after-cover : in_turn on_mask Mask ≡ true
 mask-after-cover = refl
 
-pub mask-elsewhere-is-seventeen : (n : ℕ) (part : Part) (fs : List (List ℕ)) → first_word fs ≡ Mask → (part ≡ onMask → ⊥) → Wrong n part fs 17 1
-mask-elsewhere-is-seventeen n part fs e other = outOfTurn (ap (in_turn part) e ∙ out part other) refl refl
+pub mask-elsewhere-is-seventeen : (n : ℕ) (part : Part) (fs : List (List ℕ)) → first_word fs ≡ Mask → (part ≡ on_mask → ⊥) → Wrong n part fs 17 1
+mask-elsewhere-is-seventeen n part fs e other = out_of_turn (ap (in_turn part) e ∙ out part other) refl refl
   where
-    out : (p : Part) → (p ≡ onMask → ⊥) → in_turn p Mask ≡ false
-    out onCover o = refl
-    out onMask o = absurd (o refl)
-    out onRows o = refl
-    out onBlocks o = refl
-    out onHeard o = refl
-    out onNothing o = refl
+    out : (p : Part) → (p ≡ on_mask → ⊥) → in_turn p Mask ≡ false
+    out on_cover o = refl
+    out on_mask o = absurd (o refl)
+    out on_rows o = refl
+    out on_blocks o = refl
+    out on_heard o = refl
+    out on_nothing o = refl
 
 -- only the line after the cover is in that part
-pub mask-part-is-after-cover : (w : Word) → after w ≡ onMask → w ≡ Cover
+pub mask-part-is-after-cover : (w : Word) → after w ≡ on_mask → w ≡ Cover
 mask-part-is-after-cover Cover e = refl
 mask-part-is-after-cover Mask e = let z : ◌≡◌ {A = ℕ} 0 1 = cc in absurd (omega arith)
 mask-part-is-after-cover Row e = let z : ◌≡◌ {A = ℕ} 0 1 = cc in absurd (omega arith)
@@ -274,11 +274,11 @@ mask-part-is-after-cover End e = let z : ◌≡◌ {A = ℕ} 0 1 = cc in absurd 
 mask-part-is-after-cover Other e = let z : ◌≡◌ {A = ℕ} 0 1 = cc in absurd (omega arith)
 
 -- it is written and turned like a row: its field's characters in the cover's order
-pub mask-is-read-as-row : (n : ℕ) (order : Order) (fs : List (List ℕ)) → maskBy n order Mask fs ≡ maskIs (rowRest n order fs)
+pub mask-is-read-as-row : (n : ℕ) (order : Order) (fs : List (List ℕ)) → mask_by n order Mask fs ≡ mask_is (row_rest n order fs)
 mask-is-read-as-row n order fs = refl
 
 -- it is optional: a sheet without one has the mask 0, and one of zeros says the same, its lines counted one later
-pub no-mask-line-is-zero : (s : List ℕ) (c : Contents) → reading s ≡ says c → masksOf s c ≡ 0 → c.mask ≡ 0
+pub no-mask-line-is-zero : (s : List ℕ) (c : Contents) → reading s ≡ says c → masks_of s c ≡ 0 → c.mask ≡ 0
 no-mask-line-is-zero = no-mask-is-zero
 
 pub mask-line-of-zeros : (s t : List ℕ) → ZeroMasked s t → length s ≤ 32768 → length t ≤ 32768 → AlikeButLine (reading s) (reading t)

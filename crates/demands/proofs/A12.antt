@@ -21,13 +21,13 @@ use Rattle.levels.proofs.LevelsDetermined.{level-determined, levels-determined, 
 use Rattle.levels.proofs.LevelsOrdered.{either-sign, greater-value-no-lower-level}
 use Rattle.levels.proofs.RepliesOrdered.{block-levels-negated, block-levels-ordered, level-replies-negated}
 use Rattle.levels.proofs.Unread.{SameSamples, unread}
-use Rattle.levels.specs.Choosing.{Largest, LevelOf, LevelOfSample, nought, sampleAt}
+use Rattle.levels.specs.Choosing.{Largest, LevelOf, LevelOfSample, nought, sample_at}
 use Rattle.levels.specs.declared.Level.{Level}
 use Rattle.levels.specs.declared.Levels.{Levels}
 use Rattle.levels.specs.declared.Sample.{Sample}
 use Rattle.levels.specs.declared.Sample.TheVariants.{Erased, Heard}
 use Rattle.levels.specs.declared.Setting.{Setting}
-use Rattle.levels.specs.Giving.{GivesLevel, GivesLevels, Good, blockConditions, sampleConditions}
+use Rattle.levels.specs.Giving.{GivesLevel, GivesLevels, Good, block_conditions, sample_conditions}
 use Rattle.levels.specs.Testing.{IsNumber}
 use Rattle.plates.specs.declared.Refusal.{Refusal}
 use Rattle.plates.specs.declared.Refusal.TheVariants.{BadSetting, NotANumber}
@@ -45,7 +45,7 @@ erased-gives-zero setting level g = g.1
 -- a value of zero or more gives the largest j from 0 to the top level for which j times step, rounded once to f32, is at most the value
 pub zero-or-more-gives-largest : (setting : Setting) (value : Float) (level : ℤ) → GivesLevel setting (Heard value) (L.Is level) → T (le nought value)
     → (j : ℕ) × Largest setting value j × (level ≡ pos j)
-zero-or-more-gives-largest setting value level g h = let x = g.1.zero-or-more h in (g.1.size, x.0, x.1)
+zero-or-more-gives-largest setting value level g h = let x = g.1.zero_or_more h in (g.1.size, x.0, x.1)
 
 -- a negative value gives minus the level of its negation
 pub negative-gives-minus : (setting : Setting) (value : Float) (level : ℤ) → GivesLevel setting (Heard value) (L.Is level) → T (lt value nought)
@@ -71,7 +71,7 @@ level-within setting value level n l = go (either-sign value n)
   where
     go : T (lt value nought) ⊎ T (le nought value) → nat_abs level ≤ setting.top
     go (inl h) = let x = l.negative h in omega (arith, ap nat_abs x.1, abs_neg (pos l.size), x.0.within)
-    go (inr h) = let x = l.zero-or-more h in omega (arith, ap nat_abs x.1, x.0.within)
+    go (inr h) = let x = l.zero_or_more h in omega (arith, ap nat_abs x.1, x.0.within)
 
 sample-within : (setting : Setting) (sample : Sample) (level : ℤ) → IsNumber sample → LevelOfSample setting sample level → nat_abs level ≤ setting.top
 sample-within setting (Heard value) level n l = level-within setting value level n l
@@ -95,7 +95,7 @@ level-is-permitted setting sample level g =
 -- ---- single samples: 24, 25
 
 module _ (setting : Setting) (sample : Sample) where
-  pub level-numbers : Numbered (sampleConditions setting sample) (24 ∷ 25 ∷ [])
+  pub level-numbers : Numbered (sample_conditions setting sample) (24 ∷ 25 ∷ [])
   level-numbers = (its-number, (its-number, tt))
 
   -- place 0
@@ -104,17 +104,17 @@ module _ (setting : Setting) (sample : Sample) where
   level-places q (inr (x, inl y)) = ap place y.1
   level-places q (inr (x, inr y)) = absurd y.1
 
-  pub level-refuses-exactly : (r : Level) → GivesLevel setting sample r → RefusesExactly L.Refused (sampleConditions setting sample) r
+  pub level-refuses-exactly : (r : Level) → GivesLevel setting sample r → RefusesExactly L.Refused (sample_conditions setting sample) r
   level-refuses-exactly r p q = ((λ e. subst (GivesLevel setting sample) e p), λ h. level-determined setting sample r (L.Refused q) p h)
 
 -- ---- a block: 1, 24, 6, 25
 
 module _ (n : ℕ) (setting : Setting) (values : List Float) (erased : ℕ) (room : List ℤ) where
-  pub levels-numbers : Numbered (blockConditions n setting values erased room) (1 ∷ 24 ∷ 6 ∷ 25 ∷ [])
+  pub levels-numbers : Numbered (block_conditions n setting values erased room) (1 ∷ 24 ∷ 6 ∷ 25 ∷ [])
   levels-numbers = (its-number, (its-number, (its-number, ((λ q c. ap number c.is), tt))))
 
   module _ (room' : List ℤ) (r : Levels) (p : GivesLevels n setting values erased room room' r) where
-    pub levels-refuses-exactly : RefusesExactly B.Refused (blockConditions n setting values erased room) r
+    pub levels-refuses-exactly : RefusesExactly B.Refused (block_conditions n setting values erased room) r
     levels-refuses-exactly q = (
       (λ e. (subst (GivesLevels n setting values erased room room') e p).0),
       λ h. (levels-determined n setting values erased room r (B.Refused q) room' room p (h, refl)).0,
@@ -138,7 +138,7 @@ module _ (n : ℕ) (setting : Setting) (values : List Float) (erased : ℕ) (roo
     -- each is a permitted sample
     pub levels-are-permitted : (i : ℕ) → i < n → (nat_abs (get_or room' i (pos 0)) ≤ setting.top) × (nat_abs (get_or room' i (pos 0)) ≤ limit)
     levels-are-permitted i h =
-        let w = sample-within setting (sampleAt values erased i) (get_or room' i (pos 0)) (passed-number n setting values erased room p.0 i h)
+        let w = sample-within setting (sample_at values erased i) (get_or room' i (pos 0)) (passed-number n setting values erased room p.0 i h)
         (p.1.each i (omega (arith, h, values-n n setting values erased room room' p))) in
         let t = top_small setting (λ d. p.0.1.0 BadSetting (d, refl)) in
         (w, omega (arith, w, t))

@@ -12,16 +12,16 @@ use Rattle.plates.specs.declared.Refusal.TheVariants.{TooWide}
 use Rattle.plates.specs.declared.Verdict.TheVariants.{Accepted, Refused}
 use Rattle.plates.specs.Heads.{RowsOf}
 use Rattle.plates.specs.Prepare.{Prepares}
-use Rattle.plates.specs.Profile.{liveAt}
+use Rattle.plates.specs.Profile.{live_at}
 use Rattle.trellises.proofs.DualProfiles.{dual-profiles}
-use Rattle.trellises.proofs.DualReplies.{accepted-or-refused-both, dimensions-together, refused-at-same-depth, same_length, same-profile, same-verdict}
+use Rattle.trellises.proofs.DualReplies.{accepted-or-refused-both, dimensions-together, refused-at-same-depth, same_length, same_profile, same-verdict}
 use Rattle.trellises.specs.Dual.{TooWideAt}
 use Rattle.words.specs.Ends.{firsts, lasts}
 
 -- the code and its dual have equal profiles: the rows of both plates, accepted or too wide
 pub dual-profiles-equal : (n : ℕ) (matrix : List ℕ) → ((j : ℕ) → j < length matrix → get_or matrix j 0 < 2 ^ n)
     → (a b : List ℕ) → RowsOf (InCode G n matrix) a (firsts a) (lasts a) → RowsOf (InCode H n matrix) b (firsts b) (lasts b)
-    → (t : ℕ) → t ≤ n → liveAt a t ≡ liveAt b t
+    → (t : ℕ) → t ≤ n → live_at a t ≡ live_at b t
 dual-profiles-equal n matrix below a b p q = dual-profiles n matrix below a b p q
 
 module _ (n : ℕ) (matrix : List ℕ) (r s : Prepared) (x : Prepares n G matrix 0 r) (y : Prepares n H matrix 0 s) where
@@ -41,7 +41,7 @@ module _ (n : ℕ) (matrix : List ℕ) (r s : Prepared) (x : Prepares n G matrix
 
   -- and so are the profiles that the two plates have, and their lengths
   pub dual-plate-profiles : (r.plate.profile ≡ s.plate.profile) × (r.plate.n ≡ s.plate.n)
-  dual-plate-profiles = (same-profile n matrix r s x y, same_length n matrix r s x y)
+  dual-plate-profiles = (same_profile n matrix r s x y, same_length n matrix r s x y)
 
   -- where they are accepted, k of the one and k of the other are n
   pub dual-dimensions : r.verdict ≡ Accepted → r.plate.k + s.plate.k ≡ n

@@ -1,5 +1,5 @@
 -- A14, judging a supplier's trellis: `judge` holds a listing of branch lines against a plate. Definitions: sheets/specs/Listed (the lines),
--- judging/specs/Listing (`faultyAt`, `repeatsAt`, `listedGraph`), Judging (the conditions, `Wrongly`, `Missing`, `Judges`), Surplus (`SurplusOver`), and
+-- judging/specs/Listing (`faulty_at`, `repeats_at`, `listed_graph`), Judging (the conditions, `Wrongly`, `Missing`, `Judges`), Surplus (`SurplusOver`), and
 -- trellises/specs/Graph (`Path`, `Spells`). A line that leaves depth 0 elsewhere than in state 0, or enters depth n elsewhere, is no bad line but a
 -- useless branch: it is on no full path (`full-paths-from-zero-to-zero`).
 use lib.ListN.{drop, get_or, length, replicate}
@@ -17,24 +17,24 @@ use Rattle.judging.proofs.Determined.{judge-determined, right-exactly}
 use Rattle.judging.specs.declared.Judged.{Judged}
 use Rattle.judging.specs.declared.Judged.TheVariants.{NotSpelled, Refused, Right, SpelledWrongly}
 use Rattle.judging.specs.declared.Judgement.{Judgement}
-use Rattle.judging.specs.Judging.{JudgesBy, Judges, Missing, Wrongly, graphAgainst, judgingConditions, roomNeed}
-use Rattle.judging.specs.Listing.{listedGraph}
+use Rattle.judging.specs.Judging.{JudgesBy, Judges, Missing, Wrongly, graph_against, judging_conditions, room_need}
+use Rattle.judging.specs.Listing.{listed_graph}
 use Rattle.judging.specs.Surplus.{BranchOn, Number, StateOn, SurplusIn, SurplusOver}
 use Rattle.plates.specs.declared.Plate.{Plate}
 use Rattle.plates.specs.declared.Refusal.{Refusal}
 use Rattle.plates.specs.Prepare.{IsWord, rows_of}
-use Rattle.plates.specs.Profile.{liveAt}
+use Rattle.plates.specs.Profile.{live_at}
 use Rattle.plates.specs.Refusals.{number}
 use Rattle.sheets.specs.declared.listed.Branch.{Branch}
 use Rattle.sheets.specs.Listed.{entries}
 use Rattle.trellises.specs.Graph.{Graph, Path, Spells}
-use Rattle.trellises.specs.Smallest.{activeAt}
+use Rattle.trellises.specs.Smallest.{active_at}
 use Rattle.words.specs.Word.{Earlier}
 
 -- ---- start and end state 0
 
 -- a path of a listing begins and ends in state 0
-pub full-paths-from-zero-to-zero : (n : ℕ) (bs : List Branch) (w : ℕ) (p : Path (listedGraph n bs) n w) → (p.state 0 ≡ 0) × (p.state n ≡ 0)
+pub full-paths-from-zero-to-zero : (n : ℕ) (bs : List Branch) (w : ℕ) (p : Path (listed_graph n bs) n w) → (p.state 0 ≡ 0) × (p.state n ≡ 0)
 full-paths-from-zero-to-zero n bs w p = (omega (arith, p.inside 0 (omega arith)), omega (arith, last))
   where
     one : ◌≡◌ {A = ℕ} (cond (eqb n 0 || eqb n n) 1 1024) 1
@@ -51,11 +51,11 @@ full-paths-from-zero-to-zero n bs w p = (omega (arith, p.inside 0 (omega arith))
 
 -- the lines of the text
 module _ (plate : Plate) (text room : List ℕ) where
-  pub judge-numbers : Numbered (judgingConditions plate (entries plate.n text) room) (5 ∷ 28 ∷ 26 ∷ 27 ∷ 8 ∷ [])
+  pub judge-numbers : Numbered (judging_conditions plate (entries plate.n text) room) (5 ∷ 28 ∷ 26 ∷ 27 ∷ 8 ∷ [])
   judge-numbers = (its-number, (its-number, ((λ q c. ap number c.is), ((λ q c. ap number c.is), (its-number, tt)))))
 
   -- four 64-bit numbers a line
-  pub room-need-is : roomNeed (entries plate.n text) ≡ 4 * length (entries plate.n text)
+  pub room-need-is : room_need (entries plate.n text) ≡ 4 * length (entries plate.n text)
   room-need-is = refl
 
   module _ (room' : List ℕ) (r : Judgement) (p : Judges plate text room room' r) where
@@ -64,7 +64,7 @@ module _ (plate : Plate) (text room : List ℕ) where
     by-verdict v e = subst (JudgesBy plate (entries plate.n text) room room') e p.reply
 
     -- refused exactly under them
-    pub judge-refuses-exactly : RefusesExactly Refused (judgingConditions plate (entries plate.n text) room) r.verdict
+    pub judge-refuses-exactly : RefusesExactly Refused (judging_conditions plate (entries plate.n text) room) r.verdict
     judge-refuses-exactly q = (
       (λ e. (by-verdict (Refused q) e).0),
       λ h. ap (λ (j : Judgement). j.verdict)
@@ -78,45 +78,45 @@ module _ (plate : Plate) (text room : List ℕ) where
 
     module _ (not : (q : Refusal) → r.verdict ≡ Refused q → ⊥) where
       -- success leaves the needed room zero, and the rest as it was
-      pub judge-zeroes-room : room' ≡ replicate (roomNeed (entries plate.n text)) 0 ++ drop (roomNeed (entries plate.n text)) room
+      pub judge-zeroes-room : room' ≡ replicate (room_need (entries plate.n text)) 0 ++ drop (room_need (entries plate.n text)) room
       judge-zeroes-room = go r.verdict refl p.reply
         where
           go : (v : Judged) → r.verdict ≡ v → JudgesBy plate (entries plate.n text) room room' v
-              → room' ≡ replicate (roomNeed (entries plate.n text)) 0 ++ drop (roomNeed (entries plate.n text)) room
+              → room' ≡ replicate (room_need (entries plate.n text)) 0 ++ drop (room_need (entries plate.n text)) room
           go (Refused q) e x = absurd (not q e)
           go Right e x = x.2
           go (SpelledWrongly w) e x = x.2
           go (NotSpelled w) e x = x.2
 
       -- right exactly if the full paths spell exactly the plate's words
-      pub judged-right-exactly : (r.verdict ≡ Right) ↔ Spells (graphAgainst plate (entries plate.n text)) plate.n (IsWord plate)
+      pub judged-right-exactly : (r.verdict ≡ Right) ↔ Spells (graph_against plate (entries plate.n text)) plate.n (IsWord plate)
       judged-right-exactly = right-exactly plate text room room' r p not
 
       -- otherwise a word is shown: spelled wrongly, or not spelled
       pub judged-otherwise : (r.verdict ≡ Right → ⊥)
-          → ((w : ℕ) × (r.verdict ≡ SpelledWrongly w) × Wrongly (graphAgainst plate (entries plate.n text)) plate.n (IsWord plate) w)
-          ⊎ ((w : ℕ) × (r.verdict ≡ NotSpelled w) × Missing (graphAgainst plate (entries plate.n text)) plate.n (IsWord plate) w)
+          → ((w : ℕ) × (r.verdict ≡ SpelledWrongly w) × Wrongly (graph_against plate (entries plate.n text)) plate.n (IsWord plate) w)
+          ⊎ ((w : ℕ) × (r.verdict ≡ NotSpelled w) × Missing (graph_against plate (entries plate.n text)) plate.n (IsWord plate) w)
       judged-otherwise wrong = go r.verdict refl p.reply
         where
           go : (v : Judged) → r.verdict ≡ v → JudgesBy plate (entries plate.n text) room room' v
-              → ((w : ℕ) × (r.verdict ≡ SpelledWrongly w) × Wrongly (graphAgainst plate (entries plate.n text)) plate.n (IsWord plate) w)
-              ⊎ ((w : ℕ) × (r.verdict ≡ NotSpelled w) × Missing (graphAgainst plate (entries plate.n text)) plate.n (IsWord plate) w)
+              → ((w : ℕ) × (r.verdict ≡ SpelledWrongly w) × Wrongly (graph_against plate (entries plate.n text)) plate.n (IsWord plate) w)
+              ⊎ ((w : ℕ) × (r.verdict ≡ NotSpelled w) × Missing (graph_against plate (entries plate.n text)) plate.n (IsWord plate) w)
           go (Refused q) e x = absurd (not q e)
           go Right e x = absurd (wrong e)
           go (SpelledWrongly w) e x = inl (w, e, x.1)
           go (NotSpelled w) e x = inr (w, e, x.1)
 
     -- on a right listing the surplus: those on full paths are ours and the surplus, which is a number from 0 on, so that none is negative
-    pub judged-surplus : r.verdict ≡ Right → SurplusOver (graphAgainst plate (entries plate.n text)) plate.n (rows_of plate) r.states r.branches
+    pub judged-surplus : r.verdict ≡ Right → SurplusOver (graph_against plate (entries plate.n text)) plate.n (rows_of plate) r.states r.branches
     judged-surplus e =
-        subst (λ (v : Judged). SurplusIn (graphAgainst plate (entries plate.n text)) plate.n (rows_of plate) v r.states r.branches) e p.surplus
+        subst (λ (v : Judged). SurplusIn (graph_against plate (entries plate.n text)) plate.n (rows_of plate) v r.states r.branches) e p.surplus
 
     pub states-are-ours-and-surplus : r.verdict ≡ Right → (t : ℕ) → t ≤ plate.n
-        → Number (StateOn (graphAgainst plate (entries plate.n text)) plate.n t) (2 ^ liveAt (rows_of plate) t + get_or r.states t 0)
+        → Number (StateOn (graph_against plate (entries plate.n text)) plate.n t) (2 ^ live_at (rows_of plate) t + get_or r.states t 0)
     states-are-ours-and-surplus e = (judged-surplus e).state
 
     pub branches-are-ours-and-surplus : r.verdict ≡ Right → (t : ℕ) → t < plate.n
-        → Number (BranchOn (graphAgainst plate (entries plate.n text)) plate.n t) (2 ^ activeAt (rows_of plate) t + get_or r.branches t 0)
+        → Number (BranchOn (graph_against plate (entries plate.n text)) plate.n t) (2 ^ active_at (rows_of plate) t + get_or r.branches t 0)
     branches-are-ours-and-surplus e = (judged-surplus e).branch
 
 -- ---- the earliest word
@@ -127,4 +127,4 @@ module _ (g : Graph) (n : ℕ) (C : ℕ → Type 0) (w : ℕ) where
   wrongly-is-earliest x = (x.spelled, x.no_word, x.before.earlier)
 
   pub missing-is-earliest : Missing g n C w → C w × (Path g n w → ⊥) × ((v : ℕ) → v < 2 ^ n → Earlier v w → C v ↔ Path g n v)
-  missing-is-earliest x = (x.word, x.not-spelled, x.before.earlier)
+  missing-is-earliest x = (x.word, x.not_spelled, x.before.earlier)

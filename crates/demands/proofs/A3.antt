@@ -16,8 +16,8 @@ use Rattle.decoding.specs.declared.Answer.{Answer}
 use Rattle.decoding.specs.declared.firmness.Flag.{Flag}
 use Rattle.decoding.specs.declared.firmness.Flagged.{Flagged}
 use Rattle.decoding.specs.declared.firmness.Flagged.TheVariants.{Found, Refused}
-use Rattle.decoding.specs.Decode.{Best, Decodes, decisionNeed, metricNeed}
-use Rattle.decoding.specs.Firmness.{Agrees, Always, BestAmong, FlagOf, TellsFirmness, Margin, Means, firmnessConditions, isFixed, value}
+use Rattle.decoding.specs.Decode.{Best, Decodes, decision_need, metric_need}
+use Rattle.decoding.specs.Firmness.{Agrees, Always, BestAmong, FlagOf, TellsFirmness, Margin, Means, firmness_conditions, is_fixed, value}
 use Rattle.decoding.specs.Metric.{limit}
 use Rattle.demands.proofs.Demand1.{its-number}
 use Rattle.demands.specs.Refusing.{Numbered, RefusesExactly}
@@ -33,13 +33,13 @@ use Rattle.decoding.specs.declared.Decoded.TheVariants as D
 
 module _ (plate : Plate) (samples : List ℤ) (position : ℕ) (metrics : List ℤ) (decisions : List ℕ) where
   -- the conditions, in order
-  pub firmness-numbers : Numbered (firmnessConditions plate samples position metrics decisions) (5 ∷ 6 ∷ 7 ∷ 21 ∷ 8 ∷ 9 ∷ [])
+  pub firmness-numbers : Numbered (firmness_conditions plate samples position metrics decisions) (5 ∷ 6 ∷ 7 ∷ 21 ∷ 8 ∷ 9 ∷ [])
   firmness-numbers = (its-number, (its-number, ((λ q c. ap number c.is), (its-number, (its-number, (its-number, tt))))))
 
   -- where none of them holds: a prepared plate, n samples within the limit, a position below n, and rooms that are long enough
   pub firmness-passes : IsPrepared plate → length samples ≡ plate.n → ((i : ℕ) → i < length samples → nat_abs (get_or samples i (pos 0)) ≤ limit)
-      → position < plate.n → metricNeed plate ≤ length metrics → decisionNeed plate ≤ length decisions
-      → Passes (firmnessConditions plate samples position metrics decisions)
+      → position < plate.n → metric_need plate ≤ length metrics → decision_need plate ≤ length decisions
+      → Passes (firmness_conditions plate samples position metrics decisions)
   firmness-passes p size within there m d = (
     (λ q c. c.0 p),
     (
@@ -54,19 +54,19 @@ module _ (plate : Plate) (samples : List ℤ) (position : ℕ) (metrics : List �
   -- the two rooms after the call, and its reply
   module _ (metrics' : List ℤ) (decisions' : List ℕ) (r : Flagged) (p : TellsFirmness plate samples position metrics decisions metrics' decisions' r) where
     -- refused exactly under them
-    pub firmness-refuses-exactly : RefusesExactly Refused (firmnessConditions plate samples position metrics decisions) r
+    pub firmness-refuses-exactly : RefusesExactly Refused (firmness_conditions plate samples position metrics decisions) r
     firmness-refuses-exactly q = (
       (λ e. (subst (TellsFirmness plate samples position metrics decisions metrics' decisions') e p).0),
       λ h. (firmness-determined plate samples position metrics decisions r (Refused q) metrics' metrics decisions' decisions p (h, refl, refl)).0,
     )
 
     -- where none of them holds the flag is found
-    pub firmness-passed-found : Passes (firmnessConditions plate samples position metrics decisions) → (f : Flag) × (r ≡ Found f)
+    pub firmness-passed-found : Passes (firmness_conditions plate samples position metrics decisions) → (f : Flag) × (r ≡ Found f)
     firmness-passed-found h = go r refl
       where
         go : (s : Flagged) → r ≡ s → (f : Flag) × (r ≡ Found f)
         go (Found f) e = (f, e)
-        go (Refused q) e = absurd (never_both (firmnessConditions plate samples position metrics decisions) h q ((firmness-refuses-exactly q).0 e))
+        go (Refused q) e = absurd (never_both (firmness_conditions plate samples position metrics decisions) h q ((firmness-refuses-exactly q).0 e))
 
     -- a refused call changes nothing lent
     pub firmness-refused-unchanged : (q : Refusal) → r ≡ Refused q → (metrics' ≡ metrics) × (decisions' ≡ decisions)
@@ -74,25 +74,25 @@ module _ (plate : Plate) (samples : List ℤ) (position : ℕ) (metrics : List �
 
     -- one that succeeds zeroes the room it needs, as decoding does, and touches no more
     pub firmness-found-zeroes : (f : Flag) → r ≡ Found f
-        → (metrics' ≡ replicate (metricNeed plate) (pos 0) ++ drop (metricNeed plate) metrics)
-        × (decisions' ≡ replicate (decisionNeed plate) 0 ++ drop (decisionNeed plate) decisions)
+        → (metrics' ≡ replicate (metric_need plate) (pos 0) ++ drop (metric_need plate) metrics)
+        × (decisions' ≡ replicate (decision_need plate) 0 ++ drop (decision_need plate) decisions)
     firmness-found-zeroes f e =
-        let x = subst (TellsFirmness plate samples position metrics decisions metrics' decisions') e p in (x.2.metrics-zero, x.2.decisions-zero)
+        let x = subst (TellsFirmness plate samples position metrics decisions metrics' decisions') e p in (x.2.metrics_zero, x.2.decisions_zero)
 
     -- the reply carries the position beside the reading
     pub firmness-position : (f : Flag) → r ≡ Found f → f.position ≡ position
-    firmness-position f e = (subst (TellsFirmness plate samples position metrics decisions metrics' decisions') e p).1.position-is
+    firmness-position f e = (subst (TellsFirmness plate samples position metrics decisions metrics' decisions') e p).1.position_is
 
     -- it is of this flag
     flag-of : (f : Flag) → r ≡ Found f → FlagOf (IsWord plate) samples position f
     flag-of f e = (subst (TellsFirmness plate samples position metrics decisions metrics' decisions') e p).1
 
     -- fixed means that every word has that bit
-    pub fixed-is-always : (f : Flag) → r ≡ Found f → isFixed f.reading ≡ true → (w : ℕ) → IsWord plate w → pos (bit w position) ≡ value f.reading
+    pub fixed-is-always : (f : Flag) → r ≡ Found f → is_fixed f.reading ≡ true → (w : ℕ) → IsWord plate w → pos (bit w position) ≡ value f.reading
     fixed-is-always f e o = subst (λ (b : Bool). Means (IsWord plate) samples position b (value f.reading)) o (flag-of f e).reading
 
     -- open comes with the margin: the best metric among words with 0 there minus the best among those with 1
-    pub open-is-margin : (f : Flag) → r ≡ Found f → isFixed f.reading ≡ false → Margin (IsWord plate) samples position (value f.reading)
+    pub open-is-margin : (f : Flag) → r ≡ Found f → is_fixed f.reading ≡ false → Margin (IsWord plate) samples position (value f.reading)
     open-is-margin f e o = subst (λ (b : Bool). Means (IsWord plate) samples position b (value f.reading)) o (flag-of f e).reading
 
     -- a fixed reading has the decoded bit; of an open one a positive margin means that decoding gives 0 there, a negative one 1. Decoding may
@@ -102,7 +102,7 @@ module _ (plate : Plate) (samples : List ℤ) (position : ℕ) (metrics : List �
     firmness-agrees f e a room room' words words' x = margin-sign plate samples position a x.1 f (flag-of f e)
 
     -- an open margin lies within 262,016 either way
-    pub firmness-margin : (f : Flag) → r ≡ Found f → isFixed f.reading ≡ false → nat_abs (value f.reading) ≤ 262016
+    pub firmness-margin : (f : Flag) → r ≡ Found f → is_fixed f.reading ≡ false → nat_abs (value f.reading) ≤ 262016
     firmness-margin f e o =
         margin-bounds plate samples position metrics decisions metrics' decisions' f
         (subst (TellsFirmness plate samples position metrics decisions metrics' decisions') e p) o
@@ -131,13 +131,13 @@ module _ (plate : Plate) (samples : List ℤ) (position : ℕ) (a : Answer) (bes
   pub zero-decides-nothing : Margin (IsWord plate) samples position (pos 0) → AsGood plate samples a position 0 × AsGood plate samples a position 1
   zero-decides-nothing o = go (bit-cases a.word position)
     where
-      same : o.with-zero ≡ o.with-one
-      same = no_difference o.with-zero o.with-one (sym o.is)
+      same : o.with_zero ≡ o.with_one
+      same = no_difference o.with_zero o.with_one (sym o.is)
 
       go : (bit a.word position ≡ 0) ⊎ (bit a.word position ≡ 1) → AsGood plate samples a position 0 × AsGood plate samples a position 1
       go (inl e) =
-          let z = own-best 0 o.with-zero o.zero-best e in
-          (as-good 0 o.with-zero o.zero-best z, as-good 1 o.with-one o.one-best (sym same ∙ z))
+          let z = own-best 0 o.with_zero o.zero_best e in
+          (as-good 0 o.with_zero o.zero_best z, as-good 1 o.with_one o.one_best (sym same ∙ z))
       go (inr e) =
-          let z = own-best 1 o.with-one o.one-best e in
-          (as-good 0 o.with-zero o.zero-best (same ∙ z), as-good 1 o.with-one o.one-best z)
+          let z = own-best 1 o.with_one o.one_best e in
+          (as-good 0 o.with_zero o.zero_best (same ∙ z), as-good 1 o.with_one o.one_best z)

@@ -1,5 +1,5 @@
 -- A5, a shift's tally: one report for a sheet of heard lines. Definitions: sheets/specs/Blocks (heard lines), reports/specs/Tally (`advance`,
--- `standing`, `referenceOf`, `share`, `tally_of`, from the lines themselves), Report (`HeardsReport`), listings/specs/Lines (`tallyLine`).
+-- `standing`, `reference_of`, `share`, `tally_of`, from the lines themselves), Report (`HeardsReport`), listings/specs/Lines (`tally_line`).
 use borrow.Author.Tests.{le-ltb, lt-ltb, ne_eqb}
 use lib.IntN.{+ℤ_assoc, +ℤ_idl, +ℤ_invr, ◌+ℤ◌, negsuc, pos, pos-+ℤ-pos, ℤ}
 use lib.ListN.{drop, length}
@@ -14,8 +14,8 @@ use Rattle.decoding.specs.declared.Answer.{Answer}
 use Rattle.decoding.specs.declared.Decoded.{Decoded}
 use Rattle.demands.specs.Requests.{TallyTold}
 use Rattle.listings.specs.declared.Tally.{Tally}
-use Rattle.listings.specs.Decimal.{decimal, signedDecimal}
-use Rattle.listings.specs.Lines.{less, line, tallyLine, tallyName}
+use Rattle.listings.specs.Decimal.{decimal, signed_decimal}
+use Rattle.listings.specs.Lines.{less, line, tally_line, tally_name}
 use Rattle.plates.proofs.PrepareDetermined.{prepare-determined}
 use Rattle.plates.specs.declared.Plate.{Plate}
 use Rattle.plates.specs.declared.Prepared.{Prepared}
@@ -27,19 +27,19 @@ use Rattle.reports.proofs.TallyLaws.{none-plus}
 use Rattle.reports.specs.declared.tally.Reference.{Reference}
 use Rattle.reports.specs.declared.tally.Standing.{Standing}
 use Rattle.reports.specs.Report.{BlockAnswers, HeardsReport, LinesReport, PreparedReports, Reports, ReportsAs, SheetReports}
-use Rattle.reports.specs.Report.{atFirst, closing, heardLines, lineOfAnswer, lineOfHeard}
-use Rattle.reports.specs.Tally.{Heard, advance, decodedShare, foundShare, heardsOf, isRepeat, metricsFrom, referenceBy, referenceOf}
-use Rattle.reports.specs.Tally.{refusedShare, repeatedShare, share, standing, standingBy, tally_of}
+use Rattle.reports.specs.Report.{at_first, closing, heard_lines, line_of_answer, line_of_heard}
+use Rattle.reports.specs.Tally.{Heard, advance, decoded_share, found_share, heards_of, is_repeat, metrics_from, reference_by, reference_of}
+use Rattle.reports.specs.Tally.{refused_share, repeated_share, share, standing, standing_by, tally_of}
 use Rattle.sheets.proofs.Ranges.{accepted}
-use Rattle.sheets.specs.Blocks.{BlockFound, block, blockFront, blockThen, blocksOf, countersOf, heardFront, no_block}
+use Rattle.sheets.specs.Blocks.{BlockFound, block, block_front, block_then, blocks_of, counters_of, heard_front, no_block}
 use Rattle.sheets.specs.declared.cover.Cover.{Cover}
 use Rattle.sheets.specs.declared.Order.{Order}
-use Rattle.sheets.specs.Faults.{Wrong, first_word, in_turn, onBlocks, onHeard, outOfTurn}
+use Rattle.sheets.specs.Faults.{Wrong, first_word, in_turn, on_blocks, on_heard, out_of_turn}
 use Rattle.sheets.specs.Lines.{rows_of}
-use Rattle.sheets.specs.Masks.{maskFront, maskIn, masksIn}
-use Rattle.sheets.specs.Sheet.{Contents, Reading, contents, contentsWith, coverFront, coverIn, reading, says}
+use Rattle.sheets.specs.Masks.{mask_front, mask_in, masks_in}
+use Rattle.sheets.specs.Sheet.{Contents, Reading, contents, contents_with, cover_front, cover_in, reading, says}
 use Rattle.sheets.specs.Text.{lines}
-use Rattle.sheets.specs.Turning.{byPosition}
+use Rattle.sheets.specs.Turning.{by_position}
 use Rattle.decoding.specs.declared.Decoded.TheVariants as D
 use Rattle.plates.specs.declared.Verdict.TheVariants as J
 use Rattle.reports.proofs.TallyLaws as Laws
@@ -69,7 +69,7 @@ module _ (reference counter : ℕ) where
   pub over-is-out-of-turn : 32767 < advance counter reference → standing (R.Counter reference) counter ≡ S.OutOfTurn
   over-is-out-of-turn h = by-step (advance counter reference) h
     where
-      by-step : (step : ℕ) → 32767 < step → standingBy step ≡ S.OutOfTurn
+      by-step : (step : ℕ) → 32767 < step → standing_by step ≡ S.OutOfTurn
       by-step zero l = absurd (omega arith)
       by-step (suc step) l = rw (ne_eqb (suc step) 0 (λ e. omega (arith, e)), lt-ltb 32767 (suc step) l)
 
@@ -78,7 +78,7 @@ module _ (reference counter : ℕ) where
       → standing (R.Counter reference) counter ≡ S.Onward (advance counter reference - 1)
   other-is-onward a b = by-step (advance counter reference) a b
     where
-      by-step : (step : ℕ) → 0 < step → step ≤ 32767 → standingBy step ≡ S.Onward (step - 1)
+      by-step : (step : ℕ) → 0 < step → step ≤ 32767 → standing_by step ≡ S.Onward (step - 1)
       by-step zero l m = absurd (omega arith)
       by-step (suc step) l m = rw (ne_eqb (suc step) 0 (λ e. omega (arith, e)), le-ltb 32767 (suc step) m)
 
@@ -87,54 +87,54 @@ module _ (reference counter : ℕ) where
 module _ (reference : Reference) (counter : ℕ) (samples : List ℤ) where
   -- a line refused counts as refused only and leaves the reference
   pub refused-only : (q : Refusal)
-      → (share reference counter samples (D.Refused q) ≡ refusedShare) × (referenceOf reference counter (D.Refused q) ≡ reference)
+      → (share reference counter samples (D.Refused q) ≡ refused_share) × (reference_of reference counter (D.Refused q) ≡ reference)
   refused-only q = (refl, refl)
 
   module _ (a : Answer) where
     -- a repeat is neither decoded nor summed
     pub repeat-only : standing reference counter ≡ S.Repeat
-        → (share reference counter samples (D.Found a) ≡ repeatedShare) × (referenceOf reference counter (D.Found a) ≡ reference)
-    repeat-only e = (ap (λ (s : Standing). foundShare s samples a) e, ap (λ (s : Standing). referenceBy s counter reference) e)
+        → (share reference counter samples (D.Found a) ≡ repeated_share) × (reference_of reference counter (D.Found a) ≡ reference)
+    repeat-only e = (ap (λ (s : Standing). found_share s samples a) e, ap (λ (s : Standing). reference_by s counter reference) e)
 
     -- out of turn: decoded, adding nothing to missing, and the reference counter stays
     pub out-of-turn-decoded : standing reference counter ≡ S.OutOfTurn
-        → (share reference counter samples (D.Found a) ≡ decodedShare 1 0 samples a) × (referenceOf reference counter (D.Found a) ≡ reference)
-    out-of-turn-decoded e = (ap (λ (s : Standing). foundShare s samples a) e, ap (λ (s : Standing). referenceBy s counter reference) e)
+        → (share reference counter samples (D.Found a) ≡ decoded_share 1 0 samples a) × (reference_of reference counter (D.Found a) ≡ reference)
+    out-of-turn-decoded e = (ap (λ (s : Standing). found_share s samples a) e, ap (λ (s : Standing). reference_by s counter reference) e)
 
     -- any other is decoded, adds advance minus one to missing and becomes the reference
     pub onward-decoded : (missing : ℕ) → standing reference counter ≡ S.Onward missing
-        → (share reference counter samples (D.Found a) ≡ decodedShare 0 missing samples a) × (referenceOf reference counter (D.Found a) ≡ R.Counter counter)
-    onward-decoded missing e = (ap (λ (s : Standing). foundShare s samples a) e, ap (λ (s : Standing). referenceBy s counter reference) e)
+        → (share reference counter samples (D.Found a) ≡ decoded_share 0 missing samples a) × (reference_of reference counter (D.Found a) ≡ R.Counter counter)
+    onward-decoded missing e = (ap (λ (s : Standing). found_share s samples a) e, ap (λ (s : Standing). reference_by s counter reference) e)
 
 -- the first line not refused sets the reference and is decoded
 pub first-sets-reference : (counter : ℕ) (samples : List ℤ) (a : Answer)
-    → (share R.Unset counter samples (D.Found a) ≡ decodedShare 0 0 samples a) × (referenceOf R.Unset counter (D.Found a) ≡ R.Counter counter)
+    → (share R.Unset counter samples (D.Found a) ≡ decoded_share 0 0 samples a) × (reference_of R.Unset counter (D.Found a) ≡ R.Counter counter)
 first-sets-reference counter samples a = (refl, refl)
 
 -- a repeat prints no line
 pub repeat-prints-none : (order : Order) (plate : Plate) (reference : Reference) (counter : ℕ) (a : Answer) → standing reference counter ≡ S.Repeat
-    → lineOfHeard order plate reference counter (D.Found a) ≡ []
-repeat-prints-none order plate reference counter a e = ap (λ (s : Standing). cond (isRepeat s) [] (lineOfAnswer order plate a)) e
+    → line_of_heard order plate reference counter (D.Found a) ≡ []
+repeat-prints-none order plate reference counter a e = ap (λ (s : Standing). cond (is_repeat s) [] (line_of_answer order plate a)) e
 
 -- ---- a sheet mixing block and heard is 17 at the first that departs
 
-pub heard-among-blocks : (n : ℕ) (fs : List (List ℕ)) → first_word fs ≡ W.Heard → Wrong n onBlocks fs 17 1
-heard-among-blocks n fs e = outOfTurn (ap (in_turn onBlocks) e) refl refl
+pub heard-among-blocks : (n : ℕ) (fs : List (List ℕ)) → first_word fs ≡ W.Heard → Wrong n on_blocks fs 17 1
+heard-among-blocks n fs e = out_of_turn (ap (in_turn on_blocks) e) refl refl
 
-pub block-among-heard : (n : ℕ) (fs : List (List ℕ)) → first_word fs ≡ W.Block → Wrong n onHeard fs 17 1
-block-among-heard n fs e = outOfTurn (ap (in_turn onHeard) e) refl refl
+pub block-among-heard : (n : ℕ) (fs : List (List ℕ)) → first_word fs ≡ W.Block → Wrong n on_heard fs 17 1
+block-among-heard n fs e = out_of_turn (ap (in_turn on_heard) e) refl refl
 
 -- ---- the printed sum, with its sign
 
 pos-once : {a b : ℕ} → pos a ≡ pos b → a ≡ b
 pos-once e = cc
 
-signed-whole : (k : ℕ) → signedDecimal (pos k) ≡ decimal k
-unfolding signedDecimal
+signed-whole : (k : ℕ) → signed_decimal (pos k) ≡ decimal k
+unfolding signed_decimal
 signed-whole k = ap (λ (b : Bool). cond b (45 ∷ decimal k) (decimal k)) (le-ltb k 0 zero-le)
 
-signed_below : (k : ℕ) → signedDecimal (negsuc k) ≡ 45 ∷ decimal (suc k)
-unfolding signedDecimal
+signed_below : (k : ℕ) → signed_decimal (negsuc k) ≡ 45 ∷ decimal (suc k)
+unfolding signed_decimal
 signed_below k = refl
 
 less-whole : (above below : ℕ) → below ≤ above → less above below ≡ decimal (above - below)
@@ -146,7 +146,7 @@ unfolding less
 less-below above below h = ap (λ (b : Bool). cond b (45 ∷ decimal (below - above)) (decimal (above - below))) (lt-ltb above below h)
 
 -- what is above less what is below, where their difference is the sum
-sum-is-signed : (m : ℤ) (above below : ℕ) → m +ℤ pos below ≡ pos above → less above below ≡ signedDecimal m
+sum-is-signed : (m : ℤ) (above below : ℕ) → m +ℤ pos below ≡ pos above → less above below ≡ signed_decimal m
 sum-is-signed (pos k) above below e =
     let s : k + below ≡ above = pos-once (sym (pos-+ℤ-pos k below) ∙ e) in
     let d : above - below ≡ k = omega (arith, s) in
@@ -161,48 +161,48 @@ sum-is-signed (negsuc k) above below e =
 
 -- the tally line of some heard lines: its numbers in the order named, the sum of metrics over the number decoded as two whole numbers, unreduced
 pub tally-line-is : (hs : List Heard) → let t = tally_of hs in
-    tallyLine t ≡ line tallyName (decimal t.decoded ∷ decimal t.refused ∷ decimal t.repeated ∷ decimal t.late ∷ decimal t.missing
-    ∷ decimal t.opposing ∷ decimal t.zeros ∷ signedDecimal (metricsFrom R.Unset hs) ∷ decimal t.decoded ∷ [])
-unfolding tallyLine
+    tally_line t ≡ line tally_name (decimal t.decoded ∷ decimal t.refused ∷ decimal t.repeated ∷ decimal t.late ∷ decimal t.missing
+    ∷ decimal t.opposing ∷ decimal t.zeros ∷ signed_decimal (metrics_from R.Unset hs) ∷ decimal t.decoded ∷ [])
+unfolding tally_line
 tally-line-is hs =
     let t = tally_of hs in
-    ap (λ (s : List ℕ). line tallyName (decimal t.decoded ∷ decimal t.refused ∷ decimal t.repeated ∷ decimal t.late ∷ decimal t.missing
+    ap (λ (s : List ℕ). line tally_name (decimal t.decoded ∷ decimal t.refused ∷ decimal t.repeated ∷ decimal t.late ∷ decimal t.missing
     ∷ decimal t.opposing ∷ decimal t.zeros ∷ s ∷ decimal t.decoded ∷ []))
-    (sum-is-signed (metricsFrom R.Unset hs) t.above t.below (metrics-summed R.Unset hs))
+    (sum-is-signed (metrics_from R.Unset hs) t.above t.below (metrics-summed R.Unset hs))
 
 -- ---- from the sheet's bytes on
 
 -- a sheet has a counter for each heard line
-blocks-few : (heard : Bool) (ls : List (List ℕ)) → length (blocksOf heard ls) ≤ length ls
+blocks-few : (heard : Bool) (ls : List (List ℕ)) → length (blocks_of heard ls) ≤ length ls
 blocks-few heard [] = omega arith
-blocks-few heard (l ∷ ls) = go (blockFront heard (l ∷ ls)) (blocks-few heard ls)
+blocks-few heard (l ∷ ls) = go (block_front heard (l ∷ ls)) (blocks-few heard ls)
   where
-    go : (b : BlockFound) → length (blocksOf heard ls) ≤ length ls → length (blockThen b (blocksOf heard ls)) ≤ suc (length ls)
+    go : (b : BlockFound) → length (blocks_of heard ls) ≤ length ls → length (block_then b (blocks_of heard ls)) ≤ suc (length ls)
     go (block vs) h = omega (arith, h)
     go no_block h = omega arith
 
-counters-many : (k : ℕ) (ls : List (List ℕ)) → k ≤ length ls → length (countersOf k ls) ≡ k
+counters-many : (k : ℕ) (ls : List (List ℕ)) → k ≤ length ls → length (counters_of k ls) ≡ k
 counters-many zero ls h = refl
 counters-many (suc k) [] h = absurd (omega arith)
 counters-many (suc k) (l ∷ ls) h = ap suc (counters-many k ls (omega arith))
 
-by-position-many : (order : Order) (bs : List (List ℤ)) → length (byPosition order bs) ≡ length bs
+by-position-many : (order : Order) (bs : List (List ℤ)) → length (by_position order bs) ≡ length bs
 by-position-many order [] = refl
 by-position-many order (b ∷ bs) = ap suc (by-position-many order bs)
 
-with-counters : (cover : Cover) (mask : ℕ) (ls : List (List ℕ)) → length (contentsWith cover mask ls).counters ≡ length (contentsWith cover mask ls).blocks
+with-counters : (cover : Cover) (mask : ℕ) (ls : List (List ℕ)) → length (contents_with cover mask ls).counters ≡ length (contents_with cover mask ls).blocks
 with-counters cover mask ls =
     let left = drop (length (rows_of cover.n cover.order ls)) ls in
-    let found = blocksOf (heardFront left) left in
-    counters-many (length found) left (blocks-few (heardFront left) left) ∙ sym (by-position-many cover.order found)
+    let found = blocks_of (heard_front left) left in
+    counters-many (length found) left (blocks-few (heard_front left) left) ∙ sym (by-position-many cover.order found)
 
 pub counter-for-each : (s : List ℕ) (c : Contents) → reading s ≡ says c → length c.counters ≡ length c.blocks
 unfolding contents
 counter-for-each s c e =
-    let cover = coverIn (coverFront (lines s)) in
-    let front = maskFront cover.n cover.order (drop 1 (lines s)) in
+    let cover = cover_in (cover_front (lines s)) in
+    let front = mask_front cover.n cover.order (drop 1 (lines s)) in
     subst (λ (d : Contents). length d.counters ≡ length d.blocks) (accepted s c e).1
-    (with-counters cover (maskIn front) (drop (masksIn front) (drop 1 (lines s))))
+    (with-counters cover (mask_in front) (drop (masks_in front) (drop 1 (lines s))))
 
 -- as many heard lines as counters and blocks
 answers-many : (plate : Plate) (blocks : List (List ℤ)) (replies : List Decoded) → BlockAnswers plate blocks replies → length replies ≡ length blocks
@@ -212,7 +212,7 @@ answers-many plate (b ∷ bs) [] x = absurd x
 answers-many plate (b ∷ bs) (r ∷ rs) x = ap suc (answers-many plate bs rs x.1)
 
 heards-many : (counters : List ℕ) (blocks : List (List ℤ)) (replies : List Decoded) → length counters ≡ length blocks → length replies ≡ length blocks
-    → length (heardsOf counters blocks replies) ≡ length blocks
+    → length (heards_of counters blocks replies) ≡ length blocks
 heards-many [] [] replies e f = refl
 heards-many [] (b ∷ bs) replies e f = absurd (omega arith)
 heards-many (c ∷ cs) [] replies e f = absurd (omega arith)
@@ -220,22 +220,22 @@ heards-many (c ∷ cs) (b ∷ bs) [] e f = absurd (omega arith)
 heards-many (c ∷ cs) (b ∷ bs) (r ∷ rs) e f = ap suc (heards-many cs bs rs (omega arith) (omega arith))
 
 lines-before : (order : Order) (plate : Plate) (reference : Reference) (hs : List Heard) (rest : List (List ℕ))
-    → heardLines order plate reference hs rest ≡ heardLines order plate reference hs [] ++ rest
+    → heard_lines order plate reference hs rest ≡ heard_lines order plate reference hs [] ++ rest
 lines-before order plate reference [] rest = refl
 lines-before order plate reference (h ∷ hs) rest =
-    ap (λ (ls : List (List ℕ)). lineOfHeard order plate reference h.counter h.reply ∷ ls)
-    (lines-before order plate (referenceOf reference h.counter h.reply) hs rest)
+    ap (λ (ls : List (List ℕ)). line_of_heard order plate reference h.counter h.reply ∷ ls)
+    (lines-before order plate (reference_of reference h.counter h.reply) hs rest)
 
 module _ (sheet : Contents) (plate : Plate) (as_many : length sheet.counters ≡ length sheet.blocks) where
-  told-by : (lines : List (List ℕ)) → HeardsReport sheet.order plate (length sheet.blocks) atFirst sheet.counters sheet.blocks lines
+  told-by : (lines : List (List ℕ)) → HeardsReport sheet.order plate (length sheet.blocks) at_first sheet.counters sheet.blocks lines
       → TallyTold sheet plate lines
   told-by lines h =
-      let heards = heardsOf sheet.counters sheet.blocks h.replies in record {
+      let heards = heards_of sheet.counters sheet.blocks h.replies in record {
         replies = h.replies;
         answered = h.answered;
-        before = heardLines sheet.order plate R.Unset heards [];
+        before = heard_lines sheet.order plate R.Unset heards [];
         are = h.are ∙ lines-before sheet.order plate R.Unset heards _
-            ∙ ap (λ (t : Tally). heardLines sheet.order plate R.Unset heards [] ++ closing t (length sheet.blocks)) (none-plus (tally_of heards));
+            ∙ ap (λ (t : Tally). heard_lines sheet.order plate R.Unset heards [] ++ closing t (length sheet.blocks)) (none-plus (tally_of heards));
         together = Laws.together R.Unset heards
             ∙ heards-many sheet.counters sheet.blocks h.replies as_many (answers-many plate sheet.blocks h.replies h.answered);
       }
@@ -245,7 +245,7 @@ module _ (sheet : Contents) (plate : Plate) (as_many : length sheet.counters ≡
   told-after [] e x = absurd x
   told-after (k ∷ []) e x = absurd x.1
   told-after (k ∷ l ∷ ls) e x =
-      let h = subst (λ (b : Bool). LinesReport b sheet.order plate (length sheet.blocks) atFirst sheet.counters sheet.blocks ls) e x.1.1 in
+      let h = subst (λ (b : Bool). LinesReport b sheet.order plate (length sheet.blocks) at_first sheet.counters sheet.blocks ls) e x.1.1 in
       let t = told-by ls h in record {
         replies = t.replies;
         answered = t.answered;

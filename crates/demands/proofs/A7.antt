@@ -11,15 +11,15 @@ use Prim.Native.Nat.{◌<◌, ℕ, ◌≤◌}
 use Rattle.decoding.proofs.ApartDetermined.{metric-determined, word-determined}
 use Rattle.decoding.proofs.ApartTogether.{decode-refusal, metric-agrees, metric-refusal, together, word-agrees}
 use Rattle.decoding.proofs.SampleLimits.{samples-are-n}
-use Rattle.decoding.specs.Apart.{Chooses, Measures, metricConditions}
+use Rattle.decoding.specs.Apart.{Chooses, Measures, metric_conditions}
 use Rattle.decoding.specs.declared.Answer.{Answer}
 use Rattle.decoding.specs.declared.apart.Chosen.{Chosen}
 use Rattle.decoding.specs.declared.apart.Measure.{Measure}
 use Rattle.decoding.specs.declared.apart.Measured.{Measured}
 use Rattle.decoding.specs.declared.apart.Selection.{Selection}
-use Rattle.decoding.specs.Decode.{Decodes, decisionNeed, decodeConditions, metricNeed}
-use Rattle.decoding.specs.Metric.{limit, metricOf}
-use Rattle.decoding.specs.Totals.{branchTotal, enteringLessOne}
+use Rattle.decoding.specs.Decode.{Decodes, decision_need, decode_conditions, metric_need}
+use Rattle.decoding.specs.Metric.{limit, metric_of}
+use Rattle.decoding.specs.Totals.{branch_total, entering_less_one}
 use Rattle.demands.proofs.Demand1.{decode-numbers, its-number}
 use Rattle.demands.proofs.StepCounts.{steps-additions, steps-comparisons}
 use Rattle.demands.specs.Refusing.{Numbered, RefusesExactly}
@@ -34,7 +34,7 @@ use Rattle.plates.specs.declared.Verdict.TheVariants.{Accepted}
 use Rattle.plates.specs.Prepare.{IsPrepared, Prepares}
 use Rattle.plates.specs.Refusals.{Passes, Refuses, number}
 use Rattle.trellises.proofs.WordsTrellis.{accepted-words}
-use Rattle.trellises.specs.Branching.{trellisOf}
+use Rattle.trellises.specs.Branching.{trellis_of}
 use Rattle.decoding.specs.declared.apart.Chosen.TheVariants as C
 use Rattle.decoding.specs.declared.apart.Measured.TheVariants as M
 use Rattle.decoding.specs.declared.Decoded.TheVariants as D
@@ -43,63 +43,63 @@ use Rattle.decoding.specs.declared.Decoded.TheVariants as D
 
 module _ (plate : Plate) (samples metrics : List ℤ) where
   -- the conditions, in order
-  pub metric-numbers : Numbered (metricConditions plate samples metrics) (5 ∷ 6 ∷ 7 ∷ 8 ∷ [])
+  pub metric-numbers : Numbered (metric_conditions plate samples metrics) (5 ∷ 6 ∷ 7 ∷ 8 ∷ [])
   metric-numbers = (its-number, (its-number, ((λ q c. ap number c.is), (its-number, tt))))
 
   -- where none of them holds: a prepared plate, n samples within the limit, and a metric room that is long enough
   pub metric-passes : IsPrepared plate → length samples ≡ plate.n → ((i : ℕ) → i < length samples → nat_abs (get_or samples i (pos 0)) ≤ limit)
-      → metricNeed plate ≤ length metrics → Passes (metricConditions plate samples metrics)
+      → metric_need plate ≤ length metrics → Passes (metric_conditions plate samples metrics)
   metric-passes p size within m =
       ((λ q c. c.0 p), ((λ q c. c.0 size), ((λ q c. omega (arith, c.over, within c.position c.there)), ((λ q c. omega (arith, c.0, m)), tt))))
 
   -- the room after the call, and its reply
   module _ (metrics' : List ℤ) (r : Measured) (p : Measures plate samples metrics metrics' r) where
     -- refused exactly under them
-    pub metric-refuses-exactly : RefusesExactly M.Refused (metricConditions plate samples metrics) r
+    pub metric-refuses-exactly : RefusesExactly M.Refused (metric_conditions plate samples metrics) r
     metric-refuses-exactly q = (
       (λ e. (subst (Measures plate samples metrics metrics') e p).0),
       λ h. (metric-determined plate samples metrics r (M.Refused q) metrics' metrics p (h, refl)).0,
     )
 
     -- where none of them holds the metric is found
-    pub metric-passed-found : Passes (metricConditions plate samples metrics) → (m : Measure) × (r ≡ M.Found m)
+    pub metric-passed-found : Passes (metric_conditions plate samples metrics) → (m : Measure) × (r ≡ M.Found m)
     metric-passed-found h = go r refl
       where
         go : (s : Measured) → r ≡ s → (m : Measure) × (r ≡ M.Found m)
         go (M.Found m) e = (m, e)
-        go (M.Refused q) e = absurd (never_both (metricConditions plate samples metrics) h q ((metric-refuses-exactly q).0 e))
+        go (M.Refused q) e = absurd (never_both (metric_conditions plate samples metrics) h q ((metric-refuses-exactly q).0 e))
 
     -- a refused call changes nothing lent
     pub metric-refused-unchanged : (q : Refusal) → r ≡ M.Refused q → metrics' ≡ metrics
     metric-refused-unchanged q e = (subst (Measures plate samples metrics metrics') e p).1
 
     -- one that succeeds zeroes the room it needs, and touches no more
-    pub metric-found-zeroes : (m : Measure) → r ≡ M.Found m → metrics' ≡ replicate (metricNeed plate) (pos 0) ++ drop (metricNeed plate) metrics
+    pub metric-found-zeroes : (m : Measure) → r ≡ M.Found m → metrics' ≡ replicate (metric_need plate) (pos 0) ++ drop (metric_need plate) metrics
     metric-found-zeroes m e = (subst (Measures plate samples metrics metrics') e p).2
 
 -- ---- the word: 5 to 9
 
 module _ (plate : Plate) (samples metrics : List ℤ) (decisions : List ℕ) where
   -- the conditions, in order; they are decode's, so that decode-passes says where none of them holds
-  pub word-numbers : Numbered (decodeConditions plate samples metrics decisions) (5 ∷ 6 ∷ 7 ∷ 8 ∷ 9 ∷ [])
+  pub word-numbers : Numbered (decode_conditions plate samples metrics decisions) (5 ∷ 6 ∷ 7 ∷ 8 ∷ 9 ∷ [])
   word-numbers = decode-numbers plate samples metrics decisions
 
   -- the two rooms after the call, and its reply
   module _ (metrics' : List ℤ) (decisions' : List ℕ) (r : Chosen) (p : Chooses plate samples metrics decisions metrics' decisions' r) where
     -- refused exactly under them
-    pub word-refuses-exactly : RefusesExactly C.Refused (decodeConditions plate samples metrics decisions) r
+    pub word-refuses-exactly : RefusesExactly C.Refused (decode_conditions plate samples metrics decisions) r
     word-refuses-exactly q = (
       (λ e. (subst (Chooses plate samples metrics decisions metrics' decisions') e p).0),
       λ h. (word-determined plate samples metrics decisions r (C.Refused q) metrics' metrics decisions' decisions p (h, refl, refl)).0,
     )
 
     -- where none of them holds the word is found
-    pub word-passed-found : Passes (decodeConditions plate samples metrics decisions) → (c : Selection) × (r ≡ C.Found c)
+    pub word-passed-found : Passes (decode_conditions plate samples metrics decisions) → (c : Selection) × (r ≡ C.Found c)
     word-passed-found h = go r refl
       where
         go : (s : Chosen) → r ≡ s → (c : Selection) × (r ≡ C.Found c)
         go (C.Found c) e = (c, e)
-        go (C.Refused q) e = absurd (never_both (decodeConditions plate samples metrics decisions) h q ((word-refuses-exactly q).0 e))
+        go (C.Refused q) e = absurd (never_both (decode_conditions plate samples metrics decisions) h q ((word-refuses-exactly q).0 e))
 
     -- a refused call changes nothing lent
     pub word-refused-unchanged : (q : Refusal) → r ≡ C.Refused q → (metrics' ≡ metrics) × (decisions' ≡ decisions)
@@ -107,10 +107,10 @@ module _ (plate : Plate) (samples metrics : List ℤ) (decisions : List ℕ) whe
 
     -- one that succeeds zeroes the room it needs, as decoding does, and touches no more
     pub word-found-zeroes : (c : Selection) → r ≡ C.Found c
-        → (metrics' ≡ replicate (metricNeed plate) (pos 0) ++ drop (metricNeed plate) metrics)
-        × (decisions' ≡ replicate (decisionNeed plate) 0 ++ drop (decisionNeed plate) decisions)
+        → (metrics' ≡ replicate (metric_need plate) (pos 0) ++ drop (metric_need plate) metrics)
+        × (decisions' ≡ replicate (decision_need plate) 0 ++ drop (decision_need plate) decisions)
     word-found-zeroes c e =
-        let x = subst (Chooses plate samples metrics decisions metrics' decisions') e p in (x.2.metrics-zero, x.2.decisions-zero)
+        let x = subst (Chooses plate samples metrics decisions metrics' decisions') e p in (x.2.metrics_zero, x.2.decisions_zero)
 
 -- ---- both, and decode
 
@@ -136,12 +136,12 @@ module _ (plate : Plate) (samples : List ℤ) where
 
   -- what refuses the metric call refuses decode so
   pub metric-refused-decode-refused : (metrics : List ℤ) (decisions : List ℕ) (q : Refusal)
-      → Refuses (metricConditions plate samples metrics) q → Refuses (decodeConditions plate samples metrics decisions) q
+      → Refuses (metric_conditions plate samples metrics) q → Refuses (decode_conditions plate samples metrics decisions) q
   metric-refused-decode-refused = metric-refusal plate samples
 
   -- and what refuses decode refuses the metric call so, or it is the decision room that is too short
-  pub decode-refused-metric-refused : (metrics : List ℤ) (decisions : List ℕ) (q : Refusal) → Refuses (decodeConditions plate samples metrics decisions) q
-      → Refuses (metricConditions plate samples metrics) q ⊎ ((length decisions < decisionNeed plate) × (q ≡ DecisionRoom))
+  pub decode-refused-metric-refused : (metrics : List ℤ) (decisions : List ℕ) (q : Refusal) → Refuses (decode_conditions plate samples metrics decisions) q
+      → Refuses (metric_conditions plate samples metrics) q ⊎ ((length decisions < decision_need plate) × (q ≡ DecisionRoom))
   decode-refused-metric-refused = decode-refusal plate samples
 
 -- ---- over the words that a mask makes of the code of a matrix, where preparing both accepts
@@ -153,17 +153,17 @@ module _ (n : ℕ) (kind : Kind) (rows : List ℕ) (mask : ℕ) (r : Prepared) (
     size = samples-are-n r.plate samples d.0.1.0
 
     -- the metric is that of a word, and no word has a greater one
-    pub metric-attained : (w : ℕ) × Masked (InCode kind n rows) mask w × (m.metric ≡ metricOf samples w)
+    pub metric-attained : (w : ℕ) × Masked (InCode kind n rows) mask w × (m.metric ≡ metric_of samples w)
     metric-attained = (d.1.word, (accepted-words n kind rows mask r p e d.1.word).1 d.1.codeword, d.1.metric)
 
-    pub metric-greatest : (w : ℕ) → Masked (InCode kind n rows) mask w → metricOf samples w ≤ℤ m.metric
+    pub metric-greatest : (w : ℕ) → Masked (InCode kind n rows) mask w → metric_of samples w ≤ℤ m.metric
     metric-greatest w c = d.1.greatest w ((accepted-words n kind rows mask r p e w).0 c)
 
     -- one addition for each branch, and for each state past the start one comparison fewer than the branches entering it
-    pub metric-additions : m.counts.additions ≡ branchTotal (trellisOf r.plate) n
+    pub metric-additions : m.counts.additions ≡ branch_total (trellis_of r.plate) n
     metric-additions = steps-additions n kind rows mask r p e samples size m.counts d.1.additions d.1.comparisons
 
-    pub metric-comparisons : m.counts.comparisons ≡ enteringLessOne (trellisOf r.plate) n
+    pub metric-comparisons : m.counts.comparisons ≡ entering_less_one (trellis_of r.plate) n
     metric-comparisons = steps-comparisons n kind rows mask r p e samples size m.counts d.1.additions d.1.comparisons
 
   module _ (decisions decisions' : List ℕ) (c : Selection) (d : Chooses r.plate samples metrics decisions metrics' decisions' (C.Found c)) where
@@ -171,8 +171,8 @@ module _ (n : ℕ) (kind : Kind) (rows : List ℕ) (mask : ℕ) (r : Prepared) (
     counted-n = samples-are-n r.plate samples d.0.1.0
 
     -- the same of the word call
-    pub word-additions : c.counts.additions ≡ branchTotal (trellisOf r.plate) n
+    pub word-additions : c.counts.additions ≡ branch_total (trellis_of r.plate) n
     word-additions = steps-additions n kind rows mask r p e samples counted-n c.counts d.1.additions d.1.comparisons
 
-    pub word-comparisons : c.counts.comparisons ≡ enteringLessOne (trellisOf r.plate) n
+    pub word-comparisons : c.counts.comparisons ≡ entering_less_one (trellis_of r.plate) n
     word-comparisons = steps-comparisons n kind rows mask r p e samples counted-n c.counts d.1.additions d.1.comparisons

@@ -17,14 +17,14 @@ use Rattle.decoding.specs.Apart.{Measures}
 use Rattle.decoding.specs.declared.Answer.{Answer}
 use Rattle.decoding.specs.declared.apart.Measure.{Measure}
 use Rattle.decoding.specs.declared.firmness.Flag.{Flag}
-use Rattle.decoding.specs.Decode.{Decodes, SampleOver, sampleCount}
-use Rattle.decoding.specs.Firmness.{TellsFirmness, isFixed, value}
-use Rattle.decoding.specs.Metric.{limit, metricOf}
+use Rattle.decoding.specs.Decode.{Decodes, SampleOver, sample_count}
+use Rattle.decoding.specs.Firmness.{TellsFirmness, is_fixed, value}
+use Rattle.decoding.specs.Metric.{limit, metric_of}
 use Rattle.plates.proofs.SoundIsPrepared.{sound}
 use Rattle.plates.specs.declared.Plate.{Plate}
 use Rattle.plates.specs.declared.Refusal.{Refusal}
 use Rattle.plates.specs.declared.Refusal.TheVariants.{NotPrepared, SampleRange}
-use Rattle.plates.specs.Prepare.{IsPrepared, notPrepared}
+use Rattle.plates.specs.Prepare.{IsPrepared, not_prepared}
 use Rattle.plates.specs.Refusals.{number, place}
 use Rattle.reports.specs.Report.{BlockAnswer}
 use Rattle.decoding.specs.declared.apart.Measured.TheVariants as M
@@ -52,17 +52,17 @@ seven-is-its-number i = (refl, refl)
 
 -- at most 64 samples within the range give a metric within 131,008
 metric-small : (samples : List ℤ) → length samples ≤ 64 → ((i : ℕ) → i < length samples → nat_abs (get_or samples i (pos 0)) ≤ limit)
-    → (w : ℕ) → nat_abs (metricOf samples w) ≤ 131008
+    → (w : ℕ) → nat_abs (metric_of samples w) ≤ 131008
 metric-small samples few within w = omega (arith, metric-within limit samples within w, mul-le-mul_left limit few)
 
-module _ (plate : Plate) (samples : List ℤ) (given : (q : Refusal) → notPrepared plate q → ⊥) (counted : (q : Refusal) → sampleCount plate samples q → ⊥)
+module _ (plate : Plate) (samples : List ℤ) (given : (q : Refusal) → not_prepared plate q → ⊥) (counted : (q : Refusal) → sample_count plate samples q → ⊥)
     (ranged : (q : Refusal) → SampleOver samples q → ⊥) where
   short : Dec (plate.n ≤ 64) → plate.n ≤ 64
   short (yes h) = h
   short (no h) = absurd (given NotPrepared ((λ g. h (sound g).short), refl))
 
   -- of a block that is not refused with 5, 6 or 7, every word's metric
-  pub metric-bound : (w : ℕ) → nat_abs (metricOf samples w) ≤ 131008
+  pub metric-bound : (w : ℕ) → nat_abs (metric_of samples w) ≤ 131008
   metric-bound = metric-small samples (omega (arith, samples-are-n plate samples counted, short (dec_le plate.n 64))) (none_over samples ranged)
 
 -- what decoding replies
@@ -86,11 +86,11 @@ listed-metric-bound plate given samples a x =
 -- ---- A3's margins
 
 pub margin-bound : (plate : Plate) (samples : List ℤ) (position : ℕ) (metrics metrics' : List ℤ) (decisions decisions' : List ℕ) (f : Flag)
-    → TellsFirmness plate samples position metrics decisions metrics' decisions' (J.Found f) → isFixed f.reading ≡ false → nat_abs (value f.reading) ≤ 262016
+    → TellsFirmness plate samples position metrics decisions metrics' decisions' (J.Found f) → is_fixed f.reading ≡ false → nat_abs (value f.reading) ≤ 262016
 margin-bound plate samples position metrics metrics' decisions decisions' = margin-bounds plate samples position metrics decisions metrics' decisions'
 
 -- ---- document 01's last case
 
 -- 64 samples of -2047 and the word of 64 ones reach the bound, and of 2047 with the zero word
-pub bound-is-reached : (metricOf (replicate 64 (pos 2047)) 0 ≡ pos 131008) × (metricOf (replicate 64 (negsuc 2046)) 0 ≡ negsuc 131007)
+pub bound-is-reached : (metric_of (replicate 64 (pos 2047)) 0 ≡ pos 131008) × (metric_of (replicate 64 (negsuc 2046)) 0 ≡ negsuc 131007)
 bound-is-reached = (refl, refl)

@@ -1,6 +1,6 @@
 -- A9, weights of a plate: `count_weights` gives the number of codewords of every weight 0 to n, and the smallest weight above zero. Definitions:
 -- weights/specs/Number (`NumberOf`) and Weights (`OfWeight`, `LeastWeight`, the conditions, `Filled`, `CountsWeights`). The lines that are printed:
--- listings/specs/Lines (`weightLine`, `leastLine`, `noLeastLine`).
+-- listings/specs/Lines (`weight_line`, `least_line`, `no_least_line`).
 use lib.Count.{ones}
 use lib.ListN.{drop, get_or, length, replicate}
 use mathlib.Core.List.{◌++◌, List, [], ◌∷◌}
@@ -9,7 +9,7 @@ use mathlib.Core.Logic.{◌↔◌}
 use mathlib.Core.Path.{refl, subst, sym, ◌≡◌}
 use Prim.Native.Nat.{◌*◌, ◌<◌, ◌^◌, ℕ, ◌≤◌}
 use Rattle.demands.proofs.Demand1.{its-number}
-use Rattle.demands.specs.Masks.{withMask}
+use Rattle.demands.specs.Masks.{with_mask}
 use Rattle.demands.specs.Refusing.{Numbered, RefusesExactly}
 use Rattle.decoding.specs.Decode.{widest}
 use Rattle.plates.specs.Code.{InCode}
@@ -25,22 +25,22 @@ use Rattle.weights.proofs.WeightsMean.{counts-add-up, least-weight, none-exactly
 use Rattle.weights.specs.declared.Counted.{Counted}
 use Rattle.weights.specs.declared.Counted.TheVariants.{Least, OnlyZero, Refused}
 use Rattle.weights.specs.Number.{NumberOf, total}
-use Rattle.weights.specs.Weights.{CountsWeights, Filled, LeastWeight, NumberOfWeight, OfWeight, weightConditions, workingNeed}
+use Rattle.weights.specs.Weights.{CountsWeights, Filled, LeastWeight, NumberOfWeight, OfWeight, weight_conditions, working_need}
 use Rattle.words.specs.Choice.{count}
 
 -- ---- refusals, in order: 5, 22, 8
 
 module _ (plate : Plate) (counts working : List ℕ) where
-  pub weights-numbers : Numbered (weightConditions plate counts working) (5 ∷ 22 ∷ 8 ∷ [])
+  pub weights-numbers : Numbered (weight_conditions plate counts working) (5 ∷ 22 ∷ 8 ∷ [])
   weights-numbers = (its-number, (its-number, (its-number, tt)))
 
   -- the working room: 130 * 2^m counts
-  pub working-need-is : workingNeed plate ≡ 130 * 2 ^ widest plate
+  pub working-need-is : working_need plate ≡ 130 * 2 ^ widest plate
   working-need-is = refl
 
   module _ (counts' working' : List ℕ) (r : Counted) (p : CountsWeights plate counts working counts' working' r) where
     -- refused exactly under them
-    pub weights-refuse-exactly : RefusesExactly Refused (weightConditions plate counts working) r
+    pub weights-refuse-exactly : RefusesExactly Refused (weight_conditions plate counts working) r
     weights-refuse-exactly q = (
       (λ e. (subst (CountsWeights plate counts working counts' working') e p).0),
       λ h. (count-weights-determined plate counts working r (Refused q) p (h, refl, refl)).0,
@@ -70,7 +70,7 @@ module _ (plate : Plate) (counts working : List ℕ) where
       weights-behind = (filled.size, filled.behind)
 
       -- the working room that it needs is zero, and the rest as it was
-      pub weights-zeroes-working : working' ≡ replicate (workingNeed plate) 0 ++ drop (workingNeed plate) working
+      pub weights-zeroes-working : working' ≡ replicate (working_need plate) 0 ++ drop (working_need plate) working
       weights-zeroes-working = filled.zeroed
 
       -- all counts add to 2^k
@@ -109,7 +109,7 @@ module _ (n : ℕ) (kind : Kind) (rows : List ℕ) (mask : ℕ) (r : Prepared) (
       same_length = sym (accepted-length n kind rows mask r p e)
 
 -- a plate with another mask has the same weights
-pub weights-without-mask : (plate : Plate) (mask w c : ℕ) → NumberOfWeight (withMask mask plate) w c → NumberOfWeight plate w c
+pub weights-without-mask : (plate : Plate) (mask w c : ℕ) → NumberOfWeight (with_mask mask plate) w c → NumberOfWeight plate w c
 weights-without-mask plate mask w c k = record {
   test = k.test;
   right = λ x h. (

@@ -15,10 +15,10 @@ use Rattle.decoding.proofs.SampleLimits.{none_over, samples-are-n}
 use Rattle.decoding.specs.Apart.{Measures}
 use Rattle.decoding.specs.declared.Answer.{Answer}
 use Rattle.decoding.specs.declared.apart.Measure.{Measure}
-use Rattle.decoding.specs.Decode.{Decodes, SampleOver, sampleCount}
-use Rattle.decoding.specs.Metric.{limit, metricOf}
+use Rattle.decoding.specs.Decode.{Decodes, SampleOver, sample_count}
+use Rattle.decoding.specs.Metric.{limit, metric_of}
 use Rattle.demands.proofs.ParityChecks.{sums-checked}
-use Rattle.demands.specs.Accepted.{ParityChecks, SaysSection, ZeroBefore, ZeroFrom, branchOf}
+use Rattle.demands.specs.Accepted.{ParityChecks, SaysSection, ZeroBefore, ZeroFrom, branch_of}
 use Rattle.plates.proofs.OneDimension.{one-dimension}
 use Rattle.plates.proofs.ProfileDimensions.{dimension-before, dimension-from, profile, whole-dimension}
 use Rattle.plates.proofs.SoundIsPrepared.{sound, used-row, used-rows}
@@ -31,16 +31,16 @@ use Rattle.plates.specs.declared.Refusal.{Refusal}
 use Rattle.plates.specs.declared.Refusal.TheVariants.{NotPrepared}
 use Rattle.plates.specs.declared.Verdict.TheVariants.{Accepted}
 use Rattle.plates.specs.Dimension.{Dimension}
-use Rattle.plates.specs.Prepare.{IsPrepared, Prepares, notPrepared, rows_of}
+use Rattle.plates.specs.Prepare.{IsPrepared, Prepares, not_prepared, rows_of}
 use Rattle.reports.specs.Answers.{Answers}
 use Rattle.reports.specs.Report.{BlockAnswer}
 use Rattle.trellises.proofs.AcceptedIsPrepared.{accepted, accepted-code, accepted-length, accepted-prepared, code_below}
 use Rattle.trellises.proofs.SectionAgrees.{Agrees, chosen, section-agrees}
 use Rattle.trellises.proofs.TrellisSpells.{table_at, table-length}
-use Rattle.trellises.specs.Branching.{codeTrellis}
-use Rattle.trellises.specs.Graph.{Branch, branchAt}
-use Rattle.trellises.specs.SectionOf.{sectionOf}
-use Rattle.trellises.specs.Smallest.{activeAt}
+use Rattle.trellises.specs.Branching.{code_trellis}
+use Rattle.trellises.specs.Graph.{Branch, branch_at}
+use Rattle.trellises.specs.SectionOf.{section_of}
+use Rattle.trellises.specs.Smallest.{active_at}
 use Rattle.words.proofs.Span.{last-unique}
 use Rattle.words.proofs.Sums.{in_row}
 use Rattle.words.specs.Choice.{count}
@@ -124,23 +124,23 @@ module _ (n : ℕ) (kind : Kind) (rows : List ℕ) (mask : ℕ) (r : Prepared) (
   -- ---- sections
 
   -- the numbers of section t, from which the code works, say what the trellis of the plate's code has there; the mask's bit is added to each branch's
-  pub section-is-trellis : (t : ℕ) → SaysSection (codeTrellis r.plate) t (sectionOf (rows_of r.plate) t)
+  pub section-is-trellis : (t : ℕ) → SaysSection (code_trellis r.plate) t (section_of (rows_of r.plate) t)
   section-is-trellis t = record {
     states = ap (λ (s : ℕ). 2 ^ s) (sym agreed.states);
-    count = table-length (2 ^ activeAt (rows_of r.plate) t) own ∙ sym agreed.branches;
+    count = table-length (2 ^ active_at (rows_of r.plate) t) own ∙ sym agreed.branches;
     branch = λ v h. one v (omega (arith, h, agreed.branches));
   }
     where
-      agreed : Agrees (rows_of r.plate) t (sectionOf (rows_of r.plate) t)
+      agreed : Agrees (rows_of r.plate) t (section_of (rows_of r.plate) t)
       agreed = section-agrees (rows_of r.plate) spans t
 
       own : ℕ → Branch
-      own v = T.branchOf (rows_of r.plate) (firsts (rows_of r.plate)) (lasts (rows_of r.plate)) t (chosen (rows_of r.plate) t v)
+      own v = T.branch_of (rows_of r.plate) (firsts (rows_of r.plate)) (lasts (rows_of r.plate)) t (chosen (rows_of r.plate) t v)
 
-      one : (v : ℕ) → v < 2 ^ activeAt (rows_of r.plate) t → branchAt (codeTrellis r.plate) t v ≡ branchOf (sectionOf (rows_of r.plate) t) v
+      one : (v : ℕ) → v < 2 ^ active_at (rows_of r.plate) t → branch_at (code_trellis r.plate) t v ≡ branch_of (section_of (rows_of r.plate) t) v
       one v h =
-          table_at (2 ^ activeAt (rows_of r.plate) t) own v h
-          ∙ (λ i. record { from = sym (agreed.from-state v) i; out = sym (agreed.spells v) i; to = sym (agreed.to-state v h) i })
+          table_at (2 ^ active_at (rows_of r.plate) t) own v h
+          ∙ (λ i. record { from = sym (agreed.from_state v) i; out = sym (agreed.spells v) i; to = sym (agreed.to_state v h) i })
 
 -- ---- the code of a matrix given as G
 
@@ -154,7 +154,7 @@ parity-checks-exist n rows mask r p e =
 
 module _ (plate : Plate) (samples : List ℤ) where
   -- a plate that is not refused is no longer than 64
-  short : ((q : Refusal) → notPrepared plate q → ⊥) → plate.n ≤ 64
+  short : ((q : Refusal) → not_prepared plate q → ⊥) → plate.n ≤ 64
   short passes = go (dec_le plate.n 64)
     where
       go : Dec (plate.n ≤ 64) → plate.n ≤ 64
@@ -162,11 +162,11 @@ module _ (plate : Plate) (samples : List ℤ) where
       go (no h) = absurd (passes NotPrepared ((λ g. h (sound g).short), refl))
 
   -- the metric of any word, with samples that are not refused
-  metric-lies : ((q : Refusal) → sampleCount plate samples q → ⊥) → ((q : Refusal) → SampleOver samples q → ⊥) → (w : ℕ) (m : ℤ) → m ≡ metricOf samples w
+  metric-lies : ((q : Refusal) → sample_count plate samples q → ⊥) → ((q : Refusal) → SampleOver samples q → ⊥) → (w : ℕ) (m : ℤ) → m ≡ metric_of samples w
       → nat_abs m ≤ 2047 * plate.n
   metric-lies counted over w m e =
       subst (λ (z : ℤ). nat_abs z ≤ 2047 * plate.n) (sym e)
-      (subst (λ (k : ℕ). nat_abs (metricOf samples w) ≤ 2047 * k) (samples-are-n plate samples counted) (metric-within limit samples (none_over samples over) w))
+      (subst (λ (k : ℕ). nat_abs (metric_of samples w) ≤ 2047 * k) (samples-are-n plate samples counted) (metric-within limit samples (none_over samples over) w))
 
   -- of decode: within 2047 n, and so within 131,008
   pub decode-metric-lies : (metrics metrics' : List ℤ) (decisions decisions' : List ℕ) (a : Answer)

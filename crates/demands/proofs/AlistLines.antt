@@ -11,8 +11,8 @@ use Prim.Native.Nat.{◌%◌, ◌+◌, ◌/◌, ◌<◌, suc, zero, ℕ}
 use Rattle.alists.proofs.NumbersRead.{line_known, line_read}
 use Rattle.alists.proofs.SpacedOnce.{line_taken, number-taken, short-small}
 use Rattle.alists.proofs.SpacedRead.{line-back}
-use Rattle.alists.specs.Accepted.{spacedFrom, spacedOnce}
-use Rattle.alists.specs.Lines.{Found, Line, before, faulty, feedOf, found, further, line_of, next_of, nothing, number_of, reads, rest_of, skipped}
+use Rattle.alists.specs.Accepted.{spaced_from, spaced_once}
+use Rattle.alists.specs.Lines.{Found, Line, before, faulty, feed_of, found, further, line_of, next_of, nothing, number_of, reads, rest_of, skipped}
 use Rattle.alists.specs.Text.{decimal, line}
 use Rattle.demands.specs.AlistFaults.{Says}
 use Rattle.sheets.specs.Text.{lines, onto, parts}
@@ -59,7 +59,7 @@ skipped-behind (x ∷ s) t c = go (eqb x 32) refl c (skipped-behind s t)
         behind (x ∷ []) s t (x ∷ s) refl (ne_eqb x 10 (λ z. omega (arith, a, z)), tt) (on d)
     go false e d on = d
 
-feed-cut : (s vs t : List ℕ) → feedOf s ≡ reads vs t → Cut s t
+feed-cut : (s vs t : List ℕ) → feed_of s ≡ reads vs t → Cut s t
 feed-cut [] vs t e = absurd (let z : ◌≡◌ {A = ℕ} 0 1 = cc in omega arith)
 feed-cut (x ∷ s) vs t e = go (eqb x 10) refl e
   where
@@ -149,14 +149,14 @@ begun (x ∷ s) l m ls e = go (eqb x 10) refl e (λ p f. begun s p m ls f)
 -- ---- what a line says
 
 -- several spaces for one, up to a line feed and behind it
-spaced-cut : (b : Bool) (l t : List ℕ) → spacedFrom b (l ++ 10 ∷ t) ≡ spacedFrom b (l ++ 10 ∷ []) ++ spacedOnce t
+spaced-cut : (b : Bool) (l t : List ℕ) → spaced_from b (l ++ 10 ∷ t) ≡ spaced_from b (l ++ 10 ∷ []) ++ spaced_once t
 spaced-cut b [] t = refl
 spaced-cut b (x ∷ l) t =
-    go (eqb x 32) b (spacedFrom true (l ++ 10 ∷ t)) (spacedFrom true (l ++ 10 ∷ [])) (spacedFrom false (l ++ 10 ∷ t)) (spacedFrom false (l ++ 10 ∷ []))
+    go (eqb x 32) b (spaced_from true (l ++ 10 ∷ t)) (spaced_from true (l ++ 10 ∷ [])) (spaced_from false (l ++ 10 ∷ t)) (spaced_from false (l ++ 10 ∷ []))
     (spaced-cut true l t) (spaced-cut false l t)
   where
-    go : (e b : Bool) (p q r s : List ℕ) → p ≡ q ++ spacedOnce t → r ≡ s ++ spacedOnce t
-        → cond e (cond b p (x ∷ p)) (x ∷ r) ≡ cond e (cond b q (x ∷ q)) (x ∷ s) ++ spacedOnce t
+    go : (e b : Bool) (p q r s : List ℕ) → p ≡ q ++ spaced_once t → r ≡ s ++ spaced_once t
+        → cond e (cond b p (x ∷ p)) (x ∷ r) ≡ cond e (cond b q (x ∷ q)) (x ∷ s) ++ spaced_once t
     go true true p q r s h k = h
     go true false p q r s h k = ap (λ (y : List ℕ). x ∷ y) h
     go false b p q r s h k = ap (λ (y : List ℕ). x ∷ y) k
@@ -171,7 +171,7 @@ pub read-says : (k : ℕ) (s vs t : List ℕ) → line_of k s ≡ reads vs t →
 read-says k s vs t e c =
     let h = line_taken k s vs t e in record {
       below = h.numbers;
-      is = cancel (spacedOnce (c.bytes ++ 10 ∷ [])) (line vs) (spacedOnce t) (sym (spaced-cut false c.bytes t) ∙ ap spacedOnce (sym c.are) ∙ h.is);
+      is = cancel (spaced_once (c.bytes ++ 10 ∷ [])) (line vs) (spaced_once t) (sym (spaced-cut false c.bytes t) ∙ ap spaced_once (sym c.are) ∙ h.is);
     }
 
 -- a line says one list of numbers
@@ -185,9 +185,9 @@ says-once l vs ws a b =
 pub unread-says : (k : ℕ) (s l m : List ℕ) (ls : List (List ℕ)) → line_of k s ≡ faulty → lines s ≡ l ∷ m ∷ ls → (vs : List ℕ) → Says l vs → length vs ≡ k → ⊥
 unread-says k s l m ls f e vs a n =
     let b = begun s l m ls e in
-    let h : spacedOnce s ≡ line vs ++ spacedOnce b.after =
-    ap spacedOnce b.are ∙ spaced-cut false l b.after ∙ ap (λ (x : List ℕ). x ++ spacedOnce b.after) a.is in
-    let r = line-back vs s (spacedOnce b.after) (short-small vs a.below) h in
+    let h : spaced_once s ≡ line vs ++ spaced_once b.after =
+    ap spaced_once b.are ∙ spaced-cut false l b.after ∙ ap (λ (x : List ℕ). x ++ spaced_once b.after) a.is in
+    let r = line-back vs s (spaced_once b.after) (short-small vs a.below) h in
     let c : line_of k s ≡ reads vs r.after = subst (λ (j : ℕ). line_of j s ≡ reads vs r.after) n r.is in
     let d : reads vs r.after ≡ faulty = sym c ∙ f in
     let z : ◌≡◌ {A = ℕ} 0 1 = cc in

@@ -13,11 +13,11 @@ use Rattle.alists.proofs.NumbersFound.{both}
 use Rattle.alists.proofs.Storing.{line-long}
 use Rattle.alists.specs.Lines.{Line, faulty, line_of, reads}
 use Rattle.alists.specs.Lists.{column}
-use Rattle.alists.specs.Reading.{Lists, Word, ended, faultyAt, judged, listedAs, listedOn, lists, listsFrom}
-use Rattle.alists.specs.Reading.{onColumns, onRows, onto, shows, word, word_of, wrong}
+use Rattle.alists.specs.Reading.{Lists, Word, ended, faulty_at, judged, listed_as, listed_on, lists, lists_from}
+use Rattle.alists.specs.Reading.{on_columns, on_rows, onto, shows, word, word_of, wrong}
 use Rattle.demands.proofs.AlistLines.{lines-some}
 use Rattle.demands.proofs.AlistSteps.{Outcome, fit, true-not-false, unfit, unread}
-use Rattle.demands.specs.AlistFaults.{FirstFaulty, fits, isList, showsOnes, word_in, words_in}
+use Rattle.demands.specs.AlistFaults.{FirstFaulty, fits, is_list, shows_ones, word_in, words_in}
 use Rattle.sheets.specs.Text.{lines}
 use Rattle.sheets.specs.Text as Texts
 
@@ -26,11 +26,11 @@ use Rattle.sheets.specs.Text as Texts
 -- the lists before some others
 abbrev pub after : List ℕ → Lists → Lists
 after us (lists ws s) = lists (us ++ ws) s
-after us (faultyAt i) = faultyAt i
+after us (faulty_at i) = faulty_at i
 
 after-onto : (us : List ℕ) (w : ℕ) (l : Lists) → after us (onto w l) ≡ after (us ++ w ∷ []) l
 after-onto us w (lists ws s) = ap (λ (vs : List ℕ). lists vs s) (sym (append_assoc us (w ∷ []) ws))
-after-onto us w (faultyAt i) = refl
+after-onto us w (faulty_at i) = refl
 
 -- the line is another number
 at-line : (above : List (List ℕ)) (s : List ℕ) {j k : ℕ} → j ≡ k → FirstFaulty above (lines s) j → FirstFaulty above (lines s) k
@@ -60,10 +60,10 @@ module _ (a b c d : List ℕ) where
       at-line (top ls) (x ∷ s) (omega (arith, e, f)) (go (eqb x 10) refl)
     where
       column-list : List ℕ → Bool
-      column-list vs = eqb (length vs) tall && isList (word_of m (get_or c (length ls) 0) vs)
+      column-list vs = eqb (length vs) tall && is_list (word_of m (get_or c (length ls) 0) vs)
 
       row_list : List ℕ → Bool
-      row_list vs = eqb (length vs) wide && showsOnes (word_of n (get_or d (length ls - n) 0) vs) (column (words_in m c (take n ls)) (length ls - n))
+      row_list vs = eqb (length vs) wide && shows_ones (word_of n (get_or d (length ls - n) 0) vs) (column (words_in m c (take n ls)) (length ls - n))
 
       none : (vs : List ℕ) → fits (top ls) vs ≡ true → ⊥
       none vs g =
@@ -96,7 +96,7 @@ module _ (a b c d : List ℕ) where
 
     -- what fits as row i's list
     row_fits : (ls : List (List ℕ)) → length ls < m → (vs : List ℕ)
-        → fits (top (cols ++ ls)) vs ≡ (eqb (length vs) wide && showsOnes (word_of n (get_or d (length ls) 0) vs) (column seen (length ls)))
+        → fits (top (cols ++ ls)) vs ≡ (eqb (length vs) wide && shows_ones (word_of n (get_or d (length ls) 0) vs) (column seen (length ls)))
     row_fits ls h vs =
         let l : length (cols ++ ls) ≡ n + length ls = length-append cols ls ∙ ap (λ (x : ℕ). x + length ls) counted in
         let i : length (cols ++ ls) - n ≡ length ls = omega (arith, l) in
@@ -104,18 +104,18 @@ module _ (a b c d : List ℕ) where
         rw (le-ltb (length (cols ++ ls)) n (omega (arith, l)), lt-ltb (length (cols ++ ls)) (n + m) (omega (arith, l, h)), i, t)
 
     one-row : (ls : List (List ℕ)) (us : List ℕ) (w : ℕ) (ws s : List ℕ) → length ls < m → get_or d (length ls) 0 ≡ w
-        → ((vs t : List ℕ) (v : ℕ) → Outcome (top (cols ++ (ls ++ vs ∷ []))) t (onRows n (after (us ++ v ∷ []) (listsFrom wide n seen (suc (length ls)) ws t))))
-        → Outcome (top (cols ++ ls)) s (onRows n (after us (listsFrom wide n seen (length ls) (w ∷ ws) s)))
+        → ((vs t : List ℕ) (v : ℕ) → Outcome (top (cols ++ (ls ++ vs ∷ []))) t (on_rows n (after (us ++ v ∷ []) (lists_from wide n seen (suc (length ls)) ws t))))
+        → Outcome (top (cols ++ ls)) s (on_rows n (after us (lists_from wide n seen (length ls) (w ∷ ws) s)))
     one-row ls us w ws s h g on = go (line_of wide s) refl
       where
         place : suc (length (top (cols ++ ls))) ≡ 5 + n + length ls
         place = omega (arith, length-append cols ls, counted)
 
-        fits-is : (vs : List ℕ) → fits (top (cols ++ ls)) vs ≡ (eqb (length vs) wide && showsOnes (word_of n w vs) (column seen (length ls)))
-        fits-is vs = row_fits ls h vs ∙ ap (λ (x : ℕ). eqb (length vs) wide && showsOnes (word_of n x vs) (column seen (length ls))) g
+        fits-is : (vs : List ℕ) → fits (top (cols ++ ls)) vs ≡ (eqb (length vs) wide && shows_ones (word_of n w vs) (column seen (length ls)))
+        fits-is vs = row_fits ls h vs ∙ ap (λ (x : ℕ). eqb (length vs) wide && shows_ones (word_of n x vs) (column seen (length ls))) g
 
         read : (vs t : List ℕ) → line_of wide s ≡ reads vs t → (z : Word) → word_of n w vs ≡ z
-            → Outcome (top (cols ++ ls)) s (onRows n (after us (listedOn (listedAs z t) seen (length ls) (listsFrom wide n seen (suc (length ls)) ws))))
+            → Outcome (top (cols ++ ls)) s (on_rows n (after us (listed_on (listed_as z t) seen (length ls) (lists_from wide n seen (suc (length ls)) ws))))
         read vs t e wrong y =
             at-line (top (cols ++ ls)) s place (unfit (top (cols ++ ls)) s wide vs t e (fits-is vs ∙ rw (eq-eqb (length vs) wide (line-long wide s vs t e), y)))
         read vs t e (word v) y = shown (eqb v (column seen (length ls))) refl
@@ -125,17 +125,17 @@ module _ (a b c d : List ℕ) where
 
             shown : (q : Bool) → eqb v (column seen (length ls)) ≡ q
                 → Outcome (top (cols ++ ls)) s
-                (onRows n (after us (cond (shows seen (length ls) v) (onto v (listsFrom wide n seen (suc (length ls)) ws t)) (faultyAt (length ls)))))
+                (on_rows n (after us (cond (shows seen (length ls) v) (onto v (lists_from wide n seen (suc (length ls)) ws t)) (faulty_at (length ls)))))
             shown true p =
-                rw (shows-is seen some (length ls) v, p, after-onto us v (listsFrom wide n seen (suc (length ls)) ws t))
-                (fit (top (cols ++ ls)) s wide vs t e (fits-as ∙ p) (onRows n (after (us ++ v ∷ []) (listsFrom wide n seen (suc (length ls)) ws t)))
-                (subst (λ (x : List (List ℕ)). Outcome (top x) t (onRows n (after (us ++ v ∷ []) (listsFrom wide n seen (suc (length ls)) ws t))))
+                rw (shows-is seen some (length ls) v, p, after-onto us v (lists_from wide n seen (suc (length ls)) ws t))
+                (fit (top (cols ++ ls)) s wide vs t e (fits-as ∙ p) (on_rows n (after (us ++ v ∷ []) (lists_from wide n seen (suc (length ls)) ws t)))
+                (subst (λ (x : List (List ℕ)). Outcome (top x) t (on_rows n (after (us ++ v ∷ []) (lists_from wide n seen (suc (length ls)) ws t))))
                 (sym (append_assoc cols ls (vs ∷ []))) (on vs t v)))
             shown false p =
                 rw (shows-is seen some (length ls) v, p) (at-line (top (cols ++ ls)) s place (unfit (top (cols ++ ls)) s wide vs t e (fits-as ∙ p)))
 
         go : (l : Line) → line_of wide s ≡ l
-            → Outcome (top (cols ++ ls)) s (onRows n (after us (listedOn (judged n w l) seen (length ls) (listsFrom wide n seen (suc (length ls)) ws))))
+            → Outcome (top (cols ++ ls)) s (on_rows n (after us (listed_on (judged n w l) seen (length ls) (lists_from wide n seen (suc (length ls)) ws))))
         go faulty e =
             at-line (top (cols ++ ls)) s place
             (unread (top (cols ++ ls)) s wide e (λ vs f. eqb-true (length vs) wide (both (eqb (length vs) wide) _ (sym (fits-is vs) ∙ f)).0)
@@ -143,7 +143,7 @@ module _ (a b c d : List ℕ) where
         go (reads vs t) e = read vs t e (word_of n w vs) refl
 
     rows-judged : (ws : List ℕ) (ls : List (List ℕ)) (us s : List ℕ) → ws ≡ drop (length ls) d → length us ≡ length ls → length ls ≤ m
-        → Outcome (top (cols ++ ls)) s (onRows n (after us (listsFrom wide n seen (length ls) ws s)))
+        → Outcome (top (cols ++ ls)) s (on_rows n (after us (lists_from wide n seen (length ls) ws s)))
     rows-judged [] ls us s e u h =
         let l : 0 ≡ length d - length ls = ap length e ∙ length-drop (length ls) d in
         end-judged (cols ++ ls) (us ++ []) s (omega (arith, l, h, rows-many, length-append cols ls, counted))
@@ -159,18 +159,18 @@ module _ (a b c d : List ℕ) where
       where
         on : (vs t : List ℕ) (v : ℕ) → ws ≡ drop (suc (length ls)) d → length ls < m
             → (ws ≡ drop (length (ls ++ vs ∷ [])) d → length (us ++ v ∷ []) ≡ length (ls ++ vs ∷ []) → length (ls ++ vs ∷ []) ≤ m
-            → Outcome (top (cols ++ (ls ++ vs ∷ []))) t (onRows n (after (us ++ v ∷ []) (listsFrom wide n seen (length (ls ++ vs ∷ [])) ws t))))
-            → Outcome (top (cols ++ (ls ++ vs ∷ []))) t (onRows n (after (us ++ v ∷ []) (listsFrom wide n seen (suc (length ls)) ws t)))
+            → Outcome (top (cols ++ (ls ++ vs ∷ []))) t (on_rows n (after (us ++ v ∷ []) (lists_from wide n seen (length (ls ++ vs ∷ [])) ws t))))
+            → Outcome (top (cols ++ (ls ++ vs ∷ []))) t (on_rows n (after (us ++ v ∷ []) (lists_from wide n seen (suc (length ls)) ws t)))
         on vs t v r k next =
             let i : length (ls ++ vs ∷ []) ≡ suc (length ls) = omega (arith, length-append ls (vs ∷ [])) in
-            subst (λ (x : ℕ). Outcome (top (cols ++ (ls ++ vs ∷ []))) t (onRows n (after (us ++ v ∷ []) (listsFrom wide n seen x ws t)))) i
+            subst (λ (x : ℕ). Outcome (top (cols ++ (ls ++ vs ∷ []))) t (on_rows n (after (us ++ v ∷ []) (lists_from wide n seen x ws t)))) i
             (next (r ∙ ap (λ (x : ℕ). drop x d) (sym i)) (omega (arith, u, i, length-append us (v ∷ []))) (omega (arith, i, k)))
 
   -- ---- the columns' lists
 
   pub after_none : (l : Lists) → after [] l ≡ l
   after_none (lists ws s) = refl
-  after_none (faultyAt i) = refl
+  after_none (faulty_at i) = refl
 
   -- one word more
   words-on : (ws : List ℕ) (ls : List (List ℕ)) (vs : List ℕ) → length ls < length ws
@@ -188,29 +188,29 @@ module _ (a b c d : List ℕ) where
 
   module _ (positive : 1 ≤ n) (columns-many : length c ≡ n) (rows-many : length d ≡ m) where
     abbrev pub Read : List (List ℕ) → List ℕ → Lists → Type 0
-    Read ls s found = Outcome (top ls) s (onColumns n wide d found)
+    Read ls s found = Outcome (top ls) s (on_columns n wide d found)
 
     one-column : (ls : List (List ℕ)) (us : List ℕ) (w : ℕ) (ws s : List ℕ) → length ls < n → get_or c (length ls) 0 ≡ w
-        → ((vs t : List ℕ) (v : ℕ) → word_of m w vs ≡ word v → Read (ls ++ vs ∷ []) t (after (us ++ v ∷ []) (listsFrom tall m [] (suc (length ls)) ws t)))
-        → Read ls s (after us (listsFrom tall m [] (length ls) (w ∷ ws) s))
+        → ((vs t : List ℕ) (v : ℕ) → word_of m w vs ≡ word v → Read (ls ++ vs ∷ []) t (after (us ++ v ∷ []) (lists_from tall m [] (suc (length ls)) ws t)))
+        → Read ls s (after us (lists_from tall m [] (length ls) (w ∷ ws) s))
     one-column ls us w ws s h g on = go (line_of tall s) refl
       where
-        fits-is : (vs : List ℕ) → fits (top ls) vs ≡ (eqb (length vs) tall && isList (word_of m w vs))
+        fits-is : (vs : List ℕ) → fits (top ls) vs ≡ (eqb (length vs) tall && is_list (word_of m w vs))
         fits-is vs = rw (lt-ltb (length ls) n h, g)
 
         place : suc (length (top ls)) ≡ 5 + length ls
         place = omega arith
 
         read : (vs t : List ℕ) → line_of tall s ≡ reads vs t → (z : Word) → word_of m w vs ≡ z
-            → Read ls s (after us (listedOn (listedAs z t) [] (length ls) (listsFrom tall m [] (suc (length ls)) ws)))
+            → Read ls s (after us (listed_on (listed_as z t) [] (length ls) (lists_from tall m [] (suc (length ls)) ws)))
         read vs t e wrong y =
             at-line (top ls) s place (unfit (top ls) s tall vs t e (fits-is vs ∙ rw (eq-eqb (length vs) tall (line-long tall s vs t e), y)))
         read vs t e (word v) y =
-            rw (after-onto us v (listsFrom tall m [] (suc (length ls)) ws t))
+            rw (after-onto us v (lists_from tall m [] (suc (length ls)) ws t))
             (fit (top ls) s tall vs t e (fits-is vs ∙ rw (eq-eqb (length vs) tall (line-long tall s vs t e), y))
-            (onColumns n wide d (after (us ++ v ∷ []) (listsFrom tall m [] (suc (length ls)) ws t))) (on vs t v y))
+            (on_columns n wide d (after (us ++ v ∷ []) (lists_from tall m [] (suc (length ls)) ws t))) (on vs t v y))
 
-        go : (l : Line) → line_of tall s ≡ l → Read ls s (after us (listedOn (judged m w l) [] (length ls) (listsFrom tall m [] (suc (length ls)) ws)))
+        go : (l : Line) → line_of tall s ≡ l → Read ls s (after us (listed_on (judged m w l) [] (length ls) (lists_from tall m [] (suc (length ls)) ws)))
         go faulty e =
             at-line (top ls) s place
             (unread (top ls) s tall e (λ vs f. eqb-true (length vs) tall (both (eqb (length vs) tall) _ (sym (fits-is vs) ∙ f)).0)
@@ -218,16 +218,16 @@ module _ (a b c d : List ℕ) where
         go (reads vs t) e = read vs t e (word_of m w vs) refl
 
     pub columns-judged : (ws : List ℕ) (ls : List (List ℕ)) (us s : List ℕ) → ws ≡ drop (length ls) c → us ≡ words_in m c ls → length ls ≤ n
-        → Read ls s (after us (listsFrom tall m [] (length ls) ws s))
+        → Read ls s (after us (lists_from tall m [] (length ls) ws s))
     columns-judged [] ls us s e u h =
         let l : 0 ≡ length c - length ls = ap length e ∙ length-drop (length ls) c in
         let k : length ls ≡ n = omega (arith, l, h, columns-many) in
         let some : 0 < length (words_in m c ls) = omega (arith, words-many c ls (omega (arith, k, columns-many)), k, positive) in
-        let r : Outcome (top (ls ++ [])) s (onRows n (after [] (listsFrom wide n (words_in m c ls) 0 d s))) =
+        let r : Outcome (top (ls ++ [])) s (on_rows n (after [] (lists_from wide n (words_in m c ls) 0 d s))) =
         rows-judged ls k some rows-many d [] [] s refl refl (omega arith) in
-        subst (λ (vs : List ℕ). Outcome (top ls) s (onRows n (listsFrom wide n vs 0 d s))) (sym (append-nil us ∙ u))
-        (subst (λ (x : List (List ℕ)). Outcome (top x) s (onRows n (listsFrom wide n (words_in m c ls) 0 d s))) (append-nil ls)
-        (subst (λ (x : Lists). Outcome (top (ls ++ [])) s (onRows n x)) (after_none (listsFrom wide n (words_in m c ls) 0 d s)) r))
+        subst (λ (vs : List ℕ). Outcome (top ls) s (on_rows n (lists_from wide n vs 0 d s))) (sym (append-nil us ∙ u))
+        (subst (λ (x : List (List ℕ)). Outcome (top x) s (on_rows n (lists_from wide n (words_in m c ls) 0 d s))) (append-nil ls)
+        (subst (λ (x : Lists). Outcome (top (ls ++ [])) s (on_rows n x)) (after_none (lists_from wide n (words_in m c ls) 0 d s)) r))
     columns-judged (w ∷ ws) ls us s e u h =
         let l : suc (length ws) ≡ length c - length ls = ap length e ∙ length-drop (length ls) c in
         let k : length ls < length c = omega (arith, l) in
@@ -238,12 +238,12 @@ module _ (a b c d : List ℕ) where
       where
         on : (vs t : List ℕ) (v : ℕ) → word_of m w vs ≡ word v → get_or c (length ls) 0 ≡ w → ws ≡ drop (suc (length ls)) c → length ls < length c
             → (ws ≡ drop (length (ls ++ vs ∷ [])) c → us ++ v ∷ [] ≡ words_in m c (ls ++ vs ∷ []) → length (ls ++ vs ∷ []) ≤ n
-            → Read (ls ++ vs ∷ []) t (after (us ++ v ∷ []) (listsFrom tall m [] (length (ls ++ vs ∷ [])) ws t)))
-            → Read (ls ++ vs ∷ []) t (after (us ++ v ∷ []) (listsFrom tall m [] (suc (length ls)) ws t))
+            → Read (ls ++ vs ∷ []) t (after (us ++ v ∷ []) (lists_from tall m [] (length (ls ++ vs ∷ [])) ws t)))
+            → Read (ls ++ vs ∷ []) t (after (us ++ v ∷ []) (lists_from tall m [] (suc (length ls)) ws t))
         on vs t v y g r k next =
             let i : length (ls ++ vs ∷ []) ≡ suc (length ls) = omega (arith, length-append ls (vs ∷ [])) in
             let x : word_in (word_of m (get_or c (length ls) 0) vs) ≡ v = ap (λ (q : ℕ). word_in (word_of m q vs)) g ∙ ap word_in y in
-            subst (λ (x : ℕ). Read (ls ++ vs ∷ []) t (after (us ++ v ∷ []) (listsFrom tall m [] x ws t))) i
+            subst (λ (x : ℕ). Read (ls ++ vs ∷ []) t (after (us ++ v ∷ []) (lists_from tall m [] x ws t))) i
             (next (r ∙ ap (λ (q : ℕ). drop q c) (sym i))
             (ap (λ (q : List ℕ). q ++ v ∷ []) u ∙ ap (λ (q : ℕ). words_in m c ls ++ q ∷ []) (sym x) ∙ sym (words-on c ls vs k))
             (omega (arith, i, k, columns-many)))

@@ -7,7 +7,7 @@ use mathlib.Core.Path.{ap, refl, subst, sym, ◌∙◌, ◌≡◌}
 use native.Mathlib.Omega.{arith}
 use Prim.Native.Nat.{suc, ℕ}
 use Rattle.alists.specs.Lines.{faulty, line_of, reads}
-use Rattle.alists.specs.Reading.{Reading, faultIn, matrix}
+use Rattle.alists.specs.Reading.{Reading, fault_in, matrix}
 use Rattle.demands.proofs.AlistLines.{Cut, line-cut, lines_cut, lines-some, read-says, says-once, unread-says}
 use Rattle.demands.specs.AlistFaults.{FirstFaulty, NoneFaulty, Says, fits, whole}
 use Rattle.sheets.specs.Text.{lines}
@@ -15,7 +15,7 @@ use Rattle.sheets.specs.Text.{lines}
 -- what is to hold of what is read of a text, those above it saying these numbers
 abbrev pub Outcome : List (List ℕ) → List ℕ → Reading → Type 0
 Outcome above s (matrix n rows) = NoneFaulty above (lines s)
-Outcome above s (faultIn k) = FirstFaulty above (lines s) k
+Outcome above s (fault_in k) = FirstFaulty above (lines s) k
 
 pub true-not-false : true ≡ false → ⊥
 true-not-false e = let z : ◌≡◌ {A = ℕ} 0 1 = cc in omega arith
@@ -56,7 +56,7 @@ module _ (above : List (List ℕ)) (s : List ℕ) (k : ℕ) where
         go : (ls : List (List ℕ)) → lines t ≡ ls → NoneFaulty (above ++ vs ∷ []) ls → NoneFaulty above (c.bytes ∷ ls)
         go [] d o = absurd (lines-some t d)
         go (m ∷ ls) d o = (vs, says, f, o)
-    fit f (faultIn j) o = subst (λ (ls : List (List ℕ)). FirstFaulty above ls j) (sym first-line) (go (lines t) refl o)
+    fit f (fault_in j) o = subst (λ (ls : List (List ℕ)). FirstFaulty above ls j) (sym first-line) (go (lines t) refl o)
       where
         go : (ls : List (List ℕ)) → lines t ≡ ls → FirstFaulty (above ++ vs ∷ []) ls j → FirstFaulty above (c.bytes ∷ ls) j
         go [] d o = absurd (lines-some t d)
@@ -64,6 +64,6 @@ module _ (above : List (List ℕ)) (s : List ℕ) (k : ℕ) where
 
     -- by its test
     pub tested : (test : Bool) → fits above vs ≡ test → (r : Reading) → (test ≡ true → Outcome (above ++ vs ∷ []) t r)
-        → Outcome above s (cond test r (faultIn (suc (length above))))
+        → Outcome above s (cond test r (fault_in (suc (length above))))
     tested true f r o = fit f r (o refl)
     tested false f r o = unfit f

@@ -92,45 +92,45 @@ abbrev pub each : (n : ℕ) {P : ℕ → Type 0} → ((i : ℕ) → Check (P i))
 each n c = record { test = all_below n (λ i. (c i).test); law = λ t i h. (c i).law (all-below n (λ j. (c j).test) t i h) }
 
 -- some number below n
-abbrev pub someBelow : ℕ → (ℕ → Bool) → Bool
-someBelow zero f = false
-someBelow (suc n) f = f n || someBelow n f
+abbrev pub some_below : ℕ → (ℕ → Bool) → Bool
+some_below zero f = false
+some_below (suc n) f = f n || some_below n f
 
 -- a test that passes at some passes at one
-pub some_below : (n : ℕ) (f : ℕ → Bool) → T (someBelow n f) → (i : ℕ) × (i < n) × T (f i)
-some_below zero f t = absurd t
-some_below (suc n) f t = go (one_of (f n) (someBelow n f) t) (some_below n f)
+pub some_below_lem : (n : ℕ) (f : ℕ → Bool) → T (some_below n f) → (i : ℕ) × (i < n) × T (f i)
+some_below_lem zero f t = absurd t
+some_below_lem (suc n) f t = go (one_of (f n) (some_below n f) t) (some_below_lem n f)
   where
-    go : T (f n) ⊎ T (someBelow n f) → (T (someBelow n f) → (i : ℕ) × (i < n) × T (f i)) → (i : ℕ) × (i < suc n) × T (f i)
+    go : T (f n) ⊎ T (some_below n f) → (T (some_below n f) → (i : ℕ) × (i < n) × T (f i)) → (i : ℕ) × (i < suc n) × T (f i)
     go (inl s) rest = (n, omega arith, s)
     go (inr s) rest = let r = rest s in (r.0, omega (arith, r.1), r.2)
 
 -- P holds of some number below n
 abbrev pub some : (n : ℕ) {P : ℕ → Type 0} → ((i : ℕ) → Check (P i)) → Check ((i : ℕ) × (i < n) × P i)
 some n c = record {
-  test = someBelow n (λ i. (c i).test);
-  law = λ t. (let r = some_below n (λ i. (c i).test) t in (r.0, r.1, (c r.0).law r.2));
+  test = some_below n (λ i. (c i).test);
+  law = λ t. (let r = some_below_lem n (λ i. (c i).test) t in (r.0, r.1, (c r.0).law r.2));
 }
 
 -- ---- of whole numbers and lists
 
 -- the same whole number
-abbrev pub sameWhole : ℤ → ℤ → Bool
-sameWhole (pos a) (pos b) = eqb a b
-sameWhole (pos a) (negsuc b) = false
-sameWhole (negsuc a) (pos b) = false
-sameWhole (negsuc a) (negsuc b) = eqb a b
+abbrev pub same_whole : ℤ → ℤ → Bool
+same_whole (pos a) (pos b) = eqb a b
+same_whole (pos a) (negsuc b) = false
+same_whole (negsuc a) (pos b) = false
+same_whole (negsuc a) (negsuc b) = eqb a b
 
 -- its law
-pub same_whole : (a b : ℤ) → T (sameWhole a b) → a ≡ b
-same_whole (pos a) (pos b) t = ap pos (eqb→eq a b t)
-same_whole (pos a) (negsuc b) t = absurd t
-same_whole (negsuc a) (pos b) t = absurd t
-same_whole (negsuc a) (negsuc b) t = ap negsuc (eqb→eq a b t)
+pub same_whole_lem : (a b : ℤ) → T (same_whole a b) → a ≡ b
+same_whole_lem (pos a) (pos b) t = ap pos (eqb→eq a b t)
+same_whole_lem (pos a) (negsuc b) t = absurd t
+same_whole_lem (negsuc a) (pos b) t = absurd t
+same_whole_lem (negsuc a) (negsuc b) t = ap negsuc (eqb→eq a b t)
 
 -- two whole numbers are the same
 abbrev pub whole : (a b : ℤ) → Check (a ≡ b)
-whole a b = record { test = sameWhole a b; law = same_whole a b }
+whole a b = record { test = same_whole a b; law = same_whole_lem a b }
 
 -- the same list
 abbrev pub same_list : List ℕ → List ℕ → Bool
@@ -151,16 +151,16 @@ abbrev pub list : (a b : List ℕ) → Check (a ≡ b)
 list a b = record { test = same_list a b; law = same-list a b }
 
 -- a list of zeros
-abbrev pub zeroList : List ℕ → Bool
-zeroList [] = true
-zeroList (x ∷ xs) = eqb x 0 && zeroList xs
+abbrev pub zero_list : List ℕ → Bool
+zero_list [] = true
+zero_list (x ∷ xs) = eqb x 0 && zero_list xs
 
 -- its law
-pub zero-list : (xs : List ℕ) → T (zeroList xs) → (i : ℕ) → get_or xs i 0 ≡ 0
+pub zero-list : (xs : List ℕ) → T (zero_list xs) → (i : ℕ) → get_or xs i 0 ≡ 0
 zero-list [] t i = refl
-zero-list (x ∷ xs) t zero = eqb→eq x 0 (left (eqb x 0) (zeroList xs) t)
-zero-list (x ∷ xs) t (suc i) = zero-list xs (right (eqb x 0) (zeroList xs) t) i
+zero-list (x ∷ xs) t zero = eqb→eq x 0 (left (eqb x 0) (zero_list xs) t)
+zero-list (x ∷ xs) t (suc i) = zero-list xs (right (eqb x 0) (zero_list xs) t) i
 
 -- every place of a list is zero
 abbrev pub zeros : (xs : List ℕ) → Check ((i : ℕ) → get_or xs i 0 ≡ 0)
-zeros xs = record { test = zeroList xs; law = zero-list xs }
+zeros xs = record { test = zero_list xs; law = zero-list xs }

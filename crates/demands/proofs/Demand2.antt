@@ -15,7 +15,7 @@ use Rattle.coding.specs.declared.ReadBack.{ReadBack}
 use Rattle.decoding.specs.declared.Answer.{Answer}
 use Rattle.decoding.specs.declared.Decoded.{Decoded}
 use Rattle.decoding.specs.declared.Decoded.TheVariants.{Found}
-use Rattle.decoding.specs.Decode.{Decodes, decisionNeed, metricNeed}
+use Rattle.decoding.specs.Decode.{Decodes, decision_need, metric_need}
 use Rattle.decoding.specs.Metric.{limit}
 use Rattle.demands.proofs.Demand1.{decode-passed-found, decode-passes}
 use Rattle.demands.specs.Greatest.{Greatest}
@@ -29,7 +29,7 @@ use Rattle.trellises.proofs.AcceptedIsPrepared.{accepted-length, accepted-prepar
 use Rattle.trellises.proofs.WolfMassey.{matrix-massey, matrix-wolf}
 use Rattle.trellises.proofs.WordsTrellis.{accepted-words, matrix-smallest, matrix-spells, words-proper}
 use Rattle.trellises.specs.Beginnings.{SameContinuations, SameSyndrome}
-use Rattle.trellises.specs.Branching.{trellisOf}
+use Rattle.trellises.specs.Branching.{trellis_of}
 use Rattle.trellises.specs.Graph.{Path}
 use Rattle.trellises.specs.Smallest.{Proper, SamePath}
 use Rattle.coding.specs.declared.Encoded.TheVariants as E
@@ -40,20 +40,20 @@ module _ (n : ℕ) (kind : Kind) (rows : List ℕ) (mask : ℕ) (r : Prepared) (
   -- ---- the trellis
 
   -- full paths spell exactly the words
-  pub paths-spell-words : (w : ℕ) → Masked (InCode kind n rows) mask w ↔ ((w < 2 ^ n) × Path (trellisOf r.plate) n w)
+  pub paths-spell-words : (w : ℕ) → Masked (InCode kind n rows) mask w ↔ ((w < 2 ^ n) × Path (trellis_of r.plate) n w)
   paths-spell-words = (matrix-spells n kind rows mask r p e).exact
 
   -- each once
-  pub each-spelled-once : (w : ℕ) (a b : Path (trellisOf r.plate) n w) → SamePath (trellisOf r.plate) n w a b
+  pub each-spelled-once : (w : ℕ) (a b : Path (trellis_of r.plate) n w) → SamePath (trellis_of r.plate) n w a b
   each-spelled-once = (matrix-smallest n kind rows mask r p e).once
 
   -- every state and every branch is on the path of a word, and a state and a bit decide the branch
-  pub trellis-is-proper : Proper (trellisOf r.plate) n
+  pub trellis-is-proper : Proper (trellis_of r.plate) n
   trellis-is-proper =
-      subst (Proper (trellisOf r.plate)) (accepted-length n kind rows mask r p e) (words-proper r.plate (accepted-prepared n kind rows mask r p e))
+      subst (Proper (trellis_of r.plate)) (accepted-length n kind rows mask r p e) (words-proper r.plate (accepted-prepared n kind rows mask r p e))
 
   module _ (a b : ℕ) (x : Masked (InCode kind n rows) mask a) (y : Masked (InCode kind n rows) mask b)
-      (s : Path (trellisOf r.plate) n a) (q : Path (trellisOf r.plate) n b) (t : ℕ) (h : t ≤ n) where
+      (s : Path (trellis_of r.plate) n a) (q : Path (trellis_of r.plate) n b) (t : ℕ) (h : t ≤ n) where
     -- of Massey: the paths of two words meet exactly where their beginnings have the same continuations
     pub trellis-of-massey : (s.state t ≡ q.state t) ↔ SameContinuations (Masked (InCode kind n rows) mask) t a b
     trellis-of-massey = matrix-massey n kind rows mask r p e a b x y s q t h
@@ -78,8 +78,8 @@ module _ (n : ℕ) (kind : Kind) (rows : List ℕ) (mask : ℕ) (r : Prepared) (
   -- and n samples within the limit, with rooms that are long enough, are decoded so
   pub decode-returns-greatest : (samples metrics metrics' : List ℤ) (decisions decisions' : List ℕ) (x : Decoded)
       → Decodes r.plate samples metrics decisions metrics' decisions' x → length samples ≡ n
-      → ((i : ℕ) → i < length samples → nat_abs (get_or samples i (pos 0)) ≤ limit) → metricNeed r.plate ≤ length metrics
-      → decisionNeed r.plate ≤ length decisions → (a : Answer) × (x ≡ Found a) × Greatest (Masked (InCode kind n rows) mask) samples a.word a.metric
+      → ((i : ℕ) → i < length samples → nat_abs (get_or samples i (pos 0)) ≤ limit) → metric_need r.plate ≤ length metrics
+      → decision_need r.plate ≤ length decisions → (a : Answer) × (x ≡ Found a) × Greatest (Masked (InCode kind n rows) mask) samples a.word a.metric
   decode-returns-greatest samples metrics metrics' decisions decisions' x d size within m o =
       let g = accepted-prepared n kind rows mask r p e in
       let h = decode-passes r.plate samples metrics decisions g (size ∙ sym (accepted-length n kind rows mask r p e)) within m o in

@@ -11,7 +11,7 @@ use Rattle.decoding.specs.Backward.{counted}
 use Rattle.decoding.specs.declared.Answer.{Answer}
 use Rattle.decoding.specs.declared.Decoded.TheVariants.{Found}
 use Rattle.decoding.specs.Decode.{Decodes}
-use Rattle.decoding.specs.Totals.{branchTotal, doubledTotal, enteringLessOne, stateTotal}
+use Rattle.decoding.specs.Totals.{branch_total, doubled_total, entering_less_one, state_total}
 use Rattle.demands.proofs.StepCounts.{counted-in-steps, steps-additions, steps-additions-formula, steps-comparisons, steps-comparisons-formula}
 use Rattle.plates.specs.Code.{InCode, Masked}
 use Rattle.plates.specs.declared.Kind.{Kind}
@@ -19,9 +19,9 @@ use Rattle.plates.specs.declared.Prepared.{Prepared}
 use Rattle.plates.specs.declared.Verdict.TheVariants.{Accepted}
 use Rattle.plates.specs.Prepare.{Prepares, rows_of}
 use Rattle.trellises.proofs.WordsTrellis.{matrix-smallest}
-use Rattle.trellises.specs.Branching.{trellisOf}
+use Rattle.trellises.specs.Branching.{trellis_of}
 use Rattle.trellises.specs.Graph.{Branch, Graph, Spells}
-use Rattle.trellises.specs.SectionOf.{sectionOf}
+use Rattle.trellises.specs.SectionOf.{section_of}
 use Rattle.trellises.specs.Smallest.{Different, HasAll}
 
 -- A matrix as G or H and a mask, and what preparing them replies where it accepts. The words are those that the mask makes of the matrix's own code
@@ -31,15 +31,15 @@ module _ (n : ℕ) (kind : Kind) (rows : List ℕ) (mask : ℕ) (r : Prepared) (
   -- any layered graph whose full paths spell these words
   module _ (other : Graph) (s : Spells other n (Masked (InCode kind n rows) mask)) where
     -- has at least as many states at each depth
-    pub no-fewer-states : (t : ℕ) → t ≤ n → (trellisOf r.plate).states t ≤ other.states t
-    no-fewer-states = (matrix-smallest n kind rows mask r p e).states-least other s
+    pub no-fewer-states : (t : ℕ) → t ≤ n → (trellis_of r.plate).states t ≤ other.states t
+    no-fewer-states = (matrix-smallest n kind rows mask r p e).states_least other s
 
     -- and at least as many branches in each section, counting each of its own once
-    pub no-fewer-branches : (t : ℕ) → t < n → (once : List Branch) → HasAll other t once → length ((trellisOf r.plate).branches t) ≤ length once
-    no-fewer-branches = (matrix-smallest n kind rows mask r p e).branches-least other s
+    pub no-fewer-branches : (t : ℕ) → t < n → (once : List Branch) → HasAll other t once → length ((trellis_of r.plate).branches t) ≤ length once
+    no-fewer-branches = (matrix-smallest n kind rows mask r p e).branches_least other s
 
   -- while those of the trellis are all different
-  pub own-branches-differ : (t : ℕ) → Different (trellisOf r.plate) t
+  pub own-branches-differ : (t : ℕ) → Different (trellis_of r.plate) t
   own-branches-differ = (matrix-smallest n kind rows mask r p e).different
 
   -- ---- the counts that decoding reports
@@ -50,21 +50,21 @@ module _ (n : ℕ) (kind : Kind) (rows : List ℕ) (mask : ℕ) (r : Prepared) (
     size = samples-are-n r.plate samples d.0.1.0
 
     -- they are what the steps counted, one section after the other
-    pub counts-are-of-steps : a.counts ≡ counted (sectionOf (rows_of r.plate)) samples 0
+    pub counts-are-of-steps : a.counts ≡ counted (section_of (rows_of r.plate)) samples 0
     counts-are-of-steps = counted-in-steps n kind rows mask r p e samples size a.counts d.1.additions d.1.comparisons
 
     -- one addition for each branch
-    pub addition-for-each-branch : a.counts.additions ≡ branchTotal (trellisOf r.plate) n
+    pub addition-for-each-branch : a.counts.additions ≡ branch_total (trellis_of r.plate) n
     addition-for-each-branch = steps-additions n kind rows mask r p e samples size a.counts d.1.additions d.1.comparisons
 
     -- for each state past the start one comparison fewer than the branches entering it
-    pub comparison-for-each-entering-less-one : a.counts.comparisons ≡ enteringLessOne (trellisOf r.plate) n
+    pub comparison-for-each-entering-less-one : a.counts.comparisons ≡ entering_less_one (trellis_of r.plate) n
     comparison-for-each-entering-less-one = steps-comparisons n kind rows mask r p e samples size a.counts d.1.additions d.1.comparisons
 
     -- as the paper's formulas say: additions are the sum of 2 ^ s(t) over t from 0 to n - 1, doubled where a row begins at t
-    pub additions-by-formula : a.counts.additions ≡ doubledTotal (rows_of r.plate) n
+    pub additions-by-formula : a.counts.additions ≡ doubled_total (rows_of r.plate) n
     additions-by-formula = steps-additions-formula n kind rows mask r p e samples size a.counts d.1.additions d.1.comparisons
 
     -- and comparisons are additions less the sum of 2 ^ s(t) for t from 1 to n
-    pub comparisons-by-formula : a.counts.comparisons + stateTotal (rows_of r.plate) n ≡ a.counts.additions
+    pub comparisons-by-formula : a.counts.comparisons + state_total (rows_of r.plate) n ≡ a.counts.additions
     comparisons-by-formula = steps-comparisons-formula n kind rows mask r p e samples size a.counts d.1.additions d.1.comparisons

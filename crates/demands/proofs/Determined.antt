@@ -16,7 +16,7 @@ use Rattle.decoding.proofs.DecodeDetermined.{decode-determined}
 use Rattle.decoding.proofs.FirmnessDetermined.{firmness-determined}
 use Rattle.decoding.proofs.RestOfWords.{rest-determined}
 use Rattle.decoding.specs.Apart.{Chooses, Measures}
-use Rattle.decoding.specs.Cosets.{takenOff}
+use Rattle.decoding.specs.Cosets.{taken_off}
 use Rattle.decoding.specs.declared.apart.Chosen.{Chosen}
 use Rattle.decoding.specs.declared.apart.Measured.{Measured}
 use Rattle.decoding.specs.declared.Decoded.{Decoded}
@@ -39,7 +39,7 @@ use Rattle.trellises.proofs.BranchDetermined.{branch-determined}
 use Rattle.trellises.specs.Branching.{Branches}
 use Rattle.trellises.specs.declared.Next.{Next}
 use Rattle.trellises.specs.declared.Section.{Section}
-use Rattle.trellises.specs.SectionOf.{held, sectionOf}
+use Rattle.trellises.specs.SectionOf.{held, section_of}
 use Rattle.words.proofs.Ends.{first-one-determined, last-one-determined}
 use Rattle.words.specs.Ends.{FirstOne, LastOne}
 use Rattle.words.specs.Parity.{parity}
@@ -92,7 +92,7 @@ pub branch : (plate : Plate) (depth state bit : ℕ) (r s : Next) → Branches p
 branch = branch-determined
 
 -- a section of rows
-pub section-of : (rows : List ℕ) (t : ℕ) (r s : Section) → r ≡ held (sectionOf rows t) → s ≡ held (sectionOf rows t) → r ≡ s
+pub section-of : (rows : List ℕ) (t : ℕ) (r s : Section) → r ≡ held (section_of rows t) → s ≡ held (section_of rows t) → r ≡ s
 section-of rows t r s x y = x ∙ sym y
 
 -- ---- coding
@@ -128,7 +128,7 @@ pub firmness : (plate : Plate) (samples : List ℤ) (position : ℕ) (metrics : 
 firmness = firmness-determined
 
 -- what is left of a word once rows are taken off it
-pub rest_of : (rows : List ℕ) (word r s : ℕ) → r ≡ takenOff rows word → s ≡ takenOff rows word → r ≡ s
+pub rest_of : (rows : List ℕ) (word r s : ℕ) → r ≡ taken_off rows word → s ≡ taken_off rows word → r ≡ s
 rest_of = rest-determined
 
 -- why a word was not chosen, with both rooms

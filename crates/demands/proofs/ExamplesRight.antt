@@ -7,25 +7,25 @@ use Rattle.coding.proofs.CodingDetermined.{encode-determined, read-back-determin
 use Rattle.coding.specs.Coding.{Encodes, ReadsBack}
 use Rattle.demands.proofs.BlocksChecked.{decoded}
 use Rattle.demands.proofs.Checking.{Check, both, by}
-use Rattle.demands.proofs.LinesChecked.{lineIs, plateLineIs}
+use Rattle.demands.proofs.LinesChecked.{line_is, plate_line_is}
 use Rattle.demands.proofs.PlatesChecked.{accepted}
 use Rattle.demands.proofs.QuestionsChecked.{explained, judged}
 use Rattle.demands.proofs.RefusalsChecked.{refused}
-use Rattle.demands.proofs.SheetsChecked.{sheetListed, sheetRead}
-use Rattle.demands.proofs.WordsChecked.{answered, encoded, readBack}
+use Rattle.demands.proofs.SheetsChecked.{sheet_listed, sheet_read}
+use Rattle.demands.proofs.WordsChecked.{answered, encoded, read_back}
 use Rattle.demands.specs.Examples.{AllRight, Exactly, Example, Right, examples}
 use Rattle.demands.specs.Examples.{accepts, asks, decodes, encodes, end_line, explains, judges, lists, plate-line}
 use Rattle.demands.specs.Examples.{profile-line, reads, reads-sheet, refuses, word-line}
-use Rattle.listings.specs.Decimal.{decimal, signedDecimal}
-use Rattle.listings.specs.Lines.{endLine, plateLine, profileLine, word_line}
-use Rattle.listings.specs.Writing.{entriesOf}
+use Rattle.listings.specs.Decimal.{decimal, signed_decimal}
+use Rattle.listings.specs.Lines.{line_of_end, plate_line, profile_line, word_line}
+use Rattle.listings.specs.Writing.{entries_of}
 use Rattle.plates.proofs.PrepareDetermined.{prepare-determined}
 use Rattle.plates.specs.Prepare.{Prepares}
-use Rattle.sheets.specs.Covers.{coverFields as covers}
+use Rattle.sheets.specs.Covers.{cover_fields as covers}
 use Rattle.sheets.specs.Sheet.{contents, verdict}
 use Rattle.trellises.proofs.BranchDetermined.{branch-determined}
 use Rattle.trellises.specs.Branching.{Branches}
-use Rattle.trellises.specs.SectionOf.{withActive, with_row}
+use Rattle.trellises.specs.SectionOf.{with_active, with_row}
 use Rattle.words.specs.Ends.{first, last}
 
 -- what meets a promise that determines its reply
@@ -39,17 +39,17 @@ entry (refuses n kind rows mask q) = by (exactly (Prepares n kind rows mask) _ (
 entry (asks plate depth state bit r) =
     by (exactly (Branches plate depth state bit) r (branch-determined plate depth state bit)) (answered plate depth state bit r)
 entry (encodes plate information r) = by (exactly (Encodes plate information) r (encode-determined plate information)) (encoded plate information r)
-entry (reads plate word r) = by (exactly (ReadsBack plate word) r (read-back-determined plate word)) (readBack plate word r)
+entry (reads plate word r) = by (exactly (ReadsBack plate word) r (read-back-determined plate word)) (read_back plate word r)
 entry (decodes plate samples a) = decoded plate samples a
 entry (judges plate samples position flag) = judged plate samples position flag
 entry (explains plate samples w reason) = explained plate samples w reason
-entry (plate-line plate line) = plateLineIs plate (plateLine plate.n plate.k (entriesOf plate)) line
-entry (profile-line plate line) = plateLineIs plate (profileLine (entriesOf plate)) line
+entry (plate-line plate line) = plate_line_is plate (plate_line plate.n plate.k (entries_of plate)) line
+entry (profile-line plate line) = plate_line_is plate (profile_line (entries_of plate)) line
 entry (word-line plate a line) =
-    plateLineIs plate (word_line plate.n a.word a.metric a.counts.additions a.counts.comparisons) line
-entry (end_line blocks line) = lineIs (endLine blocks) line
-entry (reads-sheet input s rows) = sheetRead input s rows
-entry (lists input plate answers listing) = sheetListed input plate answers listing
+    plate_line_is plate (word_line plate.n a.word a.metric a.counts.additions a.counts.comparisons) line
+entry (end_line blocks line) = line_is (line_of_end blocks) line
+entry (reads-sheet input s rows) = sheet_read input s rows
+entry (lists input plate answers listing) = sheet_listed input plate answers listing
 
 -- the tests of all
 abbrev pub entries : (es : List Example) → Check (AllRight es)
@@ -58,5 +58,5 @@ entries (e ∷ es) = both (entry e) (entries es)
 
 -- every example that the paper marks P, and those of the masked sheet
 pub examples-right : AllRight examples
-unfolding first last count_trailing_zeros count_leading_zeros with_row withActive plateLine profileLine word_line endLine decimal signedDecimal ones ones_in verdict contents covers
+unfolding first last count_trailing_zeros count_leading_zeros with_row with_active plate_line profile_line word_line line_of_end decimal signed_decimal ones ones_in verdict contents covers
 examples-right = (entries examples).law tt

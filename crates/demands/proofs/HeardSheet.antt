@@ -16,9 +16,9 @@ use Rattle.decoding.specs.declared.Decoded.TheVariants.{Found, Refused}
 use Rattle.demands.proofs.BlocksChecked.{ready, tested, tested-best}
 use Rattle.demands.proofs.Checking.{Check, both, by}
 use Rattle.demands.proofs.PlatesChecked.{accepted}
-use Rattle.demands.specs.Examples.{answer, zeroPlate1}
-use Rattle.listings.specs.Decimal.{decimal, signedDecimal}
-use Rattle.listings.specs.Lines.{endLine, less, plateLine, profileLine, refusedLine, tallyLine, word_line}
+use Rattle.demands.specs.Examples.{answer, zero_plate1}
+use Rattle.listings.specs.Decimal.{decimal, signed_decimal}
+use Rattle.listings.specs.Lines.{line_of_end, less, plate_line, profile_line, refused_line, tally_line, word_line}
 use Rattle.plates.specs.declared.Kind.TheVariants.{G}
 use Rattle.plates.specs.declared.Prepared.{Prepared}
 use Rattle.plates.specs.declared.Refusal.TheVariants.{SampleCount}
@@ -27,21 +27,21 @@ use Rattle.plates.specs.Prepare.{Prepares}
 use Rattle.reports.proofs.SameAnswers.{answers-listed}
 use Rattle.reports.specs.Answers.{Answers}
 use Rattle.reports.specs.Report.{BlockAnswer, BlockAnswers, Lists}
-use Rattle.sheets.specs.Covers.{coverFields}
+use Rattle.sheets.specs.Covers.{cover_fields}
 use Rattle.sheets.specs.declared.Order.TheVariants.{First}
 use Rattle.sheets.specs.Sheet.{Contents, contents, reading, says, verdict}
 use Rattle.sheets.specs.Words.{cover, end, first, heard}
-use Rattle.trellises.specs.SectionOf.{withActive, with_row}
+use Rattle.trellises.specs.SectionOf.{with_active, with_row}
 use Rattle.words.specs.Ends as E
 
 -- cover 1 G first; heard 65535 5; heard 0 -9; heard 0 7; heard 40000 0; heard 3 1; heard 3; end
-abbrev pub heardText : List ℕ
-heardText =
+abbrev pub heard_text : List ℕ
+heard_text =
     cover ++ 9 ∷ 49 ∷ 9 ∷ 71 ∷ 9 ∷ first ++ 10 ∷ heard ++ 9 ∷ 54 ∷ 53 ∷ 53 ∷ 51 ∷ 53 ∷ 9 ∷ 53 ∷ 10 ∷ heard ++ 9 ∷ 48 ∷ 9 ∷ 45 ∷ 57 ∷ 10
     ∷ heard ++ 9 ∷ 48 ∷ 9 ∷ 55 ∷ 10 ∷ heard ++ 9 ∷ 52 ∷ 48 ∷ 48 ∷ 48 ∷ 48 ∷ 9 ∷ 48 ∷ 10 ∷ heard ++ 9 ∷ 51 ∷ 9 ∷ 49 ∷ 10 ∷ heard ++ 9 ∷ 51 ∷ 10 ∷ end ++ 10 ∷ []
 
-abbrev heardContents : Contents
-heardContents = record {
+abbrev heard_contents : Contents
+heard_contents = record {
   n = 1;
   kind = G;
   order = First;
@@ -52,44 +52,44 @@ heardContents = record {
   counters = 65535 ∷ 0 ∷ 0 ∷ 40000 ∷ 3 ∷ 3 ∷ [];
 }
 
-heard-read : reading heardText ≡ says heardContents
-unfolding verdict contents coverFields
+heard-read : reading heard_text ≡ says heard_contents
+unfolding verdict contents cover_fields
 heard-read = refl
 
 -- the zero word alone
-abbrev zeroWord : ℤ → Answer
-zeroWord metric = answer 0 metric 1 0
+abbrev zero_word : ℤ → Answer
+zero_word metric = answer 0 metric 1 0
 
 abbrev replies : List Decoded
 replies =
-    Found (zeroWord (pos 5)) ∷ Found (zeroWord (negsuc 8)) ∷ Found (zeroWord (pos 7))
-    ∷ Found (zeroWord (pos 0)) ∷ Found (zeroWord (pos 1)) ∷ Refused SampleCount ∷ []
+    Found (zero_word (pos 5)) ∷ Found (zero_word (negsuc 8)) ∷ Found (zero_word (pos 7))
+    ∷ Found (zero_word (pos 0)) ∷ Found (zero_word (pos 1)) ∷ Refused SampleCount ∷ []
 
-abbrev answered : (samples : List ℤ) (a : Answer) → Check (BlockAnswer zeroPlate1 samples (Found a))
+abbrev answered : (samples : List ℤ) (a : Answer) → Check (BlockAnswer zero_plate1 samples (Found a))
 answered samples a =
     by (λ p. (
       ((λ q c. c.0 p.0.count), ((λ q c. omega (arith, c.over, p.0.within c.position c.there)), tt)),
-      tested-best zeroPlate1 samples a p.0 p.1,
+      tested-best zero_plate1 samples a p.0 p.1,
     ))
-    (both (ready zeroPlate1 samples) (tested zeroPlate1 samples a))
+    (both (ready zero_plate1 samples) (tested zero_plate1 samples a))
 
-abbrev checks : Check (Prepares 1 G [] 0 (record { verdict = Accepted; plate = zeroPlate1 })
-    × (BlockAnswer zeroPlate1 (pos 5 ∷ []) (Found (zeroWord (pos 5)))
-    × (BlockAnswer zeroPlate1 (negsuc 8 ∷ []) (Found (zeroWord (negsuc 8)))
-    × (BlockAnswer zeroPlate1 (pos 7 ∷ []) (Found (zeroWord (pos 7)))
-    × (BlockAnswer zeroPlate1 (pos 0 ∷ []) (Found (zeroWord (pos 0))) × BlockAnswer zeroPlate1 (pos 1 ∷ []) (Found (zeroWord (pos 1))))))))
+abbrev checks : Check (Prepares 1 G [] 0 (record { verdict = Accepted; plate = zero_plate1 })
+    × (BlockAnswer zero_plate1 (pos 5 ∷ []) (Found (zero_word (pos 5)))
+    × (BlockAnswer zero_plate1 (negsuc 8 ∷ []) (Found (zero_word (negsuc 8)))
+    × (BlockAnswer zero_plate1 (pos 7 ∷ []) (Found (zero_word (pos 7)))
+    × (BlockAnswer zero_plate1 (pos 0 ∷ []) (Found (zero_word (pos 0))) × BlockAnswer zero_plate1 (pos 1 ∷ []) (Found (zero_word (pos 1))))))))
 checks =
-    both (accepted 1 G [] 0 zeroPlate1)
-    (both (answered (pos 5 ∷ []) (zeroWord (pos 5)))
-    (both (answered (negsuc 8 ∷ []) (zeroWord (negsuc 8)))
-    (both (answered (pos 7 ∷ []) (zeroWord (pos 7)))
-    (both (answered (pos 0 ∷ []) (zeroWord (pos 0))) (answered (pos 1 ∷ []) (zeroWord (pos 1)))))))
+    both (accepted 1 G [] 0 zero_plate1)
+    (both (answered (pos 5 ∷ []) (zero_word (pos 5)))
+    (both (answered (negsuc 8 ∷ []) (zero_word (negsuc 8)))
+    (both (answered (pos 7 ∷ []) (zero_word (pos 7)))
+    (both (answered (pos 0 ∷ []) (zero_word (pos 0))) (answered (pos 1 ∷ []) (zero_word (pos 1)))))))
 
-heard-answers : Answers heardText (record { verdict = Accepted; plate = zeroPlate1 }) replies
-unfolding E.first E.last count_trailing_zeros count_leading_zeros with_row withActive ones ones_in
+heard-answers : Answers heard_text (record { verdict = Accepted; plate = zero_plate1 }) replies
+unfolding E.first E.last count_trailing_zeros count_leading_zeros with_row with_active ones ones_in
 heard-answers =
     let c = checks.law tt in record {
-      sheet = heardContents;
+      sheet = heard_contents;
       reads = heard-read;
       prepares = c.0;
       accepted = refl;
@@ -97,8 +97,8 @@ heard-answers =
     }
 
 -- plate 1 0 0; profile 0 0; word 0 5 1 0; word 0 -9 1 0; word 0 0 1 0; word 0 1 1 0; refused 6 0; tally 4 1 1 1 2 1 1 -3 4; end 6
-abbrev pub heardListing : List ℕ
-heardListing =
+abbrev pub heard_listing : List ℕ
+heard_listing =
     112 ∷ 108 ∷ 97 ∷ 116 ∷ 101 ∷ 9 ∷ 49 ∷ 9 ∷ 48 ∷ 9 ∷ 48 ∷ 10 ∷ 112 ∷ 114 ∷ 111 ∷ 102 ∷ 105 ∷ 108 ∷ 101 ∷ 9 ∷ 48 ∷ 9 ∷ 48 ∷ 10
     ∷ 119 ∷ 111 ∷ 114 ∷ 100 ∷ 9 ∷ 48 ∷ 9 ∷ 53 ∷ 9 ∷ 49 ∷ 9 ∷ 48 ∷ 10 ∷ 119 ∷ 111 ∷ 114 ∷ 100 ∷ 9 ∷ 48 ∷ 9 ∷ 45 ∷ 57 ∷ 9 ∷ 49 ∷ 9 ∷ 48 ∷ 10
     ∷ 119 ∷ 111 ∷ 114 ∷ 100 ∷ 9 ∷ 48 ∷ 9 ∷ 48 ∷ 9 ∷ 49 ∷ 9 ∷ 48 ∷ 10 ∷ 119 ∷ 111 ∷ 114 ∷ 100 ∷ 9 ∷ 48 ∷ 9 ∷ 49 ∷ 9 ∷ 49 ∷ 9 ∷ 48 ∷ 10
@@ -106,10 +106,10 @@ heardListing =
     ∷ 116 ∷ 97 ∷ 108 ∷ 108 ∷ 121 ∷ 9 ∷ 52 ∷ 9 ∷ 49 ∷ 9 ∷ 49 ∷ 9 ∷ 49 ∷ 9 ∷ 50 ∷ 9 ∷ 49 ∷ 9 ∷ 49 ∷ 9 ∷ 45 ∷ 51 ∷ 9 ∷ 52 ∷ 10
     ∷ 101 ∷ 110 ∷ 100 ∷ 9 ∷ 54 ∷ 10 ∷ []
 
-pub heard-sheet-worked : Lists heardText heardListing
-unfolding plateLine profileLine word_line refusedLine tallyLine endLine less decimal signedDecimal heard-answers
+pub heard-sheet-worked : Lists heard_text heard_listing
+unfolding plate_line profile_line word_line refused_line tally_line line_of_end less decimal signed_decimal heard-answers
 heard-sheet-worked = record {
   lines = _;
-  reports = answers-listed heardText (record { verdict = Accepted; plate = zeroPlate1 }) replies heard-answers;
+  reports = answers-listed heard_text (record { verdict = Accepted; plate = zero_plate1 }) replies heard-answers;
   bytes = refl;
 }

@@ -8,7 +8,7 @@ use mathlib.Core.Path.{ap, subst, sym, ◌∙◌, ◌≡◌}
 use native.Mathlib.Omega.{arith}
 use Prim.Native.Nat.{◌+◌, ◌-◌, ◌<◌, ◌^◌, suc, ℕ, ◌≤◌}
 use Rattle.demands.proofs.Checking.{Check, at_most, below, both, by, each, equal, less, unequal, zeros}
-use Rattle.demands.proofs.CodeWords.{sameCode}
+use Rattle.demands.proofs.CodeWords.{same_code}
 use Rattle.plates.proofs.OnePlate.{one-plate}
 use Rattle.plates.proofs.SoundIsPrepared.{prepared, sound, used-row, used-rows}
 use Rattle.plates.specs.Code.{InCode}
@@ -16,8 +16,8 @@ use Rattle.plates.specs.declared.Kind.{Kind}
 use Rattle.plates.specs.declared.Plate.{Plate}
 use Rattle.plates.specs.declared.Refusal.{Refusal}
 use Rattle.plates.specs.declared.Verdict.TheVariants.{Accepted}
-use Rattle.plates.specs.Prepare.{IsPrepared, PlateOf, Prepares, Wide, prepareConditions, rows_of}
-use Rattle.plates.specs.Profile.{liveAt}
+use Rattle.plates.specs.Prepare.{IsPrepared, PlateOf, Prepares, Wide, prepare_conditions, rows_of}
+use Rattle.plates.specs.Profile.{live_at}
 use Rattle.plates.specs.Reduced.{Reduced}
 use Rattle.plates.specs.Refusals.{Passes}
 use Rattle.plates.specs.Sound.{Sound}
@@ -31,16 +31,16 @@ use Rattle.words.specs.Word.{bit}
 -- ---- a plate is sound
 
 -- a row is a word of length n, not zero
-abbrev pub goodRow : (n r : ℕ) → Check ((0 < r) × ((r < 2 ^ 64) × (r < 2 ^ n)))
-goodRow n r = both (less 0 r) (both (less r (2 ^ 64)) (less r (2 ^ n)))
+abbrev pub good_row : (n r : ℕ) → Check ((0 < r) × ((r < 2 ^ 64) × (r < 2 ^ n)))
+good_row n r = both (less 0 r) (both (less r (2 ^ 64)) (less r (2 ^ n)))
 
 -- of two rows the first begins before the second, they end apart, and the first has 0 where the second begins inside it
 abbrev pub Apart₂ : ℕ → ℕ → Type 0
 Apart₂ x y = (first x < first y) × ((last x ≡ last y → ⊥) × (last y < last x → bit x (first y) ≡ 0))
 
 -- its test
-abbrev pub goodPair : (x y : ℕ) → Check (Apart₂ x y)
-goodPair x y = both (less (first x) (first y)) (both (unequal (last x) (last y)) (below (last y) (last x) (equal (bit x (first y)) 0)))
+abbrev pub good_pair : (x y : ℕ) → Check (Apart₂ x y)
+good_pair x y = both (less (first x) (first y)) (both (unequal (last x) (last y)) (below (last y) (last x) (equal (bit x (first y)) 0)))
 
 -- such rows are reduced
 reduced-rows : (rows : List ℕ) → ((j : ℕ) → j < length rows → (0 < get_or rows j 0) × (get_or rows j 0 < 2 ^ 64))
@@ -78,9 +78,9 @@ module _ (plate : Plate) where
     pub row : (j : ℕ) → j < length (rows_of plate)
         → (0 < get_or (rows_of plate) j 0) × ((get_or (rows_of plate) j 0 < 2 ^ 64) × (get_or (rows_of plate) j 0 < 2 ^ plate.n))
     pub two : (j : ℕ) → j < length (rows_of plate) → (i : ℕ) → i < j → Apart₂ (get_or (rows_of plate) i 0) (get_or (rows_of plate) j 0)
-    pub depth : (t : ℕ) → t < suc plate.n → (get_or plate.profile t 0 ≡ liveAt (rows_of plate) t) × (liveAt (rows_of plate) t ≤ 12)
+    pub depth : (t : ℕ) → t < suc plate.n → (get_or plate.profile t 0 ≡ live_at (rows_of plate) t) × (live_at (rows_of plate) t ≤ 12)
     pub no_rows : (i : ℕ) → get_or (drop plate.k plate.rows) i 0 ≡ 0
-    pub no-entries : (i : ℕ) → get_or (drop (suc plate.n) plate.profile) i 0 ≡ 0
+    pub no_entries : (i : ℕ) → get_or (drop (suc plate.n) plate.profile) i 0 ≡ 0
 
   -- all of it, computed
   abbrev pub tested : Check TestedPlate
@@ -96,16 +96,16 @@ module _ (plate : Plate) where
         two = p.1.1.0;
         depth = p.1.1.1.0;
         no_rows = p.1.1.1.1.0;
-        no-entries = p.1.1.1.1.1;
+        no_entries = p.1.1.1.1.1;
       })
       (both
       (both (at_most 1 plate.n)
       (both (at_most plate.n 64)
       (both (at_most plate.k 64)
       (both (less plate.mask (2 ^ plate.n)) (both (equal (length plate.rows) 64) (equal (length plate.profile) 65))))))
-      (both (each (length (rows_of plate)) (λ j. goodRow plate.n (get_or (rows_of plate) j 0)))
-      (both (each (length (rows_of plate)) (λ j. each j (λ i. goodPair (get_or (rows_of plate) i 0) (get_or (rows_of plate) j 0))))
-      (both (each (suc plate.n) (λ t. both (equal (get_or plate.profile t 0) (liveAt (rows_of plate) t)) (at_most (liveAt (rows_of plate) t) 12)))
+      (both (each (length (rows_of plate)) (λ j. good_row plate.n (get_or (rows_of plate) j 0)))
+      (both (each (length (rows_of plate)) (λ j. each j (λ i. good_pair (get_or (rows_of plate) i 0) (get_or (rows_of plate) j 0))))
+      (both (each (suc plate.n) (λ t. both (equal (get_or plate.profile t 0) (live_at (rows_of plate) t)) (at_most (live_at (rows_of plate) t) 12)))
       (both (zeros (drop plate.k plate.rows)) (zeros (drop (suc plate.n) plate.profile)))))))
 
   -- such a plate is sound
@@ -119,23 +119,23 @@ module _ (plate : Plate) where
     below = λ j h.
         subst (λ (x : ℕ). x < 2 ^ plate.n) (used-row plate j h) (p.row j (omega (arith, used-rows plate p.few p.table))).1.1;
     reduced = reduced-rows (rows_of plate) (λ j h. ((p.row j h).0, (p.row j h).1.0)) p.two;
-    unused-rows = unused plate.rows plate.k p.no_rows;
+    unused_rows = unused plate.rows plate.k p.no_rows;
     entries = p.entries;
     profile = λ t h. (p.depth t (omega arith)).0;
-    unused-entries = λ t h. unused plate.profile (suc plate.n) p.no-entries t (omega arith);
+    unused_entries = λ t h. unused plate.profile (suc plate.n) p.no_entries t (omega arith);
     narrow = λ t h. (p.depth t (omega arith)).1;
   }
 
 -- a plate is prepared
-abbrev pub isPrepared : (plate : Plate) → Check (IsPrepared plate)
-isPrepared plate = by (λ p. prepared (tested-sound plate p)) (tested plate)
+abbrev pub is_prepared : (plate : Plate) → Check (IsPrepared plate)
+is_prepared plate = by (λ p. prepared (tested-sound plate p)) (tested plate)
 
 -- ---- a matrix is accepted with a plate
 
 module _ (kind : Kind) (rows : List ℕ) (plate : Plate) where
   -- refusals 1 to 3, 23 and 4 do not meet it
   passes : IsPrepared plate → length rows ≤ 64 → ((j : ℕ) → j < length rows → get_or rows j 0 < 2 ^ plate.n)
-      → PlateOf (InCode kind plate.n rows) plate.n plate.mask plate → Passes (prepareConditions plate.n kind rows plate.mask)
+      → PlateOf (InCode kind plate.n rows) plate.n plate.mask plate → Passes (prepare_conditions plate.n kind rows plate.mask)
   passes p few low a = (
     p.same.reply.0.0,
     (
@@ -147,7 +147,7 @@ module _ (kind : Kind) (rows : List ℕ) (plate : Plate) where
       wide : (q : Refusal) → Wide (InCode kind plate.n rows) plate.n q → ⊥
       wide q w =
           let e : w.rows ≡ rows_of plate = one-plate (InCode kind plate.n rows) w.rows (rows_of plate) _ _ _ _ w.plate a.rows in
-          let o : 12 < liveAt (rows_of plate) w.depth = subst (λ (x : List ℕ). 12 < liveAt x w.depth) e w.over in
+          let o : 12 < live_at (rows_of plate) w.depth = subst (λ (x : List ℕ). 12 < live_at x w.depth) e w.over in
           omega (arith, (sound p).narrow w.depth w.within)
 
   -- a sound plate whose rows generate the code is what preparing replies
@@ -167,6 +167,6 @@ accepted n kind rows mask plate =
     (subst (λ (x : ℕ). Prepares plate.n kind rows x (record { verdict = Accepted; plate = plate })) p.0.1
     (accepted-with kind rows plate p.1.0 p.1.1.0 p.1.1.1.0 p.1.1.1.1)))
     (both (both (equal plate.n n) (equal plate.mask mask))
-    (both (isPrepared plate)
+    (both (is_prepared plate)
     (both (at_most (length rows) 64)
-    (both (each (length rows) (λ j. less (get_or rows j 0) (2 ^ plate.n))) (sameCode kind plate.n rows (rows_of plate))))))
+    (both (each (length rows) (λ j. less (get_or rows j 0) (2 ^ plate.n))) (same_code kind plate.n rows (rows_of plate))))))

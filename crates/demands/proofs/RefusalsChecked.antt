@@ -15,13 +15,13 @@ use Rattle.plates.specs.declared.Refusal.TheVariants.{AlistFault, BadSetting, Br
 use Rattle.plates.specs.declared.Refusal.TheVariants.{InformationBeyond, InputTooLong, Length, LineRoom, MaskBeyond, MetricRoom, NoCodeword, NoSuchBranch}
 use Rattle.plates.specs.declared.Refusal.TheVariants.{NotANumber, NotPrepared, PositionBeyond, RowBeyond, RowField, SampleCount, SampleRange, SheetLine}
 use Rattle.plates.specs.declared.Refusal.TheVariants.{TooManyLines, TooManyRows, TooWide, WholeSpace}
-use Rattle.plates.specs.Prepare.{Prepares, RowOver, Wide, badLength, maskBeyond}
+use Rattle.plates.specs.Prepare.{Prepares, RowOver, Wide, bad_length, mask_beyond}
 use Rattle.plates.specs.Refusals.{Refuses, field, number, place}
-use Rattle.plates.specs.Replying.{refusedWith}
+use Rattle.plates.specs.Replying.{refused_with}
 
 -- the refusal of a number, place and field
-abbrev pub refusalOf : ℕ → ℕ → ℕ → Refusal
-refusalOf i p f =
+abbrev pub refusal_of : ℕ → ℕ → ℕ → Refusal
+refusal_of i p f =
     cond (eqb i 1) Length
     (cond (eqb i 2) TooManyRows
     (cond (eqb i 3) (RowBeyond p)
@@ -49,7 +49,7 @@ refusalOf i p f =
     (cond (eqb i 25) (NotANumber p) (cond (eqb i 26) (BranchFault p) (cond (eqb i 27) (BranchTwice p) TooManyLines))))))))))))))))))))))))))
 
 -- a refusal is told by its number, place and field
-pub told : (q : Refusal) → refusalOf (number q) (place q) (field q) ≡ q
+pub told : (q : Refusal) → refusal_of (number q) (place q) (field q) ≡ q
 told Length = refl
 told TooManyRows = refl
 told (RowBeyond row) = refl
@@ -82,7 +82,7 @@ told TooManyLines = refl
 -- so two of one number, place and field are the same
 pub same-refusal : (p q : Refusal) → (number p ≡ number q) × ((place p ≡ place q) × (field p ≡ field q)) → p ≡ q
 same-refusal p q e =
-    sym (told p) ∙ ap₂ (λ (i : ℕ) (x : ℕ). refusalOf i x (field p)) e.0 e.1.0 ∙ ap (refusalOf (number q) (place q)) e.1.1 ∙ told q
+    sym (told p) ∙ ap₂ (λ (i : ℕ) (x : ℕ). refusal_of i x (field p)) e.0 e.1.0 ∙ ap (refusal_of (number q) (place q)) e.1.1 ∙ told q
 
 -- the test of that
 abbrev pub refusal : (p q : Refusal) → Check (p ≡ q)
@@ -91,8 +91,8 @@ refusal p q = by (same-refusal p q) (both (equal (number p) (number q)) (both (e
 -- ---- prepare refuses: 1, 3 or 23
 
 -- the row at the place is the first that is over
-abbrev pub rowOver : (n : ℕ) (rows : List ℕ) (q : Refusal) → Check (RowOver n rows q)
-rowOver n rows q =
+abbrev pub row_over : (n : ℕ) (rows : List ℕ) (q : Refusal) → Check (RowOver n rows q)
+row_over n rows q =
     by (λ p. record { row = place q; there = p.0; over = p.1.0; first = p.1.1.0; is = p.1.1.1 })
     (both (less (place q) (length rows))
     (both (at_most (2 ^ n) (get_or rows (place q) 0)) (both (each (place q) (λ j. less (get_or rows j 0) (2 ^ n))) (refusal q (RowBeyond (place q))))))
@@ -101,10 +101,10 @@ module _ (n : ℕ) (kind : Kind) (rows : List ℕ) (mask : ℕ) (q : Refusal) wh
   -- a bad length; or a good one, not too many rows, and one that is over, or none and a mask that is
   abbrev pub Refusable : Type 0
   Refusable =
-      badLength n q
-      ⊎ (((1 ≤ n) × (n ≤ 64)) × ((length rows ≤ 64) × (RowOver n rows q ⊎ (((j : ℕ) → j < length rows → get_or rows j 0 < 2 ^ n) × maskBeyond n mask q))))
+      bad_length n q
+      ⊎ (((1 ≤ n) × (n ≤ 64)) × ((length rows ≤ 64) × (RowOver n rows q ⊎ (((j : ℕ) → j < length rows → get_or rows j 0 < 2 ^ n) × mask_beyond n mask q))))
 
-  pub prepare-refused : Refusable → Prepares n kind rows mask (refusedWith q)
+  pub prepare-refused : Refusable → Prepares n kind rows mask (refused_with q)
   prepare-refused (inl b) = record { reply = (inl b, refl) }
   prepare-refused (inr p) = record { reply = (inr ((λ x b. good b.0), inr ((λ x b. omega (arith, b.0, p.1.0)), late p.1.1)), refl) }
     where
@@ -112,16 +112,16 @@ module _ (n : ℕ) (kind : Kind) (rows : List ℕ) (mask : ℕ) (q : Refusal) wh
       good (inl e) = omega (arith, e, p.0.0)
       good (inr h) = omega (arith, h, p.0.1)
 
-      late : RowOver n rows q ⊎ (((j : ℕ) → j < length rows → get_or rows j 0 < 2 ^ n) × maskBeyond n mask q)
-          → Refuses (RowOver n rows ∷ maskBeyond n mask ∷ Wide (InCode kind n rows) n ∷ []) q
+      late : RowOver n rows q ⊎ (((j : ℕ) → j < length rows → get_or rows j 0 < 2 ^ n) × mask_beyond n mask q)
+          → Refuses (RowOver n rows ∷ mask_beyond n mask ∷ Wide (InCode kind n rows) n ∷ []) q
       late (inl o) = inl o
       late (inr o) = inr ((λ x b. omega (arith, b.over, o.0 b.row b.there)), inl o.1)
 
   -- the test of that
-  abbrev pub refused : Check (Prepares n kind rows mask (refusedWith q))
+  abbrev pub refused : Check (Prepares n kind rows mask (refused_with q))
   refused =
       by prepare-refused (either (both (either (equal n 0) (less 64 n)) (refusal q Length))
       (both (both (at_most 1 n) (at_most n 64))
       (both (at_most (length rows) 64)
-      (either (rowOver n rows q)
+      (either (row_over n rows q)
       (both (each (length rows) (λ j. less (get_or rows j 0) (2 ^ n))) (both (at_most (2 ^ n) mask) (refusal q MaskBeyond)))))))

@@ -9,13 +9,13 @@ use mathlib.Core.Path.{ap, refl, subst, sym, ◌∙◌, ◌≡◌}
 use native.Mathlib.Omega.{arith}
 use Prim.Native.Nat.{◌+◌, ◌<◌, ◌≤◌, suc, ℕ}
 use Rattle.demands.proofs.LineRefusals.{line-number, not-among, one-fault}
-use Rattle.demands.specs.SheetRefusals.{Among, coverFault, firstFault, inputOver, lineFault, lineNumbers, sheetConditions}
+use Rattle.demands.specs.SheetRefusals.{Among, cover_fault, first_fault, input_over, line_fault, line_numbers, sheet_conditions}
 use Rattle.plates.proofs.Refusing.{Single}
 use Rattle.plates.specs.declared.Refusal.{Refusal}
 use Rattle.plates.specs.declared.Refusal.TheVariants.{InputTooLong, Length, TooManyRows}
 use Rattle.plates.specs.declared.Verdict.{Verdict}
 use Rattle.plates.specs.declared.Verdict.TheVariants as J
-use Rattle.plates.specs.Prepare.{badLength, tooManyRows}
+use Rattle.plates.specs.Prepare.{bad_length, too_many_rows}
 use Rattle.plates.specs.Refusals.{Passes, Refuses, field, number, place}
 use Rattle.sheets.proofs.Ranges.{accepted, all_pass}
 use Rattle.sheets.proofs.Replies.{number-of-line}
@@ -29,10 +29,10 @@ use Rattle.sheets.specs.declared.line.Fault.TheVariants as F
 use Rattle.sheets.specs.declared.mask.MaskLine.{MaskLine}
 use Rattle.sheets.specs.declared.mask.MaskLine.TheVariants as M
 use Rattle.sheets.specs.Faults as T
-use Rattle.sheets.specs.Faults.{RefusedFor, WrongAt, onCover}
-use Rattle.sheets.specs.Masks.{maskFront}
-use Rattle.sheets.specs.Sheet.{Contents, badBy, contents, coverBad, coverFront, endingAfter, firstRefusal, inputTooLong, lengthBad, lineBad, lineVerdict}
-use Rattle.sheets.specs.Sheet.{reading, readingBy, refusalOf, refused, rowsTooMany, says, verdict}
+use Rattle.sheets.specs.Faults.{RefusedFor, WrongAt, on_cover}
+use Rattle.sheets.specs.Masks.{mask_front}
+use Rattle.sheets.specs.Sheet.{Contents, bad_by, contents, cover_bad, cover_front, ending_after, first_refusal, input_too_long, length_bad, line_bad, line_verdict}
+use Rattle.sheets.specs.Sheet.{reading, reading_by, refusal_of, refused, rows_too_many, says, verdict}
 use Rattle.sheets.specs.Text.{lines}
 
 -- ---- verdicts
@@ -62,14 +62,14 @@ within m k p e = by (ltb m k) refl e
     by false t e = ltb-false m k t
 
 -- the range of n
-range-refuses : (n : ℕ) (q : Refusal) → lengthBad n ≡ J.Refused q → badLength n q
+range-refuses : (n : ℕ) (q : Refusal) → length_bad n ≡ J.Refused q → bad_length n q
 range-refuses n q e = by (eqb n 0) refl e
   where
-    by : (t : Bool) → eqb n 0 ≡ t → cond t (J.Refused Length) (cond (ltb 64 n) (J.Refused Length) J.Accepted) ≡ J.Refused q → badLength n q
+    by : (t : Bool) → eqb n 0 ≡ t → cond t (J.Refused Length) (cond (ltb 64 n) (J.Refused Length) J.Accepted) ≡ J.Refused q → bad_length n q
     by true t e = (inl (eqb-true n 0 t), same-refusal e)
     by false t e = let o = over 64 n Length q e in (inr o.0, o.1)
 
-range-passes : (n : ℕ) → lengthBad n ≡ J.Accepted → (q : Refusal) → badLength n q → ⊥
+range-passes : (n : ℕ) → length_bad n ≡ J.Accepted → (q : Refusal) → bad_length n q → ⊥
 range-passes n e q b = by (eqb n 0) refl e b.0
   where
     by : (t : Bool) → eqb n 0 ≡ t → cond t (J.Refused Length) (cond (ltb 64 n) (J.Refused Length) J.Accepted) ≡ J.Accepted → (n ≡ 0) ⊎ (64 < n) → ⊥
@@ -81,67 +81,67 @@ range-passes n e q b = by (eqb n 0) refl e b.0
 
 record OfLine (q : Refusal) : Type 0 where
   other : 1 < place q
-  numbered : Among (number q) lineNumbers
+  numbered : Among (number q) line_numbers
 
-fault-numbered : (line : ℕ) (f : Fault) → Among (number (refusalOf line f)) lineNumbers
+fault-numbered : (line : ℕ) (f : Fault) → Among (number (refusal_of line f)) line_numbers
 fault-numbered line F.Missing = inl refl
 fault-numbered line F.Turn = inr (inl refl)
 fault-numbered line (F.Count at) = inr (inr (inl refl))
 fault-numbered line (F.Value at) = inr (inr (inr (inl refl)))
 fault-numbered line (F.Row at) = inr (inr (inr (inr (inl refl))))
 
-of-line : (line : ℕ) (f : Fault) (q : Refusal) → 1 < line → J.Refused (refusalOf line f) ≡ J.Refused q → OfLine q
+of-line : (line : ℕ) (f : Fault) (q : Refusal) → 1 < line → J.Refused (refusal_of line f) ≡ J.Refused q → OfLine q
 of-line line f q h e =
     subst OfLine (sym (same-refusal e)) (record { other = omega (arith, h, (number-of-line line f).1); numbered = fault-numbered line f })
 
-ending-line : (line : ℕ) (e : Ending) (q : Refusal) → 1 < line → lineVerdict line e ≡ J.Refused q → OfLine q
+ending-line : (line : ℕ) (e : Ending) (q : Refusal) → 1 < line → line_verdict line e ≡ J.Refused q → OfLine q
 ending-line line E.Fine q h x = no-verdict x
 ending-line line (E.NoEnd f) q h x = of-line line f q h x
 ending-line line (E.After f) q h x = of-line (line + 1) f q (omega (arith, h)) x
 
-bad-cover : (f : Fault) (q : Refusal) → J.Refused (refusalOf 1 f) ≡ J.Refused q → Among (number q) lineNumbers × (place q ≡ 1)
-bad-cover f q e = subst (λ (p : Refusal). Among (number p) lineNumbers × (place p ≡ 1)) (sym (same-refusal e)) (fault-numbered 1 f, (number-of-line 1 f).1)
+bad-cover : (f : Fault) (q : Refusal) → J.Refused (refusal_of 1 f) ≡ J.Refused q → Among (number q) line_numbers × (place q ≡ 1)
+bad-cover f q e = subst (λ (p : Refusal). Among (number p) line_numbers × (place p ≡ 1)) (sym (same-refusal e)) (fault-numbered 1 f, (number-of-line 1 f).1)
 
-bad-line : (found : MaskLine) (c : Contents) (ls : List (List ℕ)) (q : Refusal) → badBy found c ls ≡ J.Refused q → OfLine q
-bad-line (M.Is w) c ls q x = ending-line (3 + length c.rows + length c.blocks) (endingAfter c (drop 1 ls)) q (omega arith) x
-bad-line M.NoMask c ls q x = ending-line (2 + length c.rows + length c.blocks) (endingAfter c ls) q (omega arith) x
+bad-line : (found : MaskLine) (c : Contents) (ls : List (List ℕ)) (q : Refusal) → bad_by found c ls ≡ J.Refused q → OfLine q
+bad-line (M.Is w) c ls q x = ending-line (3 + length c.rows + length c.blocks) (ending_after c (drop 1 ls)) q (omega arith) x
+bad-line M.NoMask c ls q x = ending-line (2 + length c.rows + length c.blocks) (ending_after c ls) q (omega arith) x
 bad-line (M.Bad f) c ls q x = of-line 2 f q (omega arith) x
 
 -- ---- refused
 
 module _ (s : List ℕ) where
   -- with the number of a line's fault, it is the first fault
-  is-fault : (q : Refusal) → Among (number q) lineNumbers → RefusedFor s (contents s).n q → firstFault s q
-  is-fault q a (T.tooLong e) = absurd (not-among 15 lineNumbers refl (subst (λ (i : ℕ). Among i lineNumbers) (ap number e) a))
+  is-fault : (q : Refusal) → Among (number q) line_numbers → RefusedFor s (contents s).n q → first_fault s q
+  is-fault q a (T.too_long e) = absurd (not-among 15 line_numbers refl (subst (λ (i : ℕ). Among i line_numbers) (ap number e) a))
   is-fault q a (T.fault f) = f
-  is-fault q a (T.badLength e r) = absurd (not-among 1 lineNumbers refl (subst (λ (i : ℕ). Among i lineNumbers) (ap number e) a))
-  is-fault q a (T.manyRows e r) = absurd (not-among 2 lineNumbers refl (subst (λ (i : ℕ). Among i lineNumbers) (ap number e) a))
+  is-fault q a (T.bad_length e r) = absurd (not-among 1 line_numbers refl (subst (λ (i : ℕ). Among i line_numbers) (ap number e) a))
+  is-fault q a (T.many_rows e r) = absurd (not-among 2 line_numbers refl (subst (λ (i : ℕ). Among i line_numbers) (ap number e) a))
 
   -- with 1, the cover has no fault
-  cover-right : (q : Refusal) → number q ≡ 1 → RefusedFor s (contents s).n q → (p : Refusal) → coverFault s p → ⊥
-  cover-right q h (T.tooLong e) p x = let g : number q ≡ 15 = ap number e in omega (arith, h, g)
-  cover-right q h (T.fault f) p x = not-among 1 lineNumbers refl (subst (λ (i : ℕ). Among i lineNumbers) h (line-number s q f))
-  cover-right q h (T.badLength e r) p x =
-      r (number p) (field p) (subst (λ (k : ℕ). WrongAt (contents s).n onCover (lines s) k (number p) (field p)) x.1 x.0.is)
-  cover-right q h (T.manyRows e r) p x = let g : number q ≡ 2 = ap number e in omega (arith, h, g)
+  cover-right : (q : Refusal) → number q ≡ 1 → RefusedFor s (contents s).n q → (p : Refusal) → cover_fault s p → ⊥
+  cover-right q h (T.too_long e) p x = let g : number q ≡ 15 = ap number e in omega (arith, h, g)
+  cover-right q h (T.fault f) p x = not-among 1 line_numbers refl (subst (λ (i : ℕ). Among i line_numbers) h (line-number s q f))
+  cover-right q h (T.bad_length e r) p x =
+      r (number p) (field p) (subst (λ (k : ℕ). WrongAt (contents s).n on_cover (lines s) k (number p) (field p)) x.1 x.0.is)
+  cover-right q h (T.many_rows e r) p x = let g : number q ≡ 2 = ap number e in omega (arith, h, g)
 
   -- with 2, no line has one
-  lines-right : (q : Refusal) → number q ≡ 2 → RefusedFor s (contents s).n q → (p : Refusal) → firstFault s p → ⊥
-  lines-right q h (T.tooLong e) p x = let g : number q ≡ 15 = ap number e in omega (arith, h, g)
-  lines-right q h (T.fault f) p x = not-among 2 lineNumbers refl (subst (λ (i : ℕ). Among i lineNumbers) h (line-number s q f))
-  lines-right q h (T.badLength e r) p x = let g : number q ≡ 1 = ap number e in omega (arith, h, g)
-  lines-right q h (T.manyRows e r) p x = r (place p) (number p) (field p) x.is
+  lines-right : (q : Refusal) → number q ≡ 2 → RefusedFor s (contents s).n q → (p : Refusal) → first_fault s p → ⊥
+  lines-right q h (T.too_long e) p x = let g : number q ≡ 15 = ap number e in omega (arith, h, g)
+  lines-right q h (T.fault f) p x = not-among 2 line_numbers refl (subst (λ (i : ℕ). Among i line_numbers) h (line-number s q f))
+  lines-right q h (T.bad_length e r) p x = let g : number q ≡ 1 = ap number e in omega (arith, h, g)
+  lines-right q h (T.many_rows e r) p x = r (place p) (number p) (field p) x.is
 
   -- another line's fault is none of the cover's
-  no_cover : (p q : Refusal) → firstFault s q → 1 < place q → coverFault s p → ⊥
+  no_cover : (p q : Refusal) → first_fault s q → 1 < place q → cover_fault s p → ⊥
   no_cover p q f h x = let e : place p ≡ place q = ap place (one-fault s p q x.0 f) in omega (arith, e, h, x.1)
 
   module _ (q : Refusal) (why : RefusedFor s (contents s).n q) where
-    past-range : (line : Verdict) → lineBad (contents s) (drop 1 (lines s)) ≡ line → (rows : Verdict) → rowsTooMany (length (contents s).rows) ≡ rows
-        → firstRefusal (line ∷ rows ∷ []) ≡ J.Refused q
-        → ((p : Refusal) → coverFault s p → ⊥) × Refuses (lineFault s ∷ tooManyRows (contents s).rows ∷ []) q
+    past-range : (line : Verdict) → line_bad (contents s) (drop 1 (lines s)) ≡ line → (rows : Verdict) → rows_too_many (length (contents s).rows) ≡ rows
+        → first_refusal (line ∷ rows ∷ []) ≡ J.Refused q
+        → ((p : Refusal) → cover_fault s p → ⊥) × Refuses (line_fault s ∷ too_many_rows (contents s).rows ∷ []) q
     past-range (J.Refused p) e rows f x =
-        let o = bad-line (maskFront (contents s).n (contents s).order (drop 1 (lines s))) (contents s) (drop 1 (lines s)) q (e ∙ x) in
+        let o = bad-line (mask_front (contents s).n (contents s).order (drop 1 (lines s))) (contents s) (drop 1 (lines s)) q (e ∙ x) in
         let g = is-fault q o.numbered why in
         ((λ p y. no_cover p q g o.other y), inl (g, o.other))
     past-range J.Accepted e (J.Refused p) f x =
@@ -151,17 +151,17 @@ module _ (s : List ℕ) where
     past-range J.Accepted e J.Accepted f x = no-verdict x
 
     -- the verdicts after the cover's
-    abbrev afterCover : List Verdict
-    afterCover = lengthBad (contents s).n ∷ lineBad (contents s) (drop 1 (lines s)) ∷ rowsTooMany (length (contents s).rows) ∷ []
+    abbrev after_cover : List Verdict
+    after_cover = length_bad (contents s).n ∷ line_bad (contents s) (drop 1 (lines s)) ∷ rows_too_many (length (contents s).rows) ∷ []
 
-    past-cover : (range : Verdict) → lengthBad (contents s).n ≡ range
-        → firstRefusal (range ∷ lineBad (contents s) (drop 1 (lines s)) ∷ rowsTooMany (length (contents s).rows) ∷ []) ≡ J.Refused q
-        → ((p : Refusal) → coverFault s p → ⊥) × Refuses (badLength (contents s).n ∷ lineFault s ∷ tooManyRows (contents s).rows ∷ []) q
+    past-cover : (range : Verdict) → length_bad (contents s).n ≡ range
+        → first_refusal (range ∷ line_bad (contents s) (drop 1 (lines s)) ∷ rows_too_many (length (contents s).rows) ∷ []) ≡ J.Refused q
+        → ((p : Refusal) → cover_fault s p → ⊥) × Refuses (bad_length (contents s).n ∷ line_fault s ∷ too_many_rows (contents s).rows ∷ []) q
     past-cover (J.Refused p) e x = let b = range-refuses (contents s).n q (e ∙ x) in (cover-right q (ap number b.1) why, inl b)
     past-cover J.Accepted e x = let r = past-range _ refl _ refl x in (r.0, inr (range-passes (contents s).n e, r.1))
 
-    by-verdicts : (long : Verdict) → inputTooLong s ≡ long → (cover : CoverLine)
-        → firstRefusal (long ∷ coverBad cover ∷ afterCover) ≡ J.Refused q → Refuses (sheetConditions s) q
+    by-verdicts : (long : Verdict) → input_too_long s ≡ long → (cover : CoverLine)
+        → first_refusal (long ∷ cover_bad cover ∷ after_cover) ≡ J.Refused q → Refuses (sheet_conditions s) q
     by-verdicts (J.Refused p) e cover x = inl (over 32768 (length s) InputTooLong q (e ∙ x))
     by-verdicts J.Accepted e (C.Bad f) x =
         let o = bad-cover f q x in
@@ -170,19 +170,19 @@ module _ (s : List ℕ) where
         inr ((λ p y. omega (arith, y.0, within 32768 (length s) InputTooLong e)), inr (past-cover _ refl x))
 
   -- a sheet is refused with the first condition that holds
-  pub refused-first : (q : Refusal) → reading s ≡ refused q → Refuses (sheetConditions s) q
+  pub refused-first : (q : Refusal) → reading s ≡ refused q → Refuses (sheet_conditions s) q
   unfolding verdict
-  refused-first q e = by-verdicts q (refused-for s q e) (inputTooLong s) refl (coverFront (lines s)) (by (verdict s) e)
+  refused-first q e = by-verdicts q (refused-for s q e) (input_too_long s) refl (cover_front (lines s)) (by (verdict s) e)
     where
-      by : (v : Verdict) → readingBy v (contents s) ≡ refused q → v ≡ J.Refused q
+      by : (v : Verdict) → reading_by v (contents s) ≡ refused q → v ≡ J.Refused q
       by J.Accepted g = let z : ◌≡◌ {A = ℕ} 0 1 = cc in absurd (omega arith)
       by (J.Refused p) g = cc
 
   -- where it is read none holds
-  pub read-passes : (c : Contents) → reading s ≡ says c → Passes (sheetConditions s)
+  pub read-passes : (c : Contents) → reading s ≡ says c → Passes (sheet_conditions s)
   read-passes c e =
       let a = all_pass s (accepted s c e).0 in
-      let none : (p : Refusal) → firstFault s p → ⊥ = λ p x. no-fault s c e (place p) (number p) (field p) x.is in (
+      let none : (p : Refusal) → first_fault s p → ⊥ = λ p x. no-fault s c e (place p) (number p) (field p) x.is in (
         (λ p y. omega (arith, y.0, within 32768 (length s) InputTooLong a.short)),
         (
           (λ p y. none p y.0),
@@ -197,5 +197,5 @@ module _ (s : List ℕ) where
   alike p q x y = x.1 ∙ sym y.1
 
   -- each condition gives one refusal
-  pub sheet-single : Single (sheetConditions s)
+  pub sheet-single : Single (sheet_conditions s)
   sheet-single = (alike, ((λ p q x y. one-fault s p q x.0 y.0), (alike, ((λ p q x y. one-fault s p q x.0 y.0), (alike, tt)))))

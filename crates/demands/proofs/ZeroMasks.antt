@@ -23,7 +23,7 @@ use Rattle.decoding.specs.declared.firmness.Flagged.{Flagged}
 use Rattle.decoding.specs.Decode.{Decodes}
 use Rattle.decoding.specs.Firmness.{TellsFirmness}
 use Rattle.demands.specs.Unmasked.{AsksCodeword, BranchesIn, ChoosesCodeword, DecodesCodeword, JudgesCodeword, MeasuresCodeword}
-use Rattle.demands.specs.Unmasked.{IsPreparedUnmasked, PreparesUnmasked, unmaskedConditions}
+use Rattle.demands.specs.Unmasked.{IsPreparedUnmasked, PreparesUnmasked, unmasked_conditions}
 use Rattle.plates.specs.Code.{InCode}
 use Rattle.plates.specs.declared.Kind.{Kind}
 use Rattle.plates.specs.declared.Kind.TheVariants.{G}
@@ -31,12 +31,12 @@ use Rattle.plates.specs.declared.Plate.{Plate}
 use Rattle.plates.specs.declared.Prepared.{Prepared}
 use Rattle.plates.specs.declared.Refusal.{Refusal}
 use Rattle.plates.specs.declared.Verdict.TheVariants.{Accepted, Refused}
-use Rattle.plates.specs.Prepare.{IsPrepared, Prepares, PreparesAs, prepareConditions, rows_of}
+use Rattle.plates.specs.Prepare.{IsPrepared, Prepares, PreparesAs, prepare_conditions, rows_of}
 use Rattle.plates.specs.Refusals.{Passes, Refuses}
-use Rattle.trellises.specs.Branching.{Branches, codeTrellis, trellisOf}
+use Rattle.trellises.specs.Branching.{Branches, code_trellis, trellis_of}
 use Rattle.trellises.specs.declared.Next.{Next}
 use Rattle.trellises.specs.Graph.{Branch, Graph}
-use Rattle.trellises.specs.Masking.{masked, turnedAll}
+use Rattle.trellises.specs.Masking.{masked, turned_all}
 use Rattle.words.proofs.Word.{bit-zero}
 use Rattle.asking.specs.declared.Verdict.TheVariants as X
 use Rattle.decoding.specs.declared.apart.Chosen.TheVariants as C
@@ -50,29 +50,29 @@ use Rattle.trellises.specs.declared.Next.TheVariants as N
 
 module _ (n : ℕ) (kind : Kind) (rows : List ℕ) where
   -- a zero mask is never refused, so 23 drops out of the order
-  without-23 : (q : Refusal) → Refuses (prepareConditions n kind rows 0) q → Refuses (unmaskedConditions n kind rows) q
+  without-23 : (q : Refusal) → Refuses (prepare_conditions n kind rows 0) q → Refuses (unmasked_conditions n kind rows) q
   without-23 q (inl a) = inl a
   without-23 q (inr (a, inl b)) = inr (a, inl b)
   without-23 q (inr (a, inr (b, inl c))) = inr (a, inr (b, inl c))
   without-23 q (inr (a, inr (b, inr (c, inl m)))) = absurd (omega (arith, m.0, pow_pos n))
   without-23 q (inr (a, inr (b, inr (c, inr (m, d))))) = inr (a, inr (b, inr (c, d)))
 
-  with-23 : (q : Refusal) → Refuses (unmaskedConditions n kind rows) q → Refuses (prepareConditions n kind rows 0) q
+  with-23 : (q : Refusal) → Refuses (unmasked_conditions n kind rows) q → Refuses (prepare_conditions n kind rows 0) q
   with-23 q (inl a) = inl a
   with-23 q (inr (a, inl b)) = inr (a, inl b)
   with-23 q (inr (a, inr (b, inl c))) = inr (a, inr (b, inl c))
   with-23 q (inr (a, inr (b, inr (c, d)))) = inr (a, inr (b, inr (c, inr ((λ x m. omega (arith, m.0, pow_pos n)), d))))
 
   reply-unmasked : (v : P.Verdict) (plate : Plate)
-      → PreparesAs (prepareConditions n kind rows 0) (InCode kind n rows) n 0 plate v
-      ↔ PreparesAs (unmaskedConditions n kind rows) (InCode kind n rows) n 0 plate v
+      → PreparesAs (prepare_conditions n kind rows 0) (InCode kind n rows) n 0 plate v
+      ↔ PreparesAs (unmasked_conditions n kind rows) (InCode kind n rows) n 0 plate v
   reply-unmasked (Refused q) plate = ((λ x. (without-23 q x.0, x.1)), λ x. (with-23 q x.0, x.1))
   reply-unmasked Accepted plate = ((λ x. (short x.0, x.1)), λ x. (long x.0, x.1))
     where
-      short : Passes (prepareConditions n kind rows 0) → Passes (unmaskedConditions n kind rows)
+      short : Passes (prepare_conditions n kind rows 0) → Passes (unmasked_conditions n kind rows)
       short (a, (b, (c, (m, d)))) = (a, (b, (c, d)))
 
-      long : Passes (unmaskedConditions n kind rows) → Passes (prepareConditions n kind rows 0)
+      long : Passes (unmasked_conditions n kind rows) → Passes (prepare_conditions n kind rows 0)
       long (a, (b, (c, d))) = (a, (b, (c, ((λ x m. omega (arith, m.0, pow_pos n)), d))))
 
   pub prepare-zero-mask : (r : Prepared) → Prepares n kind rows 0 r ↔ PreparesUnmasked n kind rows r
@@ -100,23 +100,23 @@ module _ (plate : Plate) (none : plate.mask ≡ 0) where
   -- ---- branch
 
   -- the trellis is the code's
-  turned_none : (bs : List Branch) → turnedAll 0 bs ≡ bs
+  turned_none : (bs : List Branch) → turned_all 0 bs ≡ bs
   turned_none [] = refl
   turned_none (b ∷ bs) = ap (λ (x : List Branch). b ∷ x) (turned_none bs)
 
-  pub trellis-zero-mask : trellisOf plate ≡ codeTrellis plate
+  pub trellis-zero-mask : trellis_of plate ≡ code_trellis plate
   trellis-zero-mask =
-      ap (λ (m : ℕ). masked m (codeTrellis plate)) none
-      ∙ ap (λ (f : ℕ → List Branch). record { states = (codeTrellis plate).states; branches = f })
-      (fun_ext (λ t. ap (λ (d : ℕ). turnedAll d ((codeTrellis plate).branches t)) (bit-zero t) ∙ turned_none ((codeTrellis plate).branches t)))
+      ap (λ (m : ℕ). masked m (code_trellis plate)) none
+      ∙ ap (λ (f : ℕ → List Branch). record { states = (code_trellis plate).states; branches = f })
+      (fun_ext (λ t. ap (λ (d : ℕ). turned_all d ((code_trellis plate).branches t)) (bit-zero t) ∙ turned_none ((code_trellis plate).branches t)))
 
-  in_code : (depth state bit : ℕ) (r : Next) → BranchesIn (trellisOf plate) plate depth state bit r ↔ BranchesIn (codeTrellis plate) plate depth state bit r
+  in_code : (depth state bit : ℕ) (r : Next) → BranchesIn (trellis_of plate) plate depth state bit r ↔ BranchesIn (code_trellis plate) plate depth state bit r
   in_code depth state bit r = (
     subst (λ (g : Graph). BranchesIn g plate depth state bit r) trellis-zero-mask,
     subst (λ (g : Graph). BranchesIn g plate depth state bit r) (sym trellis-zero-mask),
   )
 
-  pub branch-zero-mask : (depth state bit : ℕ) (r : Next) → Branches plate depth state bit r ↔ BranchesIn (codeTrellis plate) plate depth state bit r
+  pub branch-zero-mask : (depth state bit : ℕ) (r : Next) → Branches plate depth state bit r ↔ BranchesIn (code_trellis plate) plate depth state bit r
   branch-zero-mask depth state bit (N.State next) = in_code depth state bit (N.State next)
   branch-zero-mask depth state bit N.NoBranch = in_code depth state bit N.NoBranch
   branch-zero-mask depth state bit (N.Refused q) = in_code depth state bit (N.Refused q)

@@ -3,8 +3,8 @@
 use Rattle.std.specs.Prelude.{get_or, length, List, ◌↔◌, ◌≡◌, ◌<◌, ◌^◌, ℕ, ◌≤◌}
 use Rattle.plates.specs.Code.{Checked}
 use Rattle.trellises.specs.declared.Section.{Section}
-use Rattle.trellises.specs.Graph.{Branch, Graph, branchAt}
-use Rattle.trellises.specs.Numbers.{bit_of, branchCount, leadsTo, leaves}
+use Rattle.trellises.specs.Graph.{Branch, Graph, branch_at}
+use Rattle.trellises.specs.Numbers.{bit_of, branch_count, leads_to, leaves}
 use Rattle.words.specs.Word.{bit}
 
 -- the words of C that are zero from t on
@@ -22,11 +22,11 @@ pub record ParityChecks (C : ℕ → Type 0) (n : ℕ) (checks : List ℕ) : Typ
   pub same : (w : ℕ) → C w ↔ Checked n checks w
 
 -- branch v of a section, by the section's numbers: the state that it leaves, its bit and the state that it leads to
-abbrev pub branchOf : Section → ℕ → Branch
-branchOf c v = record { from = leaves c v; out = bit_of c v; to = leadsTo c v }
+abbrev pub branch_of : Section → ℕ → Branch
+branch_of c v = record { from = leaves c v; out = bit_of c v; to = leads_to c v }
 
 -- the numbers c say section t of the graph g: how many states, how many branches, and each branch in turn
 pub record SaysSection (g : Graph) (t : ℕ) (c : Section) : Type 0 where
   pub states : g.states t ≡ 2 ^ c.live
-  pub count : length (g.branches t) ≡ branchCount c
-  pub branch : (v : ℕ) → v < branchCount c → branchAt g t v ≡ branchOf c v
+  pub count : length (g.branches t) ≡ branch_count c
+  pub branch : (v : ℕ) → v < branch_count c → branch_at g t v ≡ branch_of c v

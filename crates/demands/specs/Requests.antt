@@ -2,12 +2,12 @@
 use Rattle.std.specs.Prelude.{ℤ, length, ◌++◌, List, [], ◌∷◌, ◌≡◌, ◌+◌, ℕ}
 use Rattle.decoding.specs.declared.Answer.{Answer}
 use Rattle.decoding.specs.declared.Decoded.{Decoded}
-use Rattle.decoding.specs.Metric.{metricOf}
-use Rattle.listings.specs.Lines.{endLine, tallyLine}
+use Rattle.decoding.specs.Metric.{metric_of}
+use Rattle.listings.specs.Lines.{line_of_end, tally_line}
 use Rattle.plates.specs.declared.Plate.{Plate}
 use Rattle.plates.specs.Prepare.{IsWord}
 use Rattle.reports.specs.Report.{BlockAnswers}
-use Rattle.reports.specs.Tally.{heardsOf, tally_of}
+use Rattle.reports.specs.Tally.{heards_of, tally_of}
 use Rattle.sheets.specs.Sheet.{Contents}
 use Rattle.words.specs.Word.{bit}
 
@@ -18,7 +18,7 @@ pub record AsGood (plate : Plate) (samples : List ℤ) (a : Answer) (position b 
   pub word : ℕ
   pub codeword : IsWord plate word
   pub has : bit word position ≡ b
-  pub metric : metricOf samples word ≡ a.metric
+  pub metric : metric_of samples word ≡ a.metric
 
 -- ---- A5
 
@@ -27,6 +27,6 @@ pub record TallyTold (sheet : Contents) (plate : Plate) (lines : List (List ℕ)
   pub replies : List Decoded
   pub answered : BlockAnswers plate sheet.blocks replies
   pub before : List (List ℕ)
-  pub are : let heards = heardsOf sheet.counters sheet.blocks replies in
-      lines ≡ before ++ (tallyLine (tally_of heards) ∷ endLine (length sheet.blocks) ∷ [])
-  pub together : let t = tally_of (heardsOf sheet.counters sheet.blocks replies) in t.decoded + t.refused + t.repeated ≡ length sheet.blocks
+  pub are : let heards = heards_of sheet.counters sheet.blocks replies in
+      lines ≡ before ++ (tally_line (tally_of heards) ∷ line_of_end (length sheet.blocks) ∷ [])
+  pub together : let t = tally_of (heards_of sheet.counters sheet.blocks replies) in t.decoded + t.refused + t.repeated ≡ length sheet.blocks

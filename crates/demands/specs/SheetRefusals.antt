@@ -3,9 +3,9 @@ use Rattle.std.specs.Prelude.{length, List, [], ◌∷◌, ◌⊎◌, ◌≡◌,
 use Rattle.plates.specs.Code.{InCode}
 use Rattle.plates.specs.declared.Refusal.{Refusal}
 use Rattle.plates.specs.declared.Refusal.TheVariants.{InputTooLong}
-use Rattle.plates.specs.Prepare.{Wide, badLength, tooManyRows}
+use Rattle.plates.specs.Prepare.{Wide, bad_length, too_many_rows}
 use Rattle.plates.specs.Refusals.{field, number, place}
-use Rattle.sheets.specs.Faults.{FirstFault, onCover}
+use Rattle.sheets.specs.Faults.{FirstFault, on_cover}
 use Rattle.sheets.specs.Sheet.{contents}
 use Rattle.sheets.specs.Text.{lines}
 
@@ -13,33 +13,33 @@ use Rattle.sheets.specs.Text.{lines}
 -- settles what those behind it say.
 
 -- 15: the input has over 32,768 bytes
-abbrev pub inputOver : List ℕ → Refusal → Type 0
-inputOver s q = (32768 < length s) × (q ≡ InputTooLong)
+abbrev pub input_over : List ℕ → Refusal → Type 0
+input_over s q = (32768 < length s) × (q ≡ InputTooLong)
 
 -- a bad line: the refusal has line, number and field of the first fault of the sheet's lines, which is on the lowest line, then has the lowest
 -- number, then the lowest field
-abbrev pub firstFault : List ℕ → Refusal → Type 0
-firstFault s q = FirstFault (contents s).n onCover (lines s) (place q) (number q) (field q)
+abbrev pub first_fault : List ℕ → Refusal → Type 0
+first_fault s q = FirstFault (contents s).n on_cover (lines s) (place q) (number q) (field q)
 
 -- form of the cover, which is line 1
-abbrev pub coverFault : List ℕ → Refusal → Type 0
-coverFault s q = firstFault s q × (place q ≡ 1)
+abbrev pub cover_fault : List ℕ → Refusal → Type 0
+cover_fault s q = first_fault s q × (place q ≡ 1)
 
 -- the first other bad line
-abbrev pub lineFault : List ℕ → Refusal → Type 0
-lineFault s q = firstFault s q × (1 < place q)
+abbrev pub line_fault : List ℕ → Refusal → Type 0
+line_fault s q = first_fault s q × (1 < place q)
 
 -- 4: some s(t) of the plate of the sheet's matrix exceeds 12
-abbrev pub sheetWide : List ℕ → Refusal → Type 0
-sheetWide s = Wide (InCode (contents s).kind (contents s).n (contents s).rows) (contents s).n
+abbrev pub sheet_wide : List ℕ → Refusal → Type 0
+sheet_wide s = Wide (InCode (contents s).kind (contents s).n (contents s).rows) (contents s).n
 
 -- those that reading the sheet meets
-abbrev pub sheetConditions : List ℕ → List (Refusal → Type 0)
-sheetConditions s = inputOver s ∷ coverFault s ∷ badLength (contents s).n ∷ lineFault s ∷ tooManyRows (contents s).rows ∷ []
+abbrev pub sheet_conditions : List ℕ → List (Refusal → Type 0)
+sheet_conditions s = input_over s ∷ cover_fault s ∷ bad_length (contents s).n ∷ line_fault s ∷ too_many_rows (contents s).rows ∷ []
 
 -- all
-abbrev pub inputConditions : List ℕ → List (Refusal → Type 0)
-inputConditions s = inputOver s ∷ coverFault s ∷ badLength (contents s).n ∷ lineFault s ∷ tooManyRows (contents s).rows ∷ sheetWide s ∷ []
+abbrev pub input_conditions : List ℕ → List (Refusal → Type 0)
+input_conditions s = input_over s ∷ cover_fault s ∷ bad_length (contents s).n ∷ line_fault s ∷ too_many_rows (contents s).rows ∷ sheet_wide s ∷ []
 
 -- ---- their numbers
 
@@ -56,5 +56,5 @@ NumberedAmong (c ∷ cs) [] = ⊥
 NumberedAmong (c ∷ cs) (js ∷ jss) = ((q : Refusal) → c q → Among (number q) js) × NumberedAmong cs jss
 
 -- a bad line: missing or not ended, first field, number of fields, form of a field, form of a row or mask
-abbrev pub lineNumbers : List ℕ
-lineNumbers = 10 ∷ 17 ∷ 18 ∷ 19 ∷ 20 ∷ []
+abbrev pub line_numbers : List ℕ
+line_numbers = 10 ∷ 17 ∷ 18 ∷ 19 ∷ 20 ∷ []

@@ -18,9 +18,9 @@ use Rattle.decoding.specs.declared.Decoded.{Decoded}
 use Rattle.decoding.specs.declared.firmness.Flagged.{Flagged}
 use Rattle.exports.specs.Batches.{BatchCells, BatchesTo, Batching, CallsDecodeBlocks}
 use Rattle.exports.specs.Calls.{Calls, Crossing, Replies, misshapen}
-use Rattle.exports.specs.Crossing.{DecodeCells, Decoding, Listing, ListingCells, Writing, listingCells}
+use Rattle.exports.specs.Crossing.{DecodeCells, Decoding, Listing, ListingCells, Writing, listing_cells}
 use Rattle.exports.specs.Explaining.{AsksTo, CallsWhyNot, Explaining, ReasonCells}
-use Rattle.exports.specs.Flat.{plateOf}
+use Rattle.exports.specs.Flat.{plate_of}
 use Rattle.exports.specs.Judging.{CallsFirmness, FirmnessCells, Judging, JudgesTo}
 use Rattle.exports.specs.Parting.{CallsMetric, CallsWord, Choosing, ChoosesTo, Measuring, MeasuresTo, MetricCells, WordCells}
 use Rattle.exports.specs.Promises.{CallsBranch, CallsDecode, CallsEncode, CallsListing, CallsPrepare, CallsReadBack, CallsWrite, CallsWriteEnd, CallsWritePlate, CallsWriteProfile, CallsWriteRefused, CallsWriteWord, DecodesTo, kind_of}
@@ -65,23 +65,23 @@ prepare-call-determined n kind rows mask run at r s a b c d = calls-determined (
 module _ (words cell : List ℕ) (r s : ℕ) (a b : List ℕ) where
   pub branch-call-determined : (depth state digit : ℕ) → CallsBranch words depth state digit cell r a → CallsBranch words depth state digit cell s b
       → SameCell r s a b
-  branch-call-determined depth state digit = calls-determined (branch-determined (plateOf words) depth state digit)
+  branch-call-determined depth state digit = calls-determined (branch-determined (plate_of words) depth state digit)
 
   pub encode-call-determined : (information : ℕ) → CallsEncode words information cell r a → CallsEncode words information cell s b
       → SameCell r s a b
-  encode-call-determined information = calls-determined (encode-determined (plateOf words) information)
+  encode-call-determined information = calls-determined (encode-determined (plate_of words) information)
 
   pub read-back-call-determined : (word : ℕ) → CallsReadBack words word cell r a → CallsReadBack words word cell s b
       → SameCell r s a b
-  read-back-call-determined word = calls-determined (read-back-determined (plateOf words) word)
+  read-back-call-determined word = calls-determined (read-back-determined (plate_of words) word)
 
 pub decode-call-determined : (words : List ℕ) (samples : List ℤ) (lent a b : DecodeCells) (r s : ℕ) → CallsDecode words samples lent r a → CallsDecode words samples lent s b
     → ◌≡◌ {A = Crossing DecodeCells} (record { code = r; cells = a }) (record { code = s; cells = b })
 decode-call-determined words samples lent a b r s = calls-determined one
   where
-    one : (x y : Decoding) → DecodesTo (plateOf words) samples lent x → DecodesTo (plateOf words) samples lent y → x ≡ y
+    one : (x y : Decoding) → DecodesTo (plate_of words) samples lent x → DecodesTo (plate_of words) samples lent y → x ≡ y
     one x y p q =
-        let same = decode-determined (plateOf words) samples lent.metrics lent.decisions x.reply y.reply x.metrics y.metrics x.decisions y.decisions p q in
+        let same = decode-determined (plate_of words) samples lent.metrics lent.decisions x.reply y.reply x.metrics y.metrics x.decisions y.decisions p q in
         ap₂ (λ (u : Decoded) (m : List ℤ). record { reply = u; metrics = m; decisions = x.decisions }) same.0 same.1
         ∙ ap (λ (d : List ℕ). record { reply = y.reply; metrics = y.metrics; decisions = d }) same.2
 
@@ -89,18 +89,18 @@ pub metric-call-determined : (words : List ℕ) (samples : List ℤ) (lent a b :
     → ◌≡◌ {A = Crossing MetricCells} (record { code = r; cells = a }) (record { code = s; cells = b })
 metric-call-determined words samples lent a b r s = calls-determined one
   where
-    one : (x y : Measuring) → MeasuresTo (plateOf words) samples lent x → MeasuresTo (plateOf words) samples lent y → x ≡ y
+    one : (x y : Measuring) → MeasuresTo (plate_of words) samples lent x → MeasuresTo (plate_of words) samples lent y → x ≡ y
     one x y p q =
-        let same = metric-determined (plateOf words) samples lent.metrics x.reply y.reply x.metrics y.metrics p q in
+        let same = metric-determined (plate_of words) samples lent.metrics x.reply y.reply x.metrics y.metrics p q in
         ap₂ (λ (u : Measured) (m : List ℤ). record { reply = u; metrics = m }) same.0 same.1
 
 pub word-call-determined : (words : List ℕ) (samples : List ℤ) (lent a b : WordCells) (r s : ℕ) → CallsWord words samples lent r a → CallsWord words samples lent s b
     → ◌≡◌ {A = Crossing WordCells} (record { code = r; cells = a }) (record { code = s; cells = b })
 word-call-determined words samples lent a b r s = calls-determined one
   where
-    one : (x y : Choosing) → ChoosesTo (plateOf words) samples lent x → ChoosesTo (plateOf words) samples lent y → x ≡ y
+    one : (x y : Choosing) → ChoosesTo (plate_of words) samples lent x → ChoosesTo (plate_of words) samples lent y → x ≡ y
     one x y p q =
-        let same = word-determined (plateOf words) samples lent.metrics lent.decisions x.reply y.reply x.metrics y.metrics x.decisions y.decisions p q in
+        let same = word-determined (plate_of words) samples lent.metrics lent.decisions x.reply y.reply x.metrics y.metrics x.decisions y.decisions p q in
         ap₂ (λ (u : Chosen) (m : List ℤ). record { reply = u; metrics = m; decisions = x.decisions }) same.0 same.1
         ∙ ap (λ (d : List ℕ). record { reply = y.reply; metrics = y.metrics; decisions = d }) same.2
 
@@ -108,10 +108,10 @@ pub decode-blocks-call-determined : (words : List ℕ) (samples : List ℤ) (len
     → CallsDecodeBlocks words samples lent s b → ◌≡◌ {A = Crossing BatchCells} (record { code = r; cells = a }) (record { code = s; cells = b })
 decode-blocks-call-determined words samples lent a b r s = calls-determined one
   where
-    one : (x y : Batching) → BatchesTo (plateOf words) samples lent x → BatchesTo (plateOf words) samples lent y → x ≡ y
+    one : (x y : Batching) → BatchesTo (plate_of words) samples lent x → BatchesTo (plate_of words) samples lent y → x ≡ y
     one x y p q =
         let same =
-        blocks-determined (plateOf words) samples lent.words lent.scores lent.metrics lent.decisions x.reply y.reply x.words y.words
+        blocks-determined (plate_of words) samples lent.words lent.scores lent.metrics lent.decisions x.reply y.reply x.words y.words
         x.scores y.scores x.metrics y.metrics x.decisions y.decisions p q in
         ap₂ (λ (u : Batch) (w : List ℕ). record { reply = u; words = w; scores = x.scores; metrics = x.metrics; decisions = x.decisions }) same.0 same.1
         ∙ ap₂ (λ (v m : List ℤ). record { reply = y.reply; words = y.words; scores = v; metrics = m; decisions = x.decisions }) same.2 same.3
@@ -121,9 +121,9 @@ pub firmness-call-determined : (words : List ℕ) (samples : List ℤ) (position
     → CallsFirmness words samples position lent s b → ◌≡◌ {A = Crossing FirmnessCells} (record { code = r; cells = a }) (record { code = s; cells = b })
 firmness-call-determined words samples position lent a b r s = calls-determined one
   where
-    one : (x y : Judging) → JudgesTo (plateOf words) samples position lent x → JudgesTo (plateOf words) samples position lent y → x ≡ y
+    one : (x y : Judging) → JudgesTo (plate_of words) samples position lent x → JudgesTo (plate_of words) samples position lent y → x ≡ y
     one x y p q =
-        let same = firmness-determined (plateOf words) samples position lent.metrics lent.decisions x.reply y.reply x.metrics y.metrics x.decisions y.decisions p q in
+        let same = firmness-determined (plate_of words) samples position lent.metrics lent.decisions x.reply y.reply x.metrics y.metrics x.decisions y.decisions p q in
         ap₂ (λ (u : Flagged) (m : List ℤ). record { reply = u; metrics = m; decisions = x.decisions }) same.0 same.1
         ∙ ap (λ (d : List ℕ). record { reply = y.reply; metrics = y.metrics; decisions = d }) same.2
 
@@ -139,17 +139,17 @@ module _ (room cell : List ℕ) (r s : ℕ) (a b c d : List ℕ) where
 
   pub write-plate-call-determined : (words : List ℕ) → CallsWritePlate words room cell r a b → CallsWritePlate words room cell s c d
       → SameRuns r s a b c d
-  write-plate-call-determined words = write-call-determined _ (WritesPlate (plateOf words)) (λ x y e f. write-plate-determined (plateOf words))
+  write-plate-call-determined words = write-call-determined _ (WritesPlate (plate_of words)) (λ x y e f. write-plate-determined (plate_of words))
 
   pub write-profile-call-determined : (words : List ℕ) → CallsWriteProfile words room cell r a b → CallsWriteProfile words room cell s c d
       → SameRuns r s a b c d
-  write-profile-call-determined words = write-call-determined _ (WritesProfile (plateOf words)) (λ x y e f. write-profile-determined (plateOf words))
+  write-profile-call-determined words = write-call-determined _ (WritesProfile (plate_of words)) (λ x y e f. write-profile-determined (plate_of words))
 
   pub write-word-call-determined : (words : List ℕ) (word : ℕ) (metric : ℤ) (additions comparisons : ℕ)
       → CallsWriteWord words word metric additions comparisons room cell r a b → CallsWriteWord words word metric additions comparisons room cell s c d
       → SameRuns r s a b c d
   write-word-call-determined words word metric additions comparisons =
-      write-call-determined _ (WritesWord (plateOf words) word metric additions comparisons) (λ x y e f. write-word-determined (plateOf words) word metric additions comparisons)
+      write-call-determined _ (WritesWord (plate_of words) word metric additions comparisons) (λ x y e f. write-word-determined (plate_of words) word metric additions comparisons)
 
   pub write-refused-call-determined : (q p f : ℕ) → CallsWriteRefused q p f room cell r a b → CallsWriteRefused q p f room cell s c d
       → SameRuns r s a b c d
@@ -178,15 +178,15 @@ pub why-not-call-determined : (words : List ℕ) (samples : List ℤ) (word : �
     → CallsWhyNot words samples word lent s b → ◌≡◌ {A = Crossing ReasonCells} (record { code = r; cells = a }) (record { code = s; cells = b })
 why-not-call-determined words samples word lent a b r s = calls-determined one
   where
-    one : (x y : Explaining) → AsksTo (plateOf words) samples word lent x → AsksTo (plateOf words) samples word lent y → x ≡ y
+    one : (x y : Explaining) → AsksTo (plate_of words) samples word lent x → AsksTo (plate_of words) samples word lent y → x ≡ y
     one x y p q =
-        let same = why-not-determined (plateOf words) samples word lent.metrics lent.decisions x.reply y.reply x.metrics y.metrics x.decisions y.decisions p q in
+        let same = why-not-determined (plate_of words) samples word lent.metrics lent.decisions x.reply y.reply x.metrics y.metrics x.decisions y.decisions p q in
         ap₂ (λ (u : Verdict) (m : List ℤ). record { reply = u; metrics = m; decisions = x.decisions }) same.0 same.1
         ∙ ap (λ (d : List ℕ). record { reply = y.reply; metrics = y.metrics; decisions = d }) same.2
 
 pub listing-call-determined : (sheet : List ℕ) (working : Rooms) (listing cell : List ℕ) (r s : ℕ) (a b : Rooms) (c d e f : List ℕ)
     → CallsListing sheet working listing cell r a c e → CallsListing sheet working listing cell s b d f
-    → ◌≡◌ {A = Crossing ListingCells} (record { code = r; cells = listingCells a c e }) (record { code = s; cells = listingCells b d f })
+    → ◌≡◌ {A = Crossing ListingCells} (record { code = r; cells = listing_cells a c e }) (record { code = s; cells = listing_cells b d f })
 listing-call-determined sheet working listing cell r s a b c d e f = calls-determined one
   where
     one : (x y : Listing) → WritesListing sheet working listing x.working x.listing x.reply → WritesListing sheet working listing y.working y.listing y.reply → x ≡ y

@@ -5,7 +5,7 @@ use mathlib.Core.Logic.{inl, inr}
 use mathlib.Core.Path.{ap, ap₂, refl, sym, ◌∙◌, ◌≡◌}
 use Prim.Native.Nat.{suc, zero, ℕ}
 use Rattle.exports.specs.Calls.{Calls, Crossing, RefusedAt, done, misshapen}
-use Rattle.exports.specs.Crossing.{LengthPut, beside, preparedAs}
+use Rattle.exports.specs.Crossing.{LengthPut, beside, prepared_as}
 use Rattle.exports.specs.Flat.{flat}
 use Rattle.exports.specs.Promises.{CallsListing, CallsWrite, HasCell, kind_of}
 use Rattle.listings.specs.declared.Written.{Written}
@@ -54,9 +54,9 @@ kind-other (suc kind) n = refl
 
 module _ (run at : List ℕ) (plate : Plate) {verdict : Verdict} where
   pub crossed-accepted : {run' : List ℕ} → verdict ≡ Accepted → run' ≡ flat plate ++ drop 132 run
-      → ◌≡◌ {A = Crossing (List ℕ × List ℕ)} (record { code = done; cells = (run', set at 0 0) }) (preparedAs run at plate verdict)
-  crossed-accepted e laid = ap (λ (l : List ℕ). record { code = done; cells = (l, set at 0 0) }) laid ∙ sym (ap (preparedAs run at plate) e)
+      → ◌≡◌ {A = Crossing (List ℕ × List ℕ)} (record { code = done; cells = (run', set at 0 0) }) (prepared_as run at plate verdict)
+  crossed-accepted e laid = ap (λ (l : List ℕ). record { code = done; cells = (l, set at 0 0) }) laid ∙ sym (ap (prepared_as run at plate) e)
 
   pub crossed-refused : {q : Refusal} {r : ℕ} {at' : List ℕ} → verdict ≡ Refused q → RefusedAt q at r at'
-      → ◌≡◌ {A = Crossing (List ℕ × List ℕ)} (record { code = r; cells = (run, at') }) (preparedAs run at plate verdict)
-  crossed-refused e f = ap₂ (λ (x : ℕ) (l : List ℕ). record { code = x; cells = (run, l) }) f.number_is f.place_is ∙ sym (ap (preparedAs run at plate) e)
+      → ◌≡◌ {A = Crossing (List ℕ × List ℕ)} (record { code = r; cells = (run, at') }) (prepared_as run at plate verdict)
+  crossed-refused e f = ap₂ (λ (x : ℕ) (l : List ℕ). record { code = x; cells = (run, l) }) f.number_is f.place_is ∙ sym (ap (prepared_as run at plate) e)

@@ -10,10 +10,10 @@ use Rattle.decoding.specs.declared.firmness.Flag.{Flag}
 use Rattle.decoding.specs.declared.firmness.Flagged.TheVariants.{Found, Refused}
 use Rattle.decoding.specs.declared.firmness.Reading.{Reading}
 use Rattle.decoding.specs.declared.firmness.Reading.TheVariants.{Fixed, Open}
-use Rattle.decoding.specs.Firmness.{TellsFirmness, Means, isFixed, value}
+use Rattle.decoding.specs.Firmness.{TellsFirmness, Means, is_fixed, value}
 use Rattle.exports.specs.Calls.{Crossing, RefusedAt, done}
-use Rattle.exports.specs.Flat.{plateOf}
-use Rattle.exports.specs.Judging.{CallsFirmness, FirmnessCells, FirmnessShape, FixedFits, Judging, JudgesTo, ReadingPut, firmnessCells, judged, judgedAs}
+use Rattle.exports.specs.Flat.{plate_of}
+use Rattle.exports.specs.Judging.{CallsFirmness, FirmnessCells, FirmnessShape, FixedFits, Judging, JudgesTo, ReadingPut, firmness_cells, judged, judged_as}
 use Rattle.plates.specs.declared.Plate.{Plate}
 use Rattle.plates.specs.declared.Refusal.{Refusal}
 use Rattle.plates.specs.Prepare.{IsWord, rows_of}
@@ -23,7 +23,7 @@ use Rattle.words.specs.Sum.{IsSum}
 use Rattle.words.specs.Word.{bit}
 
 -- a fixed bit is a digit: that of the mask, which is a word of the plate
-fixed-fits : (plate : Plate) (samples : List ℤ) (position : ℕ) (r : Reading) → Means (IsWord plate) samples position (isFixed r) (value r)
+fixed-fits : (plate : Plate) (samples : List ℤ) (position : ℕ) (r : Reading) → Means (IsWord plate) samples position (is_fixed r) (value r)
     → FixedFits r
 fixed-fits plate samples position (Fixed b) h =
     let own : IsWord plate plate.mask = subst (IsSum (rows_of plate)) (sym (xor_self plate.mask)) (in-zero (rows_of plate)) in
@@ -40,7 +40,7 @@ reading-fits plate samples position lent j p flag e =
 
 module _ (samples : List ℤ) (position : ℕ) (lent : FirmnessCells) (j : Judging) (words : List ℕ)
     (shape : FirmnessShape (length words) (length lent.fixed) (length lent.value) (length lent.at))
-    (judges : JudgesTo (plateOf words) samples position lent j) where
+    (judges : JudgesTo (plate_of words) samples position lent j) where
   -- a code and cells that the reply crosses as
   crossed : {out : Crossing FirmnessCells} → out ≡ judged lent j → CallsFirmness words samples position lent out.code out.cells
   crossed e = record { by_shape = inr (shape, record { reply = j; promised = judges; crosses = e }) }
@@ -48,16 +48,16 @@ module _ (samples : List ℤ) (position : ℕ) (lent : FirmnessCells) (j : Judgi
   -- the reading is in its cells
   pub firmness-found : {flag : Flag} {fixed' : List ℕ} {values' : List ℤ} → j.reply ≡ Found flag
       → ReadingPut flag.reading lent.fixed lent.value fixed' values'
-      → CallsFirmness words samples position lent done (firmnessCells j.metrics j.decisions fixed' values' (set lent.at 0 0))
+      → CallsFirmness words samples position lent done (firmness_cells j.metrics j.decisions fixed' values' (set lent.at 0 0))
   firmness-found e laid =
       crossed
-      (ap₂ (λ (f : List ℕ) (v : List ℤ). record { code = done; cells = firmnessCells j.metrics j.decisions f v (set lent.at 0 0) }) laid.fixed-is laid.value-is
-      ∙ sym (ap (judgedAs lent j.metrics j.decisions) e))
+      (ap₂ (λ (f : List ℕ) (v : List ℤ). record { code = done; cells = firmness_cells j.metrics j.decisions f v (set lent.at 0 0) }) laid.fixed_is laid.value_is
+      ∙ sym (ap (judged_as lent j.metrics j.decisions) e))
 
   -- the place is in its cell
   pub firmness-refused : {q : Refusal} {r : ℕ} {at' : List ℕ} → j.reply ≡ Refused q → RefusedAt q lent.at r at'
-      → CallsFirmness words samples position lent r (firmnessCells j.metrics j.decisions lent.fixed lent.value at')
+      → CallsFirmness words samples position lent r (firmness_cells j.metrics j.decisions lent.fixed lent.value at')
   firmness-refused e f =
       crossed
-      (ap₂ (λ (x : ℕ) (p : List ℕ). record { code = x; cells = firmnessCells j.metrics j.decisions lent.fixed lent.value p }) f.number_is f.place_is
-      ∙ sym (ap (judgedAs lent j.metrics j.decisions) e))
+      (ap₂ (λ (x : ℕ) (p : List ℕ). record { code = x; cells = firmness_cells j.metrics j.decisions lent.fixed lent.value p }) f.number_is f.place_is
+      ∙ sym (ap (judged_as lent j.metrics j.decisions) e))

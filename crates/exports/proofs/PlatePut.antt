@@ -5,7 +5,7 @@ use mathlib.Core.List.{◌++◌, List, [], append_assoc, ◌∷◌}
 use mathlib.Core.Path.{ap, ap₂, refl, sym, ◌∙◌, ◌≡◌}
 use native.Mathlib.Omega.{arith}
 use Prim.Native.Nat.{◌+◌, ℕ, ◌≤◌}
-use Rattle.exports.specs.Flat.{flat, plateOf}
+use Rattle.exports.specs.Flat.{flat, plate_of}
 use Rattle.plates.specs.declared.Plate.{Plate}
 
 -- what begins with a is continued by b
@@ -54,7 +54,7 @@ module _ (run : List ℕ) (plate : Plate) (rows : length plate.rows ≡ 64) (ent
       after-rows = continued masked run₂ (plate.n ∷ plate.k ∷ []) plate.rows 2 64 refl rows (e₂ ∙ ap (λ (x : List ℕ). paste x 2 plate.rows 64) e₁)
 
 -- what is put into a run is the plate that the run then holds
-pub put-then-read : (plate : Plate) (rest : List ℕ) → length plate.rows ≡ 64 → length plate.profile ≡ 65 → plateOf (flat plate ++ rest) ≡ plate
+pub put-then-read : (plate : Plate) (rest : List ℕ) → length plate.rows ≡ 64 → length plate.profile ≡ 65 → plate_of (flat plate ++ rest) ≡ plate
 put-then-read plate rest rows entries =
     ap (λ (m : ℕ). record { n = plate.n; k = plate.k; mask = m; rows = take 64 whole; profile = take 65 (drop 64 whole) }) mask-read
     ∙ ap₂ (λ (r p : List ℕ). record { n = plate.n; k = plate.k; mask = plate.mask; rows = r; profile = p })

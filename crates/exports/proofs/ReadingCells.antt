@@ -11,7 +11,7 @@ use Prim.Native.Nat.{◌<◌, suc, zero, ℕ}
 use Rattle.decoding.specs.declared.firmness.Reading.{Reading}
 use Rattle.decoding.specs.declared.firmness.Reading.TheVariants.{Fixed, Open}
 use Rattle.decoding.specs.Firmness.{value}
-use Rattle.exports.specs.Judging.{FixedFits, ReadingPut, fixedCell}
+use Rattle.exports.specs.Judging.{FixedFits, ReadingPut, fixed_cell}
 
 bit-copy : (b : ℕ) → b < 2 → to_z w32 b ≡ pos b
 bit-copy zero h = refl
@@ -24,12 +24,12 @@ module _ (r : Reading) (fixed : List ℕ) (values : List ℤ) where
 
   pub put-fixed : (b : ℕ) → r ≡ Fixed b → FixedFits r → ReadingPut r fixed values (set fixed 0 1) (set values 0 (to_z w32 b))
   put-fixed b e h = record {
-    fixed-is = ap (λ (x : Reading). set fixed 0 (fixedCell x)) (sym e);
-    value-is = ap (λ (x : ℤ). set values 0 x) (bit-copy b (subst FixedFits e h) ∙ ap value (sym e));
+    fixed_is = ap (λ (x : Reading). set fixed 0 (fixed_cell x)) (sym e);
+    value_is = ap (λ (x : ℤ). set values 0 x) (bit-copy b (subst FixedFits e h) ∙ ap value (sym e));
   }
 
   pub put-open : (m : ℤ) → r ≡ Open m → SFits w32 m → ReadingPut r fixed values (set fixed 0 0) (set values 0 (to_z w32 (of_z w32 m)))
   put-open m e h = record {
-    fixed-is = ap (λ (x : Reading). set fixed 0 (fixedCell x)) (sym e);
-    value-is = ap (λ (x : ℤ). set values 0 x) (to_z-of_z h ∙ ap value (sym e));
+    fixed_is = ap (λ (x : Reading). set fixed 0 (fixed_cell x)) (sym e);
+    value_is = ap (λ (x : ℤ). set values 0 x) (to_z-of_z h ∙ ap value (sym e));
   }

@@ -6,7 +6,7 @@ use mathlib.Core.Path.{ap, ap₂, sym, ◌∙◌, ◌≡◌}
 use Prim.Native.Nat.{ℕ}
 use Rattle.exports.specs.Calls.{Crossing, done}
 use Rattle.exports.specs.Flat.{flat}
-use Rattle.exports.specs.Sheeting.{CallsPlateOfSheet, RefusedIn, SheetCells, SheetShape, orderNumber, placePut, sheetAs, sheetCells, sheeted, verdictOf}
+use Rattle.exports.specs.Sheeting.{CallsPlateOfSheet, RefusedIn, SheetCells, SheetShape, order_number, place_put, sheet_as, sheet_cells, sheeted, verdict_of}
 use Rattle.plates.specs.declared.Refusal.{Refusal}
 use Rattle.plates.specs.declared.Verdict.TheVariants.{Accepted, Refused}
 use Rattle.reports.specs.declared.Report.{Report}
@@ -19,18 +19,18 @@ module _ (sheet : List ℕ) (lent : SheetCells) (report : Report) (shape : Sheet
   crossed e = record { by_shape = inr (shape, record { reply = report; promised = opens; crosses = e }) }
 
   -- plate and order are in their cells
-  pub sheet-accepted : {plate' : List ℕ} {order : ℕ} → verdictOf report.stage ≡ Accepted → plate' ≡ flat report.plate ++ drop 132 lent.plate
-      → order ≡ orderNumber report.order
-      → CallsPlateOfSheet sheet lent done (sheetCells plate' (set lent.order 0 order) (placePut lent.at 0 0))
+  pub sheet-accepted : {plate' : List ℕ} {order : ℕ} → verdict_of report.stage ≡ Accepted → plate' ≡ flat report.plate ++ drop 132 lent.plate
+      → order ≡ order_number report.order
+      → CallsPlateOfSheet sheet lent done (sheet_cells plate' (set lent.order 0 order) (place_put lent.at 0 0))
   sheet-accepted e laid told =
       crossed
-      (ap₂ (λ (p : List ℕ) (o : ℕ). record { code = done; cells = sheetCells p (set lent.order 0 o) (placePut lent.at 0 0) }) laid told
-      ∙ sym (ap (sheetAs lent report.plate report.order) e))
+      (ap₂ (λ (p : List ℕ) (o : ℕ). record { code = done; cells = sheet_cells p (set lent.order 0 o) (place_put lent.at 0 0) }) laid told
+      ∙ sym (ap (sheet_as lent report.plate report.order) e))
 
   -- place and field are in their cells
-  pub sheet-refused : {q : Refusal} {r : ℕ} {at' : List ℕ} → verdictOf report.stage ≡ Refused q → RefusedIn q lent.at r at'
-      → CallsPlateOfSheet sheet lent r (sheetCells lent.plate lent.order at')
+  pub sheet-refused : {q : Refusal} {r : ℕ} {at' : List ℕ} → verdict_of report.stage ≡ Refused q → RefusedIn q lent.at r at'
+      → CallsPlateOfSheet sheet lent r (sheet_cells lent.plate lent.order at')
   sheet-refused e f =
       crossed
-      (ap₂ (λ (x : ℕ) (p : List ℕ). record { code = x; cells = sheetCells lent.plate lent.order p }) f.number_is f.place_is
-      ∙ sym (ap (sheetAs lent report.plate report.order) e))
+      (ap₂ (λ (x : ℕ) (p : List ℕ). record { code = x; cells = sheet_cells lent.plate lent.order p }) f.number_is f.place_is
+      ∙ sym (ap (sheet_as lent report.plate report.order) e))

@@ -9,8 +9,8 @@ abbrev pub done : ℕ
 done = 0
 
 -- the code of the ordinary reply "no branch"
-abbrev pub noBranch : ℕ
-noBranch = 100
+abbrev pub no_branch : ℕ
+no_branch = 100
 
 -- the code where a run is shorter than its use fixes, or a kind is neither G nor H
 abbrev pub misshapen : ℕ

@@ -5,7 +5,7 @@ use Rattle.coding.specs.declared.ReadBack.{ReadBack}
 use Rattle.decoding.specs.declared.Answer.{Answer}
 use Rattle.decoding.specs.declared.Counts.{Counts}
 use Rattle.decoding.specs.declared.Decoded.{Decoded}
-use Rattle.exports.specs.Calls.{Crossing, done, noBranch}
+use Rattle.exports.specs.Calls.{Crossing, done, no_branch}
 use Rattle.exports.specs.Flat.{flat}
 use Rattle.listings.specs.declared.Written.{Written}
 use Rattle.plates.specs.declared.Plate.{Plate}
@@ -22,17 +22,17 @@ use Rattle.listings.specs.declared.Written.TheVariants as W
 use Rattle.trellises.specs.declared.Next.TheVariants as N
 
 -- prepare: the plate's words from the start of their run, and place 0; or the place of the refusal alone
-abbrev pub preparedAs : List ℕ → List ℕ → Plate → Verdict → Crossing (List ℕ × List ℕ)
-preparedAs run at plate Accepted = record { code = done; cells = (flat plate ++ drop 132 run, set at 0 0) }
-preparedAs run at plate (Refused q) = record { code = number q; cells = (run, set at 0 (place q)) }
+abbrev pub prepared_as : List ℕ → List ℕ → Plate → Verdict → Crossing (List ℕ × List ℕ)
+prepared_as run at plate Accepted = record { code = done; cells = (flat plate ++ drop 132 run, set at 0 0) }
+prepared_as run at plate (Refused q) = record { code = number q; cells = (run, set at 0 (place q)) }
 
 abbrev pub prepared : List ℕ → List ℕ → Prepared → Crossing (List ℕ × List ℕ)
-prepared run at r = preparedAs run at r.plate r.verdict
+prepared run at r = prepared_as run at r.plate r.verdict
 
 -- branch: the next state
 abbrev pub branched : List ℕ → Next → Crossing (List ℕ)
 branched cell (N.State next) = record { code = done; cells = set cell 0 next }
-branched cell N.NoBranch = record { code = noBranch; cells = cell }
+branched cell N.NoBranch = record { code = no_branch; cells = cell }
 branched cell (N.Refused q) = record { code = number q; cells = cell }
 
 -- encode: the word
@@ -41,13 +41,13 @@ encoded cell (E.Word word) = record { code = done; cells = set cell 0 word }
 encoded cell (E.Refused q) = record { code = number q; cells = cell }
 
 -- read back: the information
-abbrev pub readBack : List ℕ → ReadBack → Crossing (List ℕ)
-readBack cell (R.Information information) = record { code = done; cells = set cell 0 information }
-readBack cell (R.Refused q) = record { code = number q; cells = cell }
+abbrev pub read_back : List ℕ → ReadBack → Crossing (List ℕ)
+read_back cell (R.Information information) = record { code = done; cells = set cell 0 information }
+read_back cell (R.Refused q) = record { code = number q; cells = cell }
 
 -- the two counts stand in the first two cells
-abbrev pub countsPut : List ℕ → Counts → List ℕ
-countsPut cells k = set (set cells 0 k.additions) 1 k.comparisons
+abbrev pub counts_put : List ℕ → Counts → List ℕ
+counts_put cells k = set (set cells 0 k.additions) 1 k.comparisons
 
 -- the cells that are lent to decode
 pub record DecodeCells : Type 0 where
@@ -65,19 +65,19 @@ pub record Decoding : Type 0 where
   pub decisions : List ℕ
 
 -- decode: the word, its metric, the two counts, and place 0; or the place of the refusal alone
-abbrev pub decodedAs : DecodeCells → List ℤ → List ℕ → Decoded → Crossing DecodeCells
-decodedAs lent metrics decisions (D.Found a) = record {
+abbrev pub decoded_as : DecodeCells → List ℤ → List ℕ → Decoded → Crossing DecodeCells
+decoded_as lent metrics decisions (D.Found a) = record {
   code = done;
   cells = record {
     metrics = metrics;
     decisions = decisions;
     word = set lent.word 0 a.word;
     metric = set lent.metric 0 a.metric;
-    counts = countsPut lent.counts a.counts;
+    counts = counts_put lent.counts a.counts;
     at = set lent.at 0 0;
   };
 }
-decodedAs lent metrics decisions (D.Refused q) = record {
+decoded_as lent metrics decisions (D.Refused q) = record {
   code = number q;
   cells = record {
     metrics = metrics;
@@ -90,7 +90,7 @@ decodedAs lent metrics decisions (D.Refused q) = record {
 }
 
 abbrev pub decoded : DecodeCells → Decoding → Crossing DecodeCells
-decoded lent d = decodedAs lent d.metrics d.decisions d.reply
+decoded lent d = decoded_as lent d.metrics d.decisions d.reply
 
 -- what a call that writes a line replies, with the room as it leaves it
 pub record Writing : Type 0 where
@@ -98,23 +98,23 @@ pub record Writing : Type 0 where
   pub room : List ℕ
 
 -- a line: its length
-abbrev pub writtenAs : List ℕ → List ℕ → Written → Crossing (List ℕ × List ℕ)
-writtenAs cell room (W.Bytes size) = record { code = done; cells = (room, set cell 0 size) }
-writtenAs cell room (W.Refused q) = record { code = number q; cells = (room, cell) }
+abbrev pub written_as : List ℕ → List ℕ → Written → Crossing (List ℕ × List ℕ)
+written_as cell room (W.Bytes size) = record { code = done; cells = (room, set cell 0 size) }
+written_as cell room (W.Refused q) = record { code = number q; cells = (room, cell) }
 
 abbrev pub written : List ℕ → Writing → Crossing (List ℕ × List ℕ)
-written cell w = writtenAs cell w.room w.reply
+written cell w = written_as cell w.room w.reply
 
 -- a reply crosses so, with the length in its cell
 abbrev pub LengthPut : Written → List ℕ → ℕ → List ℕ → Type 0
 LengthPut reply cell r cell' =
-    (room : List ℕ) → ◌≡◌ {A = Crossing (List ℕ × List ℕ)} (record { code = r; cells = (room, cell') }) (writtenAs cell room reply)
+    (room : List ℕ) → ◌≡◌ {A = Crossing (List ℕ × List ℕ)} (record { code = r; cells = (room, cell') }) (written_as cell room reply)
 
 -- an answer stands in its cells
 pub record AnswerPut (a : Answer) (word : List ℕ) (metric : List ℤ) (counts : List ℕ) (word' : List ℕ) (metric' : List ℤ) (counts' : List ℕ) : Type 0 where
-  pub word-is : word' ≡ set word 0 a.word
-  pub metric-is : metric' ≡ set metric 0 a.metric
-  pub counts-are : counts' ≡ countsPut counts a.counts
+  pub word_is : word' ≡ set word 0 a.word
+  pub metric_is : metric' ≡ set metric 0 a.metric
+  pub counts_are : counts' ≡ counts_put counts a.counts
 
 -- ---- a whole listing
 
@@ -124,8 +124,8 @@ pub record ListingCells : Type 0 where
   pub listing : List ℕ
   pub cell : List ℕ
 
-abbrev pub listingCells : Rooms → List ℕ → List ℕ → ListingCells
-listingCells working listing cell = record { working = working; listing = listing; cell = cell }
+abbrev pub listing_cells : Rooms → List ℕ → List ℕ → ListingCells
+listing_cells working listing cell = record { working = working; listing = listing; cell = cell }
 
 -- what writing a listing replies, with the rooms as it leaves them
 pub record Listing : Type 0 where
@@ -135,8 +135,8 @@ pub record Listing : Type 0 where
 
 -- the working rooms beside what crosses of a line
 abbrev pub beside : Rooms → Crossing (List ℕ × List ℕ) → Crossing ListingCells
-beside working line = record { code = line.code; cells = listingCells working line.cells.0 line.cells.1 }
+beside working line = record { code = line.code; cells = listing_cells working line.cells.0 line.cells.1 }
 
 -- a listing: its length
 abbrev pub listed : List ℕ → Listing → Crossing ListingCells
-listed cell l = beside l.working (writtenAs cell l.listing l.reply)
+listed cell l = beside l.working (written_as cell l.listing l.reply)

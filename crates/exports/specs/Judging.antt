@@ -4,9 +4,9 @@ use Rattle.decoding.specs.declared.firmness.Flagged.{Flagged}
 use Rattle.decoding.specs.declared.firmness.Flagged.TheVariants.{Found, Refused}
 use Rattle.decoding.specs.declared.firmness.Reading.{Reading}
 use Rattle.decoding.specs.declared.firmness.Reading.TheVariants.{Fixed, Open}
-use Rattle.decoding.specs.Firmness.{TellsFirmness, isFixed, value}
+use Rattle.decoding.specs.Firmness.{TellsFirmness, is_fixed, value}
 use Rattle.exports.specs.Calls.{Calls, Crossing, done}
-use Rattle.exports.specs.Flat.{plateOf}
+use Rattle.exports.specs.Flat.{plate_of}
 use Rattle.plates.specs.declared.Plate.{Plate}
 use Rattle.plates.specs.Refusals.{number, place}
 
@@ -19,8 +19,8 @@ pub record FirmnessCells : Type 0 where
   pub at : List ℕ
 
 -- the same, one by one
-abbrev pub firmnessCells : List ℤ → List ℕ → List ℕ → List ℤ → List ℕ → FirmnessCells
-firmnessCells metrics decisions fixed value at = record { metrics = metrics; decisions = decisions; fixed = fixed; value = value; at = at }
+abbrev pub firmness_cells : List ℤ → List ℕ → List ℕ → List ℤ → List ℕ → FirmnessCells
+firmness_cells metrics decisions fixed value at = record { metrics = metrics; decisions = decisions; fixed = fixed; value = value; at = at }
 
 -- what firmness replies, with the two rooms as it leaves them
 pub record Judging : Type 0 where
@@ -29,8 +29,8 @@ pub record Judging : Type 0 where
   pub decisions : List ℕ
 
 -- 1 where a reading is fixed, and 0 where it is open
-abbrev pub fixedCell : Reading → ℕ
-fixedCell reading = cond (isFixed reading) 1 0
+abbrev pub fixed_cell : Reading → ℕ
+fixed_cell reading = cond (is_fixed reading) 1 0
 
 -- a bit that is fixed fits a cell of a margin
 abbrev pub FixedFits : Reading → Type 0
@@ -39,22 +39,22 @@ FixedFits (Open margin) = Unit {0}
 
 -- a reading stands in its cells
 pub record ReadingPut (reading : Reading) (fixed : List ℕ) (values : List ℤ) (fixed' : List ℕ) (values' : List ℤ) : Type 0 where
-  pub fixed-is : fixed' ≡ set fixed 0 (fixedCell reading)
-  pub value-is : values' ≡ set values 0 (value reading)
+  pub fixed_is : fixed' ≡ set fixed 0 (fixed_cell reading)
+  pub value_is : values' ≡ set values 0 (value reading)
 
 -- firmness: whether the reading is fixed, its value, and place 0; or the place of the refusal alone
-abbrev pub judgedAs : FirmnessCells → List ℤ → List ℕ → Flagged → Crossing FirmnessCells
-judgedAs lent metrics decisions (Found flag) = record {
+abbrev pub judged_as : FirmnessCells → List ℤ → List ℕ → Flagged → Crossing FirmnessCells
+judged_as lent metrics decisions (Found flag) = record {
   code = done;
   cells = record {
     metrics = metrics;
     decisions = decisions;
-    fixed = set lent.fixed 0 (fixedCell flag.reading);
+    fixed = set lent.fixed 0 (fixed_cell flag.reading);
     value = set lent.value 0 (value flag.reading);
     at = set lent.at 0 0;
   };
 }
-judgedAs lent metrics decisions (Refused q) = record {
+judged_as lent metrics decisions (Refused q) = record {
   code = number q;
   cells = record {
     metrics = metrics;
@@ -66,7 +66,7 @@ judgedAs lent metrics decisions (Refused q) = record {
 }
 
 abbrev pub judged : FirmnessCells → Judging → Crossing FirmnessCells
-judged lent j = judgedAs lent j.metrics j.decisions j.reply
+judged lent j = judged_as lent j.metrics j.decisions j.reply
 
 -- how long the plate's run, the cells for the reading and that of the place must be
 abbrev pub FirmnessShape : ℕ → ℕ → ℕ → ℕ → Type 0
@@ -74,8 +74,8 @@ FirmnessShape plate fixed value at = (132 ≤ plate) × (1 ≤ fixed) × (1 ≤ 
 
 -- what the test of these lengths replies
 pub record FirmnessTested (plate fixed value at : ℕ) (r : Bool) : Type 0 where
-  pub yes-is : r ≡ true → FirmnessShape plate fixed value at
-  pub no-is : r ≡ false → FirmnessShape plate fixed value at → ⊥
+  pub yes_is : r ≡ true → FirmnessShape plate fixed value at
+  pub no_is : r ≡ false → FirmnessShape plate fixed value at → ⊥
 
 -- what firmness promises of its reply and its rooms
 abbrev pub JudgesTo : Plate → List ℤ → ℕ → FirmnessCells → Judging → Type 0
@@ -85,4 +85,4 @@ JudgesTo plate samples position lent j = TellsFirmness plate samples position le
 abbrev pub CallsFirmness : List ℕ → List ℤ → ℕ → FirmnessCells → ℕ → FirmnessCells → Type 0
 CallsFirmness words samples position lent r lent' =
     Calls (FirmnessShape (length words) (length lent.fixed) (length lent.value) (length lent.at)) lent
-    (JudgesTo (plateOf words) samples position lent) (judged lent) (record { code = r; cells = lent' })
+    (JudgesTo (plate_of words) samples position lent) (judged lent) (record { code = r; cells = lent' })

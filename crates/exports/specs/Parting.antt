@@ -6,8 +6,8 @@ use Rattle.decoding.specs.declared.apart.Measure.{Measure}
 use Rattle.decoding.specs.declared.apart.Measured.{Measured}
 use Rattle.decoding.specs.declared.apart.Selection.{Selection}
 use Rattle.exports.specs.Calls.{Calls, Crossing, done}
-use Rattle.exports.specs.Crossing.{countsPut}
-use Rattle.exports.specs.Flat.{plateOf}
+use Rattle.exports.specs.Crossing.{counts_put}
+use Rattle.exports.specs.Flat.{plate_of}
 use Rattle.plates.specs.declared.Plate.{Plate}
 use Rattle.plates.specs.Refusals.{number, place}
 use Rattle.decoding.specs.declared.apart.Chosen.TheVariants as C
@@ -21,8 +21,8 @@ PartShape plate best counts at = (132 ≤ plate) × (1 ≤ best) × (2 ≤ count
 
 -- what the test of these lengths replies
 pub record PartTested (plate best counts at : ℕ) (r : Bool) : Type 0 where
-  pub yes-is : r ≡ true → PartShape plate best counts at
-  pub no-is : r ≡ false → PartShape plate best counts at → ⊥
+  pub yes_is : r ≡ true → PartShape plate best counts at
+  pub no_is : r ≡ false → PartShape plate best counts at → ⊥
 
 -- ---- the metric
 
@@ -34,8 +34,8 @@ pub record MetricCells : Type 0 where
   pub at : List ℕ
 
 -- the same, one by one
-abbrev pub metricCells : List ℤ → List ℤ → List ℕ → List ℕ → MetricCells
-metricCells metrics metric counts at = record { metrics = metrics; metric = metric; counts = counts; at = at }
+abbrev pub metric_cells : List ℤ → List ℤ → List ℕ → List ℕ → MetricCells
+metric_cells metrics metric counts at = record { metrics = metrics; metric = metric; counts = counts; at = at }
 
 -- what the metric call replies, with the room as it leaves it
 pub record Measuring : Type 0 where
@@ -44,17 +44,17 @@ pub record Measuring : Type 0 where
 
 -- a measure stands in its cells
 pub record MeasurePut (m : Measure) (metric : List ℤ) (counts : List ℕ) (metric' : List ℤ) (counts' : List ℕ) : Type 0 where
-  pub metric-is : metric' ≡ set metric 0 m.metric
-  pub counts-are : counts' ≡ countsPut counts m.counts
+  pub metric_is : metric' ≡ set metric 0 m.metric
+  pub counts_are : counts' ≡ counts_put counts m.counts
 
 -- the metric, the two counts, and place 0; or the place of the refusal alone
-abbrev pub measuredAs : MetricCells → List ℤ → Measured → Crossing MetricCells
-measuredAs lent metrics (M.Found m) =
-    record { code = done; cells = metricCells metrics (set lent.metric 0 m.metric) (countsPut lent.counts m.counts) (set lent.at 0 0) }
-measuredAs lent metrics (M.Refused q) = record { code = number q; cells = metricCells metrics lent.metric lent.counts (set lent.at 0 (place q)) }
+abbrev pub measured_as : MetricCells → List ℤ → Measured → Crossing MetricCells
+measured_as lent metrics (M.Found m) =
+    record { code = done; cells = metric_cells metrics (set lent.metric 0 m.metric) (counts_put lent.counts m.counts) (set lent.at 0 0) }
+measured_as lent metrics (M.Refused q) = record { code = number q; cells = metric_cells metrics lent.metric lent.counts (set lent.at 0 (place q)) }
 
 abbrev pub measured : MetricCells → Measuring → Crossing MetricCells
-measured lent m = measuredAs lent m.metrics m.reply
+measured lent m = measured_as lent m.metrics m.reply
 
 -- what the metric call promises of its reply and its room
 abbrev pub MeasuresTo : Plate → List ℤ → MetricCells → Measuring → Type 0
@@ -64,7 +64,7 @@ MeasuresTo plate samples lent m = Measures plate samples lent.metrics m.metrics 
 abbrev pub CallsMetric : List ℕ → List ℤ → MetricCells → ℕ → MetricCells → Type 0
 CallsMetric words samples lent r lent' =
     Calls (PartShape (length words) (length lent.metric) (length lent.counts) (length lent.at)) lent
-    (MeasuresTo (plateOf words) samples lent) (measured lent) (record { code = r; cells = lent' })
+    (MeasuresTo (plate_of words) samples lent) (measured lent) (record { code = r; cells = lent' })
 
 -- ---- the word
 
@@ -77,8 +77,8 @@ pub record WordCells : Type 0 where
   pub at : List ℕ
 
 -- the same, one by one
-abbrev pub wordCells : List ℤ → List ℕ → List ℕ → List ℕ → List ℕ → WordCells
-wordCells metrics decisions word counts at = record { metrics = metrics; decisions = decisions; word = word; counts = counts; at = at }
+abbrev pub word_cells : List ℤ → List ℕ → List ℕ → List ℕ → List ℕ → WordCells
+word_cells metrics decisions word counts at = record { metrics = metrics; decisions = decisions; word = word; counts = counts; at = at }
 
 -- what the word call replies, with the two rooms as it leaves them
 pub record Choosing : Type 0 where
@@ -88,18 +88,18 @@ pub record Choosing : Type 0 where
 
 -- a selection stands in its cells
 pub record SelectionPut (c : Selection) (word counts word' counts' : List ℕ) : Type 0 where
-  pub word-is : word' ≡ set word 0 c.word
-  pub counts-are : counts' ≡ countsPut counts c.counts
+  pub word_is : word' ≡ set word 0 c.word
+  pub counts_are : counts' ≡ counts_put counts c.counts
 
 -- the word, the two counts, and place 0; or the place of the refusal alone
-abbrev pub chosenAs : WordCells → List ℤ → List ℕ → Chosen → Crossing WordCells
-chosenAs lent metrics decisions (C.Found c) =
-    record { code = done; cells = wordCells metrics decisions (set lent.word 0 c.word) (countsPut lent.counts c.counts) (set lent.at 0 0) }
-chosenAs lent metrics decisions (C.Refused q) =
-    record { code = number q; cells = wordCells metrics decisions lent.word lent.counts (set lent.at 0 (place q)) }
+abbrev pub chosen_as : WordCells → List ℤ → List ℕ → Chosen → Crossing WordCells
+chosen_as lent metrics decisions (C.Found c) =
+    record { code = done; cells = word_cells metrics decisions (set lent.word 0 c.word) (counts_put lent.counts c.counts) (set lent.at 0 0) }
+chosen_as lent metrics decisions (C.Refused q) =
+    record { code = number q; cells = word_cells metrics decisions lent.word lent.counts (set lent.at 0 (place q)) }
 
 abbrev pub chosen : WordCells → Choosing → Crossing WordCells
-chosen lent c = chosenAs lent c.metrics c.decisions c.reply
+chosen lent c = chosen_as lent c.metrics c.decisions c.reply
 
 -- what the word call promises of its reply and its rooms
 abbrev pub ChoosesTo : Plate → List ℤ → WordCells → Choosing → Type 0
@@ -109,4 +109,4 @@ ChoosesTo plate samples lent c = Chooses plate samples lent.metrics lent.decisio
 abbrev pub CallsWord : List ℕ → List ℤ → WordCells → ℕ → WordCells → Type 0
 CallsWord words samples lent r lent' =
     Calls (PartShape (length words) (length lent.word) (length lent.counts) (length lent.at)) lent
-    (ChoosesTo (plateOf words) samples lent) (chosen lent) (record { code = r; cells = lent' })
+    (ChoosesTo (plate_of words) samples lent) (chosen lent) (record { code = r; cells = lent' })

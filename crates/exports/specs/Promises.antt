@@ -3,8 +3,8 @@ use Rattle.std.specs.Prelude.{ℤ, length, Bool, false, true, List, ◌≡◌, s
 use Rattle.coding.specs.Coding.{Encodes, ReadsBack}
 use Rattle.decoding.specs.Decode.{Decodes}
 use Rattle.exports.specs.Calls.{Calls}
-use Rattle.exports.specs.Crossing.{DecodeCells, Decoding, Listing, Writing, branched, decoded, encoded, listed, listingCells, prepared, readBack, written}
-use Rattle.exports.specs.Flat.{plateOf}
+use Rattle.exports.specs.Crossing.{DecodeCells, Decoding, Listing, Writing, branched, decoded, encoded, listed, listing_cells, prepared, read_back, written}
+use Rattle.exports.specs.Flat.{plate_of}
 use Rattle.listings.specs.declared.Written.{Written}
 use Rattle.listings.specs.Writing.{WritesEnd, WritesPlate, WritesProfile, WritesRefused, WritesWord}
 use Rattle.plates.specs.declared.Kind.{Kind}
@@ -36,23 +36,23 @@ CallsPrepare n kind rows mask run at r run' at' =
 -- branch, encode and read back: fixed are the plate's run and a cell for the answer
 abbrev pub CallsBranch : List ℕ → ℕ → ℕ → ℕ → List ℕ → ℕ → List ℕ → Type 0
 CallsBranch words depth state bit cell r cell' =
-    Calls (PlateLong words × HasCell cell) cell (Branches (plateOf words) depth state bit) (branched cell) (record { code = r; cells = cell' })
+    Calls (PlateLong words × HasCell cell) cell (Branches (plate_of words) depth state bit) (branched cell) (record { code = r; cells = cell' })
 
 abbrev pub CallsEncode : List ℕ → ℕ → List ℕ → ℕ → List ℕ → Type 0
 CallsEncode words information cell r cell' =
-    Calls (PlateLong words × HasCell cell) cell (Encodes (plateOf words) information) (encoded cell) (record { code = r; cells = cell' })
+    Calls (PlateLong words × HasCell cell) cell (Encodes (plate_of words) information) (encoded cell) (record { code = r; cells = cell' })
 
 abbrev pub CallsReadBack : List ℕ → ℕ → List ℕ → ℕ → List ℕ → Type 0
 CallsReadBack words word cell r cell' =
-    Calls (PlateLong words × HasCell cell) cell (ReadsBack (plateOf words) word) (readBack cell) (record { code = r; cells = cell' })
+    Calls (PlateLong words × HasCell cell) cell (ReadsBack (plate_of words) word) (read_back cell) (record { code = r; cells = cell' })
 
 -- what decode promises of its reply and its rooms
 abbrev pub DecodesTo : Plate → List ℤ → DecodeCells → Decoding → Type 0
 DecodesTo plate samples lent d = Decodes plate samples lent.metrics lent.decisions d.metrics d.decisions d.reply
 
 -- the cells that are lent to decode, one by one
-abbrev pub decodeCells : List ℤ → List ℕ → List ℕ → List ℤ → List ℕ → List ℕ → DecodeCells
-decodeCells metrics decisions word metric counts at =
+abbrev pub decode_cells : List ℤ → List ℕ → List ℕ → List ℤ → List ℕ → List ℕ → DecodeCells
+decode_cells metrics decisions word metric counts at =
     record { metrics = metrics; decisions = decisions; word = word; metric = metric; counts = counts; at = at }
 
 -- how long the plate's run, the cells for the word, the metric and the counts, and that of the place must be
@@ -61,14 +61,14 @@ DecodeShape plate word metric counts at = (132 ≤ plate) × (1 ≤ word) × (1 
 
 -- what the test of these lengths replies
 pub record ShapeTested (plate word metric counts at : ℕ) (r : Bool) : Type 0 where
-  pub yes-is : r ≡ true → DecodeShape plate word metric counts at
-  pub no-is : r ≡ false → DecodeShape plate word metric counts at → ⊥
+  pub yes_is : r ≡ true → DecodeShape plate word metric counts at
+  pub no_is : r ≡ false → DecodeShape plate word metric counts at → ⊥
 
 -- decode: fixed are the plate's run, the cells for the answer and that of the place
 abbrev pub CallsDecode : List ℕ → List ℤ → DecodeCells → ℕ → DecodeCells → Type 0
 CallsDecode words samples lent r lent' =
     Calls (DecodeShape (length words) (length lent.word) (length lent.metric) (length lent.counts) (length lent.at)) lent
-    (DecodesTo (plateOf words) samples lent) (decoded lent) (record { code = r; cells = lent' })
+    (DecodesTo (plate_of words) samples lent) (decoded lent) (record { code = r; cells = lent' })
 
 -- a call that writes a line: fixed is a cell for the length, and the plate's run where there is one
 abbrev pub CallsWrite : Type 0 → (List ℕ → Written → List ℕ → Type 0) → List ℕ → List ℕ → ℕ → List ℕ → List ℕ → Type 0
@@ -76,14 +76,14 @@ CallsWrite shape writes room cell r room' cell' =
     Calls shape (room, cell) (λ (w : Writing). writes room w.reply w.room) (written cell) (record { code = r; cells = (room', cell') })
 
 abbrev pub CallsWritePlate : List ℕ → List ℕ → List ℕ → ℕ → List ℕ → List ℕ → Type 0
-CallsWritePlate words room cell = CallsWrite (PlateLong words × HasCell cell) (WritesPlate (plateOf words)) room cell
+CallsWritePlate words room cell = CallsWrite (PlateLong words × HasCell cell) (WritesPlate (plate_of words)) room cell
 
 abbrev pub CallsWriteProfile : List ℕ → List ℕ → List ℕ → ℕ → List ℕ → List ℕ → Type 0
-CallsWriteProfile words room cell = CallsWrite (PlateLong words × HasCell cell) (WritesProfile (plateOf words)) room cell
+CallsWriteProfile words room cell = CallsWrite (PlateLong words × HasCell cell) (WritesProfile (plate_of words)) room cell
 
 abbrev pub CallsWriteWord : List ℕ → ℕ → ℤ → ℕ → ℕ → List ℕ → List ℕ → ℕ → List ℕ → List ℕ → Type 0
 CallsWriteWord words word metric additions comparisons room cell =
-    CallsWrite (PlateLong words × HasCell cell) (WritesWord (plateOf words) word metric additions comparisons) room cell
+    CallsWrite (PlateLong words × HasCell cell) (WritesWord (plate_of words) word metric additions comparisons) room cell
 
 abbrev pub CallsWriteRefused : ℕ → ℕ → ℕ → List ℕ → List ℕ → ℕ → List ℕ → List ℕ → Type 0
 CallsWriteRefused number place field room cell = CallsWrite (HasCell cell) (WritesRefused number place field) room cell
@@ -94,5 +94,5 @@ CallsWriteEnd blocks room cell = CallsWrite (HasCell cell) (WritesEnd blocks) ro
 -- the listing of a sheet: fixed is a cell for its length
 abbrev pub CallsListing : List ℕ → Rooms → List ℕ → List ℕ → ℕ → Rooms → List ℕ → List ℕ → Type 0
 CallsListing sheet working listing cell r working' listing' cell' =
-    Calls (HasCell cell) (listingCells working listing cell) (λ (l : Listing). WritesListing sheet working listing l.working l.listing l.reply) (listed cell)
-    (record { code = r; cells = listingCells working' listing' cell' })
+    Calls (HasCell cell) (listing_cells working listing cell) (λ (l : Listing). WritesListing sheet working listing l.working l.listing l.reply) (listed cell)
+    (record { code = r; cells = listing_cells working' listing' cell' })

@@ -21,43 +21,43 @@ pub record SheetCells : Type 0 where
   pub at : List ℕ
 
 -- the same, one by one
-abbrev pub sheetCells : List ℕ → List ℕ → List ℕ → SheetCells
-sheetCells plate order at = record { plate = plate; order = order; at = at }
+abbrev pub sheet_cells : List ℕ → List ℕ → List ℕ → SheetCells
+sheet_cells plate order at = record { plate = plate; order = order; at = at }
 
 -- 0 is first and 1 is last
-abbrev pub orderNumber : Order → ℕ
-orderNumber First = 0
-orderNumber Last = 1
+abbrev pub order_number : Order → ℕ
+order_number First = 0
+order_number Last = 1
 
 -- whether a report that is opened on an input refuses it
-abbrev pub verdictOf : Stage → Verdict
-verdictOf (S.Refused q) = Refused q
-verdictOf S.PlateLine = Accepted
-verdictOf S.ProfileLine = Accepted
-verdictOf S.BlockLines = Accepted
-verdictOf S.EndLine = Accepted
-verdictOf S.Done = Accepted
+abbrev pub verdict_of : Stage → Verdict
+verdict_of (S.Refused q) = Refused q
+verdict_of S.PlateLine = Accepted
+verdict_of S.ProfileLine = Accepted
+verdict_of S.BlockLines = Accepted
+verdict_of S.EndLine = Accepted
+verdict_of S.Done = Accepted
 
 -- place and field stand in the first two cells
-abbrev pub placePut : List ℕ → ℕ → ℕ → List ℕ
-placePut at line column = set (set at 0 line) 1 column
+abbrev pub place_put : List ℕ → ℕ → ℕ → List ℕ
+place_put at line column = set (set at 0 line) 1 column
 
 -- a refusal crosses by its number, with its place and its field in the first two cells
 pub record RefusedIn (refusal : Refusal) (at : List ℕ) (r : ℕ) (at' : List ℕ) : Type 0 where
   pub number_is : r ≡ number refusal
-  pub place_is : at' ≡ placePut at (place refusal) (field refusal)
+  pub place_is : at' ≡ place_put at (place refusal) (field refusal)
 
 -- the plate's words from the start of their run, the cover's order, place 0 and field 0; or place and field of the refusal alone
-abbrev pub sheetAs : SheetCells → Plate → Order → Verdict → Crossing SheetCells
-sheetAs lent plate order Accepted = record {
+abbrev pub sheet_as : SheetCells → Plate → Order → Verdict → Crossing SheetCells
+sheet_as lent plate order Accepted = record {
   code = done;
-  cells = sheetCells (flat plate ++ drop 132 lent.plate) (set lent.order 0 (orderNumber order)) (placePut lent.at 0 0);
+  cells = sheet_cells (flat plate ++ drop 132 lent.plate) (set lent.order 0 (order_number order)) (place_put lent.at 0 0);
 }
-sheetAs lent plate order (Refused q) =
-    record { code = number q; cells = sheetCells lent.plate lent.order (placePut lent.at (place q) (field q)) }
+sheet_as lent plate order (Refused q) =
+    record { code = number q; cells = sheet_cells lent.plate lent.order (place_put lent.at (place q) (field q)) }
 
 abbrev pub sheeted : SheetCells → Report → Crossing SheetCells
-sheeted lent report = sheetAs lent report.plate report.order (verdictOf report.stage)
+sheeted lent report = sheet_as lent report.plate report.order (verdict_of report.stage)
 
 -- how long the plate's run, the cell of the order and those of the place must be
 abbrev pub SheetShape : ℕ → ℕ → ℕ → Type 0

@@ -2,7 +2,7 @@
 ghost use Rattle.std.specs.Prelude.{◌≡◌, ◌≤◌, length};
 ghost use Rattle.exports.specs.Batches.{BatchTested};
 ghost use Rattle.exports.specs.Calls.{RefusedAt};
-ghost use Rattle.exports.specs.Crossing.{AnswerPut, LengthPut, countsPut};
+ghost use Rattle.exports.specs.Crossing.{AnswerPut, LengthPut, counts_put};
 ghost use Rattle.exports.specs.Judging.{FirmnessTested, FixedFits, ReadingPut};
 ghost use Rattle.exports.specs.Parting.{MeasurePut, PartTested, SelectionPut};
 ghost use Rattle.exports.specs.Promises.{ShapeTested, kind_of};
@@ -99,7 +99,7 @@ pub fn firmness_shaped(plate: usize, fixed: usize, value: usize, at: usize) -> b
 // The two counts into the first two cells.
 pub fn put_counts(counted: Counts, counts: &mut [u64])
     requires { 2 ≤ length counts.old }
-    ensures { counts.new ≡ countsPut counts.old counted }
+    ensures { counts.new ≡ counts_put counts.old counted }
 {
     counts[0] = counted.additions;
     counts[1] = counted.comparisons;

@@ -1,7 +1,7 @@
 // A plate put into its run of 132 words: n, k, 64 rows, 65 profile entries and the mask.
 ghost use Rattle.std.specs.Prelude.{◌≡◌, ◌++◌, ◌∷◌, ◌≤◌, drop, length, set};
 ghost use Rattle.std.proofs.Math.Seq.{paste};
-ghost use Rattle.plates.specs.Prepare.{ofParts};
+ghost use Rattle.plates.specs.Prepare.{of_parts};
 ghost use Rattle.exports.specs.Flat.{flat};
 
 // The rows into the run.
@@ -55,7 +55,7 @@ pub fn put_plate<'a>(
     profile: &'a [u8; 65],
 )
     requires { (length rows.now ≡ 64) × (length profile.now ≡ 65) × (132 ≤ length words.old) }
-    ensures { words.new ≡ flat (ofParts n k mask rows.now profile.now) ++ drop 132 words.old }
+    ensures { words.new ≡ flat (of_parts n k mask rows.now profile.now) ++ drop 132 words.old }
 {
     put_numbers(words, n, k, mask);
     put_rows(words, rows);

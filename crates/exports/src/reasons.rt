@@ -1,12 +1,12 @@
 // How a reason crosses the interface: which it is, its position, its difference.
 ghost use Rattle.std.specs.Prelude.{◌≡◌, ◌≤◌, length};
-ghost use Rattle.exports.specs.Explaining.{ReasonPut, reasonDifference, reasonNumber, reasonPosition};
+ghost use Rattle.exports.specs.Explaining.{ReasonPut, reason_difference, reason_number, reason_position};
 
 use asking::Reason;
 
 // Which reason: 0 for the word chosen, 1 for no codeword, 2 for one that scores less, 3 for one that ties and loses.
 fn number_of(reason: Reason) -> u64
-    ensures { result ≡ reasonNumber reason }
+    ensures { result ≡ reason_number reason }
 {
     match reason {
         Reason::Chosen => 0,
@@ -18,7 +18,7 @@ fn number_of(reason: Reason) -> u64
 
 // The position of a reason that has one; 0 for the others.
 fn position_of(reason: Reason) -> u64
-    ensures { result ≡ reasonPosition reason }
+    ensures { result ≡ reason_position reason }
 {
     match reason {
         Reason::Chosen => 0,
@@ -30,7 +30,7 @@ fn position_of(reason: Reason) -> u64
 
 // The difference of a reason that has one; 0 for the others.
 fn difference_of(reason: Reason) -> i32
-    ensures { result ≡ reasonDifference reason }
+    ensures { result ≡ reason_difference reason }
 {
     match reason {
         Reason::Chosen => 0,

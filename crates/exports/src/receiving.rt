@@ -1,10 +1,10 @@
 // The calls of a receiver over the C interface: a block decoded whole, its best metric or its best word alone, many blocks
 // in one call, how firm one position is, and why a word was not chosen.
-ghost use Rattle.exports.specs.Batches.{CallsDecodeBlocks, batchCells};
-ghost use Rattle.exports.specs.Explaining.{CallsWhyNot, reasonCells};
-ghost use Rattle.exports.specs.Judging.{CallsFirmness, firmnessCells};
-ghost use Rattle.exports.specs.Parting.{CallsMetric, CallsWord, metricCells, wordCells};
-ghost use Rattle.exports.specs.Promises.{CallsDecode, decodeCells};
+ghost use Rattle.exports.specs.Batches.{CallsDecodeBlocks, batch_cells};
+ghost use Rattle.exports.specs.Explaining.{CallsWhyNot, reason_cells};
+ghost use Rattle.exports.specs.Judging.{CallsFirmness, firmness_cells};
+ghost use Rattle.exports.specs.Parting.{CallsMetric, CallsWord, metric_cells, word_cells};
+ghost use Rattle.exports.specs.Promises.{CallsDecode, decode_cells};
 
 use crate::{MASK, MISSHAPEN, cells, reasons};
 use asking::Verdict;
@@ -25,7 +25,7 @@ pub extern "C" fn yendrufal_decode(
     counts: &mut [u64],
     at: &mut [u64],
 ) -> u64
-    ensures { CallsDecode plate.now samples.now (decodeCells metrics.old decisions.old word.old metric.old counts.old at.old) result (decodeCells metrics.new decisions.new word.new metric.new counts.new at.new) }
+    ensures { CallsDecode plate.now samples.now (decode_cells metrics.old decisions.old word.old metric.old counts.old at.old) result (decode_cells metrics.new decisions.new word.new metric.new counts.new at.new) }
 {
     if !cells::decode_shaped(
         plate.len(),
@@ -65,7 +65,7 @@ pub extern "C" fn yendrufal_metric(
     counts: &mut [u64],
     at: &mut [u64],
 ) -> u64
-    ensures { CallsMetric plate.now samples.now (metricCells metrics.old metric.old counts.old at.old) result (metricCells metrics.new metric.new counts.new at.new) }
+    ensures { CallsMetric plate.now samples.now (metric_cells metrics.old metric.old counts.old at.old) result (metric_cells metrics.new metric.new counts.new at.new) }
 {
     if !cells::part_shaped(plate.len(), metric.len(), counts.len(), at.len()) {
         return MISSHAPEN;
@@ -99,7 +99,7 @@ pub extern "C" fn yendrufal_word(
     counts: &mut [u64],
     at: &mut [u64],
 ) -> u64
-    ensures { CallsWord plate.now samples.now (wordCells metrics.old decisions.old word.old counts.old at.old) result (wordCells metrics.new decisions.new word.new counts.new at.new) }
+    ensures { CallsWord plate.now samples.now (word_cells metrics.old decisions.old word.old counts.old at.old) result (word_cells metrics.new decisions.new word.new counts.new at.new) }
 {
     if !cells::part_shaped(plate.len(), word.len(), counts.len(), at.len()) {
         return MISSHAPEN;
@@ -135,7 +135,7 @@ pub extern "C" fn yendrufal_decode_blocks(
     counts: &mut [u64],
     at: &mut [u64],
 ) -> u64
-    ensures { CallsDecodeBlocks plate.now samples.now (batchCells metrics.old decisions.old words.old scores.old counts.old at.old) result (batchCells metrics.new decisions.new words.new scores.new counts.new at.new) }
+    ensures { CallsDecodeBlocks plate.now samples.now (batch_cells metrics.old decisions.old words.old scores.old counts.old at.old) result (batch_cells metrics.new decisions.new words.new scores.new counts.new at.new) }
 {
     if !cells::batch_shaped(plate.len(), counts.len(), at.len()) {
         return MISSHAPEN;
@@ -173,7 +173,7 @@ pub extern "C" fn yendrufal_firmness(
     value: &mut [i32],
     at: &mut [u64],
 ) -> u64
-    ensures { CallsFirmness plate.now samples.now position (firmnessCells metrics.old decisions.old fixed.old value.old at.old) result (firmnessCells metrics.new decisions.new fixed.new value.new at.new) }
+    ensures { CallsFirmness plate.now samples.now position (firmness_cells metrics.old decisions.old fixed.old value.old at.old) result (firmness_cells metrics.new decisions.new fixed.new value.new at.new) }
 {
     if !cells::firmness_shaped(plate.len(), fixed.len(), value.len(), at.len()) {
         return MISSHAPEN;
@@ -210,7 +210,7 @@ pub extern "C" fn yendrufal_why_not(
     difference: &mut [i32],
     at: &mut [u64],
 ) -> u64
-    ensures { CallsWhyNot plate.now samples.now word (reasonCells metrics.old decisions.old reason.old difference.old at.old) result (reasonCells metrics.new decisions.new reason.new difference.new at.new) }
+    ensures { CallsWhyNot plate.now samples.now word (reason_cells metrics.old decisions.old reason.old difference.old at.old) result (reason_cells metrics.new decisions.new reason.new difference.new at.new) }
 {
     if !cells::part_shaped(plate.len(), difference.len(), reason.len(), at.len()) {
         return MISSHAPEN;

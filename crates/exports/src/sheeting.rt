@@ -1,6 +1,6 @@
 // The plate of a sheet over the C interface.
 ghost use Rattle.std.specs.Prelude.{◌≡◌, ◌≤◌, length};
-ghost use Rattle.exports.specs.Sheeting.{CallsPlateOfSheet, RefusedIn, orderNumber, sheetCells, verdictOf};
+ghost use Rattle.exports.specs.Sheeting.{CallsPlateOfSheet, RefusedIn, order_number, sheet_cells, verdict_of};
 
 use crate::{MISSHAPEN, flat};
 use plates::{Refusal, Verdict};
@@ -9,7 +9,7 @@ use sheets::Order;
 
 // Whether a report that is opened on an input refuses it.
 fn verdict_of(stage: Stage) -> Verdict
-    ensures { result ≡ verdictOf stage }
+    ensures { result ≡ verdict_of stage }
 {
     match stage {
         Stage::Refused(refusal) => Verdict::Refused(refusal),
@@ -23,7 +23,7 @@ fn verdict_of(stage: Stage) -> Verdict
 
 // The order of a cover: 0 is first and 1 is last.
 fn order_number(order: Order) -> u64
-    ensures { result ≡ orderNumber order }
+    ensures { result ≡ order_number order }
 {
     match order {
         Order::First => 0,
@@ -50,7 +50,7 @@ pub extern "C" fn yendrufal_plate_of_sheet(
     order: &mut [u64],
     at: &mut [u64],
 ) -> u64
-    ensures { CallsPlateOfSheet sheet.now (sheetCells plate.old order.old at.old) result (sheetCells plate.new order.new at.new) }
+    ensures { CallsPlateOfSheet sheet.now (sheet_cells plate.old order.old at.old) result (sheet_cells plate.new order.new at.new) }
 {
     if plate.len() < 132 {
         return MISSHAPEN;

@@ -8,13 +8,13 @@ use native.Mathlib.Omega.{arith}
 use Prim.Native.Nat.{◌+◌, ◌<◌, ◌^◌, suc, zero, ℕ, ◌≤◌}
 use Rattle.plates.specs.declared.Plate.{Plate}
 use Rattle.plates.specs.Prepare.{rows_of}
-use Rattle.plates.specs.Profile.{liveAt}
+use Rattle.plates.specs.Profile.{live_at}
 use Rattle.plates.specs.Sound.{Sound}
 use Rattle.trellises.proofs.SectionAgrees.{live-count}
 use Rattle.trellises.specs.declared.Section.{Section}
 use Rattle.trellises.specs.Graph.{Graph}
 use Rattle.trellises.specs.Numbers.{bit_of}
-use Rattle.trellises.specs.SectionOf.{sectionOf}
+use Rattle.trellises.specs.SectionOf.{section_of}
 use Rattle.words.proofs.Word.{bit-lt}
 use Rattle.words.specs.Word.{bit}
 use Rattle.judging.proofs.OurStates.{code-leads, our-apart, our-branch, our-leads, our-small, our-way}
@@ -48,42 +48,42 @@ module _ {plate : Plate} (s : Sound plate) (A : Graph) where
     from = λ y l h. go y l h;
   }
     where
-      go : (y : ℕ) → y ≤ 2 ^ liveAt (rows_of plate) t → Same A (ours (rows_of plate) plate.mask) d t 0 y → 0 ≡ y
+      go : (y : ℕ) → y ≤ 2 ^ live_at (rows_of plate) t → Same A (ours (rows_of plate) plate.mask) d t 0 y → 0 ≡ y
       go zero l h = refl
       go (suc a) l h = let x = our-way s d t a e (omega arith) in absurd ((h x.0).1 x.1)
 
-  module _ (t : ℕ) (h : t < plate.n) (x0 x1 x : ℕ) (k : Classed (sectionOf (rows_of plate) t) x0 x1 x) where
+  module _ (t : ℕ) (h : t < plate.n) (x0 x1 x : ℕ) (k : Classed (section_of (rows_of plate) t) x0 x1 x) where
     abbrev c : Section
-    c = sectionOf (rows_of plate) t
+    c = section_of (rows_of plate) t
 
-    size : 2 ^ c.live ≡ 2 ^ liveAt (rows_of plate) t
+    size : 2 ^ c.live ≡ 2 ^ live_at (rows_of plate) t
     size = ap (λ (m : ℕ). 2 ^ m) (live-count t (rows_of plate))
 
     -- the mask's bit
     abbrev flip : ℕ
     flip = bit plate.mask t
 
-    leads : (y b : ℕ) → y ≤ 2 ^ liveAt (rows_of plate) t → b < 2 → Leads (ours (rows_of plate) plate.mask) t y (bit_xor b flip) (follows c y b)
+    leads : (y b : ℕ) → y ≤ 2 ^ live_at (rows_of plate) t → b < 2 → Leads (ours (rows_of plate) plate.mask) t y (bit_xor b flip) (follows c y b)
     leads = code-leads s t h
 
     abbrev Hit : ℕ → Type 0
-    Hit y = Leads (ours (rows_of plate) plate.mask) t y (bit_xor 0 flip) x0 × Leads (ours (rows_of plate) plate.mask) t y (bit_xor 1 flip) x1 × (x0 ≤ 2 ^ liveAt (rows_of plate) (suc t)) × (x1 ≤ 2 ^ liveAt (rows_of plate) (suc t))
+    Hit y = Leads (ours (rows_of plate) plate.mask) t y (bit_xor 0 flip) x0 × Leads (ours (rows_of plate) plate.mask) t y (bit_xor 1 flip) x1 × (x0 ≤ 2 ^ live_at (rows_of plate) (suc t)) × (x1 ≤ 2 ^ live_at (rows_of plate) (suc t))
 
     -- a number whose branches lead there
-    hit-by : (y : ℕ) → y ≤ 2 ^ liveAt (rows_of plate) t → follows c y 0 ≡ x0 → follows c y 1 ≡ x1 → Hit y
+    hit-by : (y : ℕ) → y ≤ 2 ^ live_at (rows_of plate) t → follows c y 0 ≡ x0 → follows c y 1 ≡ x1 → Hit y
     hit-by y l p q = (
       subst (Leads (ours (rows_of plate) plate.mask) t y (bit_xor 0 flip)) p (leads y 0 l (omega arith)),
       subst (Leads (ours (rows_of plate) plate.mask) t y (bit_xor 1 flip)) q (leads y 1 l (omega arith)),
-      subst (λ (z : ℕ). z ≤ 2 ^ liveAt (rows_of plate) (suc t)) p (our-small s t h y 0 l (omega arith)),
-      subst (λ (z : ℕ). z ≤ 2 ^ liveAt (rows_of plate) (suc t)) q (our-small s t h y 1 l (omega arith)),
+      subst (λ (z : ℕ). z ≤ 2 ^ live_at (rows_of plate) (suc t)) p (our-small s t h y 0 l (omega arith)),
+      subst (λ (z : ℕ). z ≤ 2 ^ live_at (rows_of plate) (suc t)) q (our-small s t h y 1 l (omega arith)),
     )
 
-    hits : (y : ℕ) → y ≤ 2 ^ liveAt (rows_of plate) t → x ≡ y → Hit y
+    hits : (y : ℕ) → y ≤ 2 ^ live_at (rows_of plate) t → x ≡ y → Hit y
     hits zero l e = let n = k.none e in hit-by 0 l (sym n.0) (sym n.1)
     hits (suc a) l e = let n = suits-true c (suc a) x0 x1 (k.found a (omega (arith, size)) e) in hit-by (suc a) l n.0 n.1
 
     -- where its branches lead decides the number
-    is_zero : (z : ℕ) → x ≡ z → x0 ≡ 0 → x1 ≡ 0 → z ≤ 2 ^ liveAt (rows_of plate) t → z ≡ 0
+    is_zero : (z : ℕ) → x ≡ z → x0 ≡ 0 → x1 ≡ 0 → z ≤ 2 ^ live_at (rows_of plate) t → z ≡ 0
     is_zero zero e p q l = refl
     is_zero (suc z) e p q l =
         let n = suits-true c (suc z) x0 x1 (k.found z (omega (arith, size)) e) in
@@ -94,7 +94,7 @@ module _ {plate : Plate} (s : Sound plate) (A : Graph) where
         both (suc zero) l u v = v
         both (suc (suc b)) l u v = absurd (omega arith)
 
-    finds : (y : ℕ) → y ≤ 2 ^ liveAt (rows_of plate) t → Leads (ours (rows_of plate) plate.mask) t y (bit_xor 0 flip) x0 → Leads (ours (rows_of plate) plate.mask) t y (bit_xor 1 flip) x1 → x ≡ y
+    finds : (y : ℕ) → y ≤ 2 ^ live_at (rows_of plate) t → Leads (ours (rows_of plate) plate.mask) t y (bit_xor 0 flip) x0 → Leads (ours (rows_of plate) plate.mask) t y (bit_xor 1 flip) x1 → x ≡ y
     finds zero l p q = is_zero x refl (p.none refl) (q.none refl) (omega (arith, size, k.dead (p.none refl) (q.none refl)))
     finds (suc a) l p q =
         let e0 : follows c (suc a) 0 ≡ x0 = leads-once (ours (rows_of plate) plate.mask) t (suc a) (bit_xor 0 flip) _ _ (leads (suc a) 0 l (omega arith)) p in

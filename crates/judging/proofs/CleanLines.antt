@@ -13,11 +13,11 @@ use Rattle.sheets.specs.declared.listed.BranchLine.{BranchLine}
 use Rattle.sheets.specs.declared.listed.BranchLine.TheVariants.{Bad, Is}
 use Rattle.sheets.specs.declared.number.Number.{Number}
 use Rattle.sheets.specs.declared.number.Number.TheVariants as N
-use Rattle.sheets.specs.Listed.{branch, branchFields, branchIn, branchIs, branchOf, branchRest, entriesOf, unended}
+use Rattle.sheets.specs.Listed.{branch, branch_fields, branch_in, branch_is, branch_of, branch_rest, entries_of, unended}
 use Rattle.sheets.specs.Numbers.{number_of}
 use Rattle.sheets.specs.Text.{fields}
 use Rattle.sheets.specs.Words.{same}
-use Rattle.judging.specs.Listing.{branchAt, branchesOf, clash, clashes, depthBefore, faulty, listedGraph}
+use Rattle.judging.specs.Listing.{branch_at, branches_of, clash, clashes, depth_before, faulty, listed_graph}
 use Rattle.judging.specs.Listing as L
 use Rattle.judging.specs.Clean.{Clean, Ranged, RangedLine}
 use Rattle.judging.specs.Room.{AllInRange, Holds, Stored, decoded, key_of, listed, start_at, theirs}
@@ -25,29 +25,29 @@ use Rattle.judging.specs.Room.{AllInRange, Holds, Stored, decoded, key_of, liste
 -- ---- what a line says is in range
 
 module _ (n : ℕ) where
-  in-ranged : (b : Branch) → RangedLine n (branchIn n b)
+  in-ranged : (b : Branch) → RangedLine n (branch_in n b)
   in-ranged b = go (ltb b.depth n) (ltb b.from 1024) (ltb b.bit 2) (ltb b.to 1024) refl refl refl refl
     where
       go : (p q r s : Bool) → ltb b.depth n ≡ p → ltb b.from 1024 ≡ q → ltb b.bit 2 ≡ r → ltb b.to 1024 ≡ s
           → RangedLine n (cond p (cond q (cond r (cond s (Is b) Bad) Bad) Bad) Bad)
-      go true true true true e f g h = record { depth_small = ltb-true _ _ e; from-small = ltb-true _ _ f; bit-small = ltb-true _ _ g; to-small = ltb-true _ _ h }
+      go true true true true e f g h = record { depth_small = ltb-true _ _ e; from_small = ltb-true _ _ f; bit_small = ltb-true _ _ g; to_small = ltb-true _ _ h }
       go true true true false e f g h = tt
       go true true false s e f g h = tt
       go true false r s e f g h = tt
       go false q r s e f g h = tt
 
-  is-ranged : (d f b t : Number) → RangedLine n (branchIs n d f b t)
+  is-ranged : (d f b t : Number) → RangedLine n (branch_is n d f b t)
   is-ranged N.Bad f b t = tt
   is-ranged (N.Is d) N.Bad b t = tt
   is-ranged (N.Is d) (N.Is f) N.Bad t = tt
   is-ranged (N.Is d) (N.Is f) (N.Is b) N.Bad = tt
   is-ranged (N.Is d) (N.Is f) (N.Is b) (N.Is t) = in-ranged (record { depth = d; from = f; bit = b; to = t })
 
-  fields-ranged : (f g h k : List ℕ) → RangedLine n (branchFields n f g h k)
-  unfolding branchFields
+  fields-ranged : (f g h k : List ℕ) → RangedLine n (branch_fields n f g h k)
+  unfolding branch_fields
   fields-ranged f g h k = is-ranged (number_of 4 f) (number_of 4 g) (number_of 4 h) (number_of 4 k)
 
-  rest-ranged : (fs : List (List ℕ)) → RangedLine n (branchRest n fs)
+  rest-ranged : (fs : List (List ℕ)) → RangedLine n (branch_rest n fs)
   rest-ranged [] = tt
   rest-ranged (f ∷ []) = tt
   rest-ranged (f ∷ g ∷ []) = tt
@@ -55,11 +55,11 @@ module _ (n : ℕ) where
   rest-ranged (f ∷ g ∷ h ∷ k ∷ []) = fields-ranged f g h k
   rest-ranged (f ∷ g ∷ h ∷ k ∷ i ∷ fs) = tt
 
-  line-ranged : (fs : List (List ℕ)) → RangedLine n (branchOf n fs)
+  line-ranged : (fs : List (List ℕ)) → RangedLine n (branch_of n fs)
   line-ranged [] = tt
   line-ranged (w ∷ fs) = go (same w branch)
     where
-      go : (b : Bool) → RangedLine n (cond b (branchRest n fs) Bad)
+      go : (b : Bool) → RangedLine n (cond b (branch_rest n fs) Bad)
       go true = rest-ranged fs
       go false = tt
 
@@ -68,7 +68,7 @@ module _ (n : ℕ) where
   last-ranged (x ∷ xs) zero = tt
   last-ranged (x ∷ xs) (suc i) = tt
 
-  pub entry-ranged : (ls : List (List ℕ)) (i : ℕ) → RangedLine n (get_or (entriesOf n ls) i Bad)
+  pub entry-ranged : (ls : List (List ℕ)) (i : ℕ) → RangedLine n (get_or (entries_of n ls) i Bad)
   entry-ranged [] i = tt
   entry-ranged (l ∷ []) i = last-ranged l i
   entry-ranged (l ∷ m ∷ ls) zero = line-ranged (fields l)
@@ -77,43 +77,43 @@ module _ (n : ℕ) where
 -- ---- clean lines
 
 module _ {n : ℕ} {es : List BranchLine} (c : Clean n es) where
-  pub branch-ranged : (i : ℕ) → i < length es → Ranged n (branchAt es i)
+  pub branch-ranged : (i : ℕ) → i < length es → Ranged n (branch_at es i)
   branch-ranged i l = go (get_or es i Bad) (c.ranged i) (c.faultless i l)
     where
-      go : (e : BranchLine) → RangedLine n e → faulty e (depthBefore es i) ≡ false → Ranged n (L.branchIn e)
+      go : (e : BranchLine) → RangedLine n e → faulty e (depth_before es i) ≡ false → Ranged n (L.branch_in e)
       go (Is b) r f = r
       go Bad r f = absurd (false≢true (sym f))
 
   pub all-in-range : AllInRange es
   all-in-range i l =
       let r = branch-ranged i l in
-      record { start = record { depth_small = omega (arith, r.depth_small, c.short); state-small = r.from-small; bit-small = r.bit-small }; to-small = r.to-small }
+      record { start = record { depth_small = omega (arith, r.depth_small, c.short); state_small = r.from_small; bit_small = r.bit_small }; to_small = r.to_small }
 
-  next-depth : (i : ℕ) → suc i < length es → (branchAt es i).depth ≤ (branchAt es (suc i)).depth
+  next-depth : (i : ℕ) → suc i < length es → (branch_at es i).depth ≤ (branch_at es (suc i)).depth
   next-depth i l = go (get_or es (suc i) Bad) (c.faultless (suc i) l)
     where
-      go : (e : BranchLine) → faulty e (branchAt es i).depth ≡ false → (branchAt es i).depth ≤ (L.branchIn e).depth
+      go : (e : BranchLine) → faulty e (branch_at es i).depth ≡ false → (branch_at es i).depth ≤ (L.branch_in e).depth
       go (Is b) f = ltb-false _ _ f
       go Bad f = absurd (false≢true (sym f))
 
-  pub depths-rise : (i j : ℕ) → i < j → j < length es → (branchAt es i).depth ≤ (branchAt es j).depth
+  pub depths-rise : (i j : ℕ) → i < j → j < length es → (branch_at es i).depth ≤ (branch_at es j).depth
   depths-rise i zero l m = absurd (omega arith)
   depths-rise i (suc j) l m = go (dec_lt i j) (λ d. depths-rise i j d (omega arith))
     where
-      go : Dec (i < j) → (i < j → (branchAt es i).depth ≤ (branchAt es j).depth) → (branchAt es i).depth ≤ (branchAt es (suc j)).depth
+      go : Dec (i < j) → (i < j → (branch_at es i).depth ≤ (branch_at es j).depth) → (branch_at es i).depth ≤ (branch_at es (suc j)).depth
       go (yes d) h = omega (arith, h d, next-depth j m)
-      go (no d) h = let e : j ≡ i = omega (arith, d, l) in subst (λ (k : ℕ). (branchAt es k).depth ≤ (branchAt es (suc j)).depth) e (next-depth j m)
+      go (no d) h = let e : j ≡ i = omega (arith, d, l) in subst (λ (k : ℕ). (branch_at es k).depth ≤ (branch_at es (suc j)).depth) e (next-depth j m)
 
 -- none of the first lines clashes
-none-clashes : (es : List BranchLine) (j : ℕ) (b : Branch) → clashes es j b ≡ false → (i : ℕ) → i < j → i < length es → clash (branchAt es i) b ≡ false
+none-clashes : (es : List BranchLine) (j : ℕ) (b : Branch) → clashes es j b ≡ false → (i : ℕ) → i < j → i < length es → clash (branch_at es i) b ≡ false
 none-clashes [] j b e i l m = absurd (omega arith)
 none-clashes (x ∷ es) zero b e i l m = absurd (omega arith)
-none-clashes (x ∷ es) (suc j) b e zero l m = go (clash (L.branchIn x) b) refl e
+none-clashes (x ∷ es) (suc j) b e zero l m = go (clash (L.branch_in x) b) refl e
   where
-    go : (t : Bool) → clash (L.branchIn x) b ≡ t → cond t true (clashes es j b) ≡ false → clash (L.branchIn x) b ≡ false
+    go : (t : Bool) → clash (L.branch_in x) b ≡ t → cond t true (clashes es j b) ≡ false → clash (L.branch_in x) b ≡ false
     go true q f = absurd (false≢true (sym f))
     go false q f = q
-none-clashes (x ∷ es) (suc j) b e (suc i) l m = none-clashes es j b (go (clash (L.branchIn x) b) e) i (omega arith) (omega arith)
+none-clashes (x ∷ es) (suc j) b e (suc i) l m = none-clashes es j b (go (clash (L.branch_in x) b) e) i (omega arith) (omega arith)
   where
     go : (t : Bool) → cond t true (clashes es j b) ≡ false → clashes es j b ≡ false
     go true f = absurd (false≢true (sym f))
@@ -122,7 +122,7 @@ none-clashes (x ∷ es) (suc j) b e (suc i) l m = none-clashes es j b (go (clash
 -- ---- in the room
 
 -- the branches of the lines in turn
-pub listed-is : (xs : List BranchLine) (F : ℕ → Branch) → ((i : ℕ) → i < length xs → F i ≡ branchAt xs i) → listed (length xs) F ≡ branchesOf xs
+pub listed-is : (xs : List BranchLine) (F : ℕ → Branch) → ((i : ℕ) → i < length xs → F i ≡ branch_at xs i) → listed (length xs) F ≡ branches_of xs
 listed-is [] F h = refl
 listed-is (x ∷ xs) F h = ap₂ ◌∷◌ (h 0 (omega arith)) (listed-is xs (λ i. F (suc i)) (λ i l. h (suc i) (omega arith)))
 
@@ -132,13 +132,13 @@ module _ {n : ℕ} {es : List BranchLine} (c : Clean n es) (room : List ℕ) (si
     size = size;
     few = c.few;
     short = c.short;
-    starts = λ i l. let r = branch-ranged c i l in omega (arith, s.start i l, r.depth_small, r.from-small, r.bit-small);
-    leads = λ i l. subst (λ (k : ℕ). k < 1024) (sym (s.lead i l)) (branch-ranged c i l).to-small;
+    starts = λ i l. let r = branch-ranged c i l in omega (arith, s.start i l, r.depth_small, r.from_small, r.bit_small);
+    leads = λ i l. subst (λ (k : ℕ). k < 1024) (sym (s.lead i l)) (branch-ranged c i l).to_small;
     order = λ i j l m.
         let k : i < length es = omega (arith, l, m) in
         let p = branch-ranged c i k in
         let q = branch-ranged c j m in
-        omega (arith, s.start i k, s.start j m, p.from-small, p.bit-small, q.from-small, q.bit-small, depths-rise c i j l m);
+        omega (arith, s.start i k, s.start j m, p.from_small, p.bit_small, q.from_small, q.bit_small, depths-rise c i j l m);
     apart = λ i j l m e. clash-free i j l m e;
   }
     where
@@ -147,22 +147,22 @@ module _ {n : ℕ} {es : List BranchLine} (c : Clean n es) (room : List ℕ) (si
           let k : i < length es = omega (arith, l, m) in
           let p = branch-ranged c i k in
           let q = branch-ranged c j m in
-          let z : key_of (branchAt es i).depth (branchAt es i).from (branchAt es i).bit ≡ key_of (branchAt es j).depth (branchAt es j).from (branchAt es j).bit = sym (s.start i k) ∙ e ∙ s.start j m in
-          let d : (branchAt es i).depth ≡ (branchAt es j).depth = omega (arith, z, p.from-small, p.bit-small, q.from-small, q.bit-small) in
-          let f : (branchAt es i).from ≡ (branchAt es j).from = omega (arith, z, p.from-small, p.bit-small, q.from-small, q.bit-small) in
-          let b : (branchAt es i).bit ≡ (branchAt es j).bit = omega (arith, z, p.from-small, p.bit-small, q.from-small, q.bit-small) in
-          false≢true (sym (none-clashes es j (branchAt es j) (c.single j m) i l k)
-          ∙ rw (eq-eqb (branchAt es i).depth (branchAt es j).depth d, eq-eqb (branchAt es i).from (branchAt es j).from f, eq-eqb (branchAt es i).bit (branchAt es j).bit b))
+          let z : key_of (branch_at es i).depth (branch_at es i).from (branch_at es i).bit ≡ key_of (branch_at es j).depth (branch_at es j).from (branch_at es j).bit = sym (s.start i k) ∙ e ∙ s.start j m in
+          let d : (branch_at es i).depth ≡ (branch_at es j).depth = omega (arith, z, p.from_small, p.bit_small, q.from_small, q.bit_small) in
+          let f : (branch_at es i).from ≡ (branch_at es j).from = omega (arith, z, p.from_small, p.bit_small, q.from_small, q.bit_small) in
+          let b : (branch_at es i).bit ≡ (branch_at es j).bit = omega (arith, z, p.from_small, p.bit_small, q.from_small, q.bit_small) in
+          false≢true (sym (none-clashes es j (branch_at es j) (c.single j m) i l k)
+          ∙ rw (eq-eqb (branch_at es i).depth (branch_at es j).depth d, eq-eqb (branch_at es i).from (branch_at es j).from f, eq-eqb (branch_at es i).bit (branch_at es j).bit b))
 
-  decoded-is : (i : ℕ) → i < length es → decoded room i ≡ branchAt es i
+  decoded-is : (i : ℕ) → i < length es → decoded room i ≡ branch_at es i
   decoded-is i l =
       let r = branch-ranged c i l in
-      let b : Branch = branchAt es i in
-      let k : start_at room i ≡ key_of (branchAt es i).depth (branchAt es i).from (branchAt es i).bit = s.start i l in
-      let d : start_at room i / 2048 ≡ (branchAt es i).depth = omega (arith, k, r.from-small, r.bit-small) in
-      let f : start_at room i / 2 % 1024 ≡ (branchAt es i).from = omega (arith, k, r.from-small, r.bit-small) in
-      let o : start_at room i % 2 ≡ (branchAt es i).bit = omega (arith, k, r.from-small, r.bit-small) in
-      parts (decoded room i) (branchAt es i) d f o (s.lead i l)
+      let b : Branch = branch_at es i in
+      let k : start_at room i ≡ key_of (branch_at es i).depth (branch_at es i).from (branch_at es i).bit = s.start i l in
+      let d : start_at room i / 2048 ≡ (branch_at es i).depth = omega (arith, k, r.from_small, r.bit_small) in
+      let f : start_at room i / 2 % 1024 ≡ (branch_at es i).from = omega (arith, k, r.from_small, r.bit_small) in
+      let o : start_at room i % 2 ≡ (branch_at es i).bit = omega (arith, k, r.from_small, r.bit_small) in
+      parts (decoded room i) (branch_at es i) d f o (s.lead i l)
     where
       parts : (x y : Branch) → x.depth ≡ y.depth → x.from ≡ y.from → x.bit ≡ y.bit → x.to ≡ y.to → x ≡ y
       parts x y d f o t =
@@ -172,5 +172,5 @@ module _ {n : ℕ} {es : List BranchLine} (c : Clean n es) (room : List ℕ) (si
           ∙ ap (λ (z : ℕ). record { depth = y.depth; from = y.from; bit = y.bit; to = z }) t
 
   -- the room holds the listing's graph
-  pub clean-graph : theirs n (length es) room ≡ listedGraph n (branchesOf es)
-  clean-graph = ap (listedGraph n) (listed-is es (decoded room) decoded-is)
+  pub clean-graph : theirs n (length es) room ≡ listed_graph n (branches_of es)
+  clean-graph = ap (listed_graph n) (listed-is es (decoded room) decoded-is)

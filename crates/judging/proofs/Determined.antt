@@ -24,13 +24,13 @@ use Rattle.judging.proofs.NoFewer.{fits}
 use Rattle.judging.specs.declared.Judged.{Judged}
 use Rattle.judging.specs.declared.Judged.TheVariants.{NotSpelled, Refused, Right, SpelledWrongly}
 use Rattle.judging.specs.declared.Judgement.{Judgement}
-use Rattle.judging.specs.Judging.{FirstLine, Judges, JudgesBy, Missing, Wrongly, graphAgainst, judgingConditions}
-use Rattle.judging.specs.Listing.{faultyAt, repeatsAt}
+use Rattle.judging.specs.Judging.{FirstLine, Judges, JudgesBy, Missing, Wrongly, graph_against, judging_conditions}
+use Rattle.judging.specs.Listing.{faulty_at, repeats_at}
 use Rattle.judging.specs.Surplus.{Number, SurplusIn, SurplusOver}
 
 -- of two words of one length, one is the earlier, or they are the same
 behind : (a b : ℕ) → a % 2 ≡ b % 2 → Earlier (a / 2) (b / 2) → Earlier a b
-behind a b q e = record { place = suc e.place; same = same; zero-here = e.zero-here; one-there = e.one-there }
+behind a b q e = record { place = suc e.place; same = same; zero_here = e.zero_here; one_there = e.one_there }
   where
     same : (i : ℕ) → i < suc e.place → bit a i ≡ bit b i
     same zero m = q
@@ -41,7 +41,7 @@ one_earlier zero a b l m = inl (omega arith)
 one_earlier (suc n) a b l m = go (bit-cases a 0) (bit-cases b 0) (one_earlier n (a / 2) (b / 2) (omega (arith, pow-suc 2 n)) (omega (arith, pow-suc 2 n)))
   where
     here : (a b : ℕ) → bit a 0 ≡ 0 → bit b 0 ≡ 1 → Earlier a b
-    here a b p q = record { place = 0; same = λ i h. absurd (omega arith); zero-here = p; one-there = q }
+    here a b p q = record { place = 0; same = λ i h. absurd (omega arith); zero_here = p; one_there = q }
 
     later : a % 2 ≡ b % 2 → (a / 2 ≡ b / 2) ⊎ (Earlier (a / 2) (b / 2) ⊎ Earlier (b / 2) (a / 2)) → (a ≡ b) ⊎ (Earlier a b ⊎ Earlier b a)
     later q (inl e) = inl (omega (arith, q, e))
@@ -75,12 +75,12 @@ module _ (g : Graph) (n : ℕ) (rows : List ℕ) {s s' b b' : List ℕ} where
   )
     where
       state : (i : ℕ) → Dec (n < i) → get_or s i 0 ≡ get_or s' i 0
-      state i (yes h) = x.no-depth i h ∙ sym (y.no-depth i h)
+      state i (yes h) = x.no_depth i h ∙ sym (y.no_depth i h)
       state i (no h) = omega (arith, number-once (x.state i (omega (arith, h))) (y.state i (omega (arith, h))))
 
       branch : (i : ℕ) → Dec (i < n) → get_or b i 0 ≡ get_or b' i 0
       branch i (yes h) = omega (arith, number-once (x.branch i h) (y.branch i h))
-      branch i (no h) = x.no-section i (omega (arith, h)) ∙ sym (y.no-section i (omega (arith, h)))
+      branch i (no h) = x.no_section i (omega (arith, h)) ∙ sym (y.no_section i (omega (arith, h)))
 
 -- ---- verdicts
 
@@ -106,34 +106,34 @@ module _ (g : Graph) (n : ℕ) (C : ℕ → Type 0) where
     where
       go : (v ≡ w) ⊎ (Earlier v w ⊎ Earlier w v) → v ≡ w
       go (inl e) = e
-      go (inr (inl e)) = absurd (x.not-spelled ((y.before.earlier v x.before.below e).0 x.word))
-      go (inr (inr e)) = absurd (y.not-spelled ((x.before.earlier w y.before.below e).0 y.word))
+      go (inr (inl e)) = absurd (x.not_spelled ((y.before.earlier v x.before.below e).0 x.word))
+      go (inr (inr e)) = absurd (y.not_spelled ((x.before.earlier w y.before.below e).0 y.word))
 
   not-both : (v w : ℕ) → Wrongly g n C v → Missing g n C w → ⊥
   not-both v w x y = go (one_earlier n v w x.before.below y.before.below)
     where
       go : (v ≡ w) ⊎ (Earlier v w ⊎ Earlier w v) → ⊥
-      go (inl e) = y.not-spelled (subst (Path g n) e x.spelled)
+      go (inl e) = y.not_spelled (subst (Path g n) e x.spelled)
       go (inr (inl e)) = x.no_word ((y.before.earlier v x.before.below e).1 x.spelled)
-      go (inr (inr e)) = y.not-spelled ((x.before.earlier w y.before.below e).0 y.word)
+      go (inr (inr e)) = y.not_spelled ((x.before.earlier w y.before.below e).0 y.word)
 
   -- a right listing has no such word, and one with such a word is not right
   pub right-not-wrongly : (w : ℕ) → Spells g n C → Wrongly g n C w → ⊥
   right-not-wrongly w s x = x.no_word ((s.exact w).1 (x.before.below, x.spelled))
 
   pub right-not-missing : (w : ℕ) → Spells g n C → Missing g n C w → ⊥
-  right-not-missing w s x = x.not-spelled ((s.exact w).0 x.word).1
+  right-not-missing w s x = x.not_spelled ((s.exact w).0 x.word).1
 
 module _ (plate : Plate) (es : List BranchLine) (room : List ℕ) where
-  single : Single (judgingConditions plate es room)
+  single : Single (judging_conditions plate es room)
   single = (
     (λ p q x y. x.1 ∙ sym y.1),
     (
       (λ p q x y. x.1 ∙ sym y.1),
       (
-        (λ p q x y. x.is ∙ ap (λ (i : ℕ). BranchFault (suc i)) (first-once es (faultyAt es) x.line y.line x.at y.at) ∙ sym y.is),
+        (λ p q x y. x.is ∙ ap (λ (i : ℕ). BranchFault (suc i)) (first-once es (faulty_at es) x.line y.line x.at y.at) ∙ sym y.is),
         (
-          (λ p q x y. x.is ∙ ap (λ (i : ℕ). BranchTwice (suc i)) (first-once es (repeatsAt es) x.line y.line x.at y.at) ∙ sym y.is),
+          (λ p q x y. x.is ∙ ap (λ (i : ℕ). BranchTwice (suc i)) (first-once es (repeats_at es) x.line y.line x.at y.at) ∙ sym y.is),
           ((λ p q x y. x.1 ∙ sym y.1), tt),
         ),
       ),
@@ -141,10 +141,10 @@ module _ (plate : Plate) (es : List BranchLine) (room : List ℕ) where
   )
 
   abbrev conditions : List (Refusal → Type 0)
-  conditions = judgingConditions plate es room
+  conditions = judging_conditions plate es room
 
   abbrev g : Graph
-  g = graphAgainst plate es
+  g = graph_against plate es
 
   abbrev C : ℕ → Type 0
   C = IsWord plate
@@ -178,7 +178,7 @@ pub judge-determined : (plate : Plate) (text room room' room'' : List ℕ) (r s 
 judge-determined plate text room room' room'' r s x y =
     let v = verdict-once plate (entries plate.n text) room r.verdict s.verdict x.reply y.reply in
     let z = surplus-same plate (entries plate.n text) room s.verdict
-    (subst (λ (w : Judged). SurplusIn (graphAgainst plate (entries plate.n text)) plate.n (rows_of plate) w r.states r.branches) v.0 x.surplus) y.surplus in (
+    (subst (λ (w : Judged). SurplusIn (graph_against plate (entries plate.n text)) plate.n (rows_of plate) w r.states r.branches) v.0 x.surplus) y.surplus in (
       ap (λ (w : Judged). record { verdict = w; states = r.states; branches = r.branches }) v.0
           ∙ ap (λ (l : List ℕ). record { verdict = s.verdict; states = l; branches = r.branches }) z.0
           ∙ ap (λ (l : List ℕ). record { verdict = s.verdict; states = s.states; branches = l }) z.1,
@@ -202,14 +202,14 @@ not_right : (v : Judged) → NotRight v → v ≡ Right → ⊥
 not_right v n e = subst NotRight e n
 
 pub right-exactly : (plate : Plate) (text room room' : List ℕ) (r : Judgement) → Judges plate text room room' r → ((q : Refusal) → r.verdict ≡ Refused q → ⊥)
-    → (r.verdict ≡ Right) ↔ Spells (graphAgainst plate (entries plate.n text)) plate.n (IsWord plate)
+    → (r.verdict ≡ Right) ↔ Spells (graph_against plate (entries plate.n text)) plate.n (IsWord plate)
 right-exactly plate text room room' r x d = go r.verdict x.reply d
   where
     go : (v : Judged) → JudgesBy plate (entries plate.n text) room room' v → ((q : Refusal) → v ≡ Refused q → ⊥)
-        → (v ≡ Right) ↔ Spells (graphAgainst plate (entries plate.n text)) plate.n (IsWord plate)
+        → (v ≡ Right) ↔ Spells (graph_against plate (entries plate.n text)) plate.n (IsWord plate)
     go Right y d = ((λ e. y.1), λ s. refl)
     go (SpelledWrongly w) y d =
-        ((λ e. absurd (not_right (SpelledWrongly w) tt e)), λ s. absurd (right-not-wrongly (graphAgainst plate (entries plate.n text)) plate.n (IsWord plate) w s y.1))
+        ((λ e. absurd (not_right (SpelledWrongly w) tt e)), λ s. absurd (right-not-wrongly (graph_against plate (entries plate.n text)) plate.n (IsWord plate) w s y.1))
     go (NotSpelled w) y d =
-        ((λ e. absurd (not_right (NotSpelled w) tt e)), λ s. absurd (right-not-missing (graphAgainst plate (entries plate.n text)) plate.n (IsWord plate) w s y.1))
+        ((λ e. absurd (not_right (NotSpelled w) tt e)), λ s. absurd (right-not-missing (graph_against plate (entries plate.n text)) plate.n (IsWord plate) w s y.1))
     go (Refused q) y d = absurd (d q refl)

@@ -14,7 +14,7 @@ use Rattle.judging.specs.Ways.{Differs, From, Leads, Same, Side}
 
 -- a word earlier than one that begins with a bit begins with the same bit and goes on earlier, or has 0 where that has 1
 earlier-front : (w r b : ℕ) → b < 2 → Earlier w (r * 2 + b) → ((w % 2 ≡ b) × Earlier (w / 2) r) ⊎ ((w % 2 ≡ 0) × (b ≡ 1))
-earlier-front w r b l e = go e.place e.same e.zero-here e.one-there
+earlier-front w r b l e = go e.place e.same e.zero_here e.one_there
   where
     rest : (r * 2 + b) / 2 ≡ r
     rest = omega arith
@@ -31,8 +31,8 @@ earlier-front w r b l e = go e.place e.same e.zero-here e.one-there
           record {
             place = p;
             same = λ i m. s (suc i) (omega arith) ∙ ap (λ (x : ℕ). bit x i) rest;
-            zero-here = z;
-            one-there = ap (λ (x : ℕ). bit x p) (sym rest) ∙ o;
+            zero_here = z;
+            one_there = ap (λ (x : ℕ). bit x p) (sym rest) ∙ o;
           },
         )
 
@@ -72,7 +72,7 @@ module _ (A B : Graph) where
   }
     where
       none : (w : ℕ) → Earlier w 0 → ⊥
-      none w x = omega (arith, bit-zero x.place, x.one-there)
+      none w x = omega (arith, bit-zero x.place, x.one_there)
 
   pub differs-ours : (n u : ℕ) → (u ≡ 1 → ⊥) → Differs A B 0 n u 1 0 false
   differs-ours n u d = record {
@@ -82,7 +82,7 @@ module _ (A B : Graph) where
   }
     where
       none : (w : ℕ) → Earlier w 0 → ⊥
-      none w x = omega (arith, bit-zero x.place, x.one-there)
+      none w x = omega (arith, bit-zero x.place, x.one_there)
 
       not : (u : ℕ) → (u ≡ 1 → ⊥) → From A 0 n u 0 → ⊥
       not zero d z = z

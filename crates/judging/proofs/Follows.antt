@@ -7,14 +7,14 @@ use native.Mathlib.Numerals.{add-one}
 use native.Mathlib.Omega.{arith}
 use Prim.Native.Nat.{◌+◌, ◌-◌, ◌<◌, ◌^◌, suc, zero, ℕ, ◌≤◌}
 use Rattle.trellises.proofs.Digits.{without-at-most}
-use Rattle.trellises.specs.Numbers.{bit_of, leadsTo, without}
+use Rattle.trellises.specs.Numbers.{bit_of, leads_to, without}
 use Rattle.trellises.specs.declared.Section.{Section}
 use Rattle.judging.specs.Ours.{Classed, Small, follows, suits}
 use Rattle.judging.specs.Working.{FirstFound}
 
 module _ (c : Section) where
   -- a branch leads to no greater number than its own
-  pub leads-at-most : (x : ℕ) → leadsTo c x ≤ x
+  pub leads-at-most : (x : ℕ) → leads_to c x ≤ x
   leads-at-most x = go c.ends
     where
       go : (e : Bool) → cond e (without c.ending x) x ≤ x
@@ -24,19 +24,19 @@ module _ (c : Section) where
   pub follows-none : (y b : ℕ) → y ≡ 0 → 0 ≡ follows c y b
   follows-none y b e = rw e
 
-  pub follows-own : (y b r : ℕ) → (y ≡ 0 → ⊥) → bit_of c (y - 1) ≡ b → r ≡ leadsTo c (y - 1) → r + 1 ≡ follows c y b
+  pub follows-own : (y b r : ℕ) → (y ≡ 0 → ⊥) → bit_of c (y - 1) ≡ b → r ≡ leads_to c (y - 1) → r + 1 ≡ follows c y b
   follows-own zero b r d e q = absurd (d refl)
   follows-own (suc a) b r d e q =
       let z : suc a - 1 ≡ a = omega arith in
       let e' : bit_of c a ≡ b = ap (bit_of c) (sym z) ∙ e in
-      let q' : r ≡ leadsTo c a = q ∙ ap (leadsTo c) z in
+      let q' : r ≡ leads_to c a = q ∙ ap (leads_to c) z in
       rw (eq-eqb (bit_of c a) b e') (add-one r ∙ ap suc q')
 
-  pub follows-other : (y b r w : ℕ) → (y ≡ 0 → ⊥) → (bit_of c (y - 1) ≡ b → ⊥) → c.begins ≡ true → w ≡ 2 ^ c.live → r ≡ leadsTo c (y - 1 + w) → r + 1 ≡ follows c y b
+  pub follows-other : (y b r w : ℕ) → (y ≡ 0 → ⊥) → (bit_of c (y - 1) ≡ b → ⊥) → c.begins ≡ true → w ≡ 2 ^ c.live → r ≡ leads_to c (y - 1 + w) → r + 1 ≡ follows c y b
   follows-other zero b r w d e f h q = absurd (d refl)
   follows-other (suc a) b r w d e f h q =
       let z : suc a - 1 ≡ a = omega arith in
-      let q' : r ≡ leadsTo c (a + 2 ^ c.live) = q ∙ ap (λ (x : ℕ). leadsTo c (x + w)) z ∙ ap (λ (x : ℕ). leadsTo c (a + x)) h in
+      let q' : r ≡ leads_to c (a + 2 ^ c.live) = q ∙ ap (λ (x : ℕ). leads_to c (x + w)) z ∙ ap (λ (x : ℕ). leads_to c (a + x)) h in
       rw (ne_eqb (bit_of c a) b (λ x. e (ap (bit_of c) z ∙ x)), f) (add-one r ∙ ap suc q')
 
   pub follows-stop : (y b : ℕ) → (y ≡ 0 → ⊥) → (bit_of c (y - 1) ≡ b → ⊥) → c.begins ≡ false → 0 ≡ follows c y b

@@ -23,18 +23,18 @@ use Rattle.judging.proofs.Ways.{Ended, path-way, way-below, way-path}
 use Rattle.judging.specs.Judging.{AgreesBefore, Missing, Wrongly}
 use Rattle.judging.specs.Ours.{ours}
 use Rattle.judging.specs.Clean.{Clean}
-use Rattle.judging.specs.Listing.{branchAt, branchesOf, listedGraph}
+use Rattle.judging.specs.Listing.{branch_at, branches_of, listed_graph}
 use Rattle.judging.specs.Ways.{Differs, Same, Way}
 
 -- the graph of clean lines has one state at each end
-pub listed-ends : {n : ℕ} {es : List BranchLine} → Clean n es → 1 ≤ n → Ended (listedGraph n (branchesOf es)) n
-listed-ends {n} {es} k p = subst (λ (bs : List Branch). Ended (listedGraph n bs) n) (listed-is es (branchAt es) (λ i l. refl)) (record {
+pub listed-ends : {n : ℕ} {es : List BranchLine} → Clean n es → 1 ≤ n → Ended (listed_graph n (branches_of es)) n
+listed-ends {n} {es} k p = subst (λ (bs : List Branch). Ended (listed_graph n bs) n) (listed-is es (branch_at es) (λ i l. refl)) (record {
   start = refl;
   end = rw (ne_eqb n 0 (λ e. omega (arith, e, p)), eq-eqb n n refl);
   inside = λ t a b c l x.
-      let r = section-listed (length es) (branchAt es) t x.place x.there in
-      let q : (branchAt es r.0).to ≡ c = ap (λ (y : Graphs.Branch). y.to) (sym r.3) ∙ x.leads in
-      rw (ne_eqb (suc t) 0 (λ e. omega (arith, e)), ne_eqb (suc t) n (λ e. omega (arith, e, l))) (subst (λ (z : ℕ). z < 1024) q (branch-ranged k r.0 r.1).to-small);
+      let r = section-listed (length es) (branch_at es) t x.place x.there in
+      let q : (branch_at es r.0).to ≡ c = ap (λ (y : Graphs.Branch). y.to) (sym r.3) ∙ x.leads in
+      rw (ne_eqb (suc t) 0 (λ e. omega (arith, e)), ne_eqb (suc t) n (λ e. omega (arith, e, l))) (subst (λ (z : ℕ). z < 1024) q (branch-ranged k r.0 r.1).to_small);
 })
 
 module _ {plate : Plate} (s : Sound plate) where
@@ -80,5 +80,5 @@ module _ {plate : Plate} (s : Sound plate) where
     found-missing w d = record {
       before = agrees w false d;
       word = (word-way w).1 d.side.0;
-      not-spelled = λ p. d.side.1 (path-way g plate.n e w d.below p);
+      not_spelled = λ p. d.side.1 (path-way g plate.n e w d.below p);
     }

@@ -12,8 +12,8 @@ use Rattle.judging.proofs.StatesTold.{start-states}
 use Rattle.judging.specs.declared.Judged.{Judged}
 use Rattle.judging.specs.declared.Judged.TheVariants as J
 use Rattle.judging.specs.declared.Judgement.{Judgement}
-use Rattle.judging.specs.Listing.{branchesOf, listedGraph}
-use Rattle.judging.specs.Marks.{AllMarked, MarkRight, Marked, markAt}
+use Rattle.judging.specs.Listing.{branches_of, listed_graph}
+use Rattle.judging.specs.Marks.{AllMarked, MarkRight, Marked, mark_at}
 use Rattle.judging.specs.Ours.{ours}
 use Rattle.judging.specs.Room.{AllTold, Holds, SameLines, Stored, ToldAt, theirs}
 use Rattle.judging.specs.Steps.{Asking, Found, JudgedAsks, JudgedTo, Ready, SurplusFor, VerdictAsks}
@@ -44,7 +44,7 @@ module _ {rows : List ℕ} {mask n : ℕ} {text : List ℕ} {lines : ℕ} {room 
   holds1 : Holds n lines room1
   holds1 = subst (λ (k : ℕ). Holds n k room1) (sym p.count) (clean-holds p.clean room1 (e ∙ p.size) s)
 
-  graph1 : theirs n lines room1 ≡ listedGraph n (branchesOf (entries n text))
+  graph1 : theirs n lines room1 ≡ listed_graph n (branches_of (entries n text))
   graph1 = ap (λ (k : ℕ). theirs n k room1) p.count ∙ clean-graph p.clean room1 (e ∙ p.size) s
 
   pub filled-ready : Ready rows mask n room1 lines
@@ -57,7 +57,7 @@ module _ {rows : List ℕ} {mask n : ℕ} {text : List ℕ} {lines : ℕ} {room 
       told = λ j l m. subst (λ (g : Graph). ToldAt g rows mask n room2 j) (sym (theirs-same a.same n)) (a.told j l m);
     }
 
-    found_of : (r : Judged) → Found (theirs n lines room2) (ours rows mask) n r → Found (listedGraph n (branchesOf (entries n text))) (ours rows mask) n r
+    found_of : (r : Judged) → Found (theirs n lines room2) (ours rows mask) n r → Found (listed_graph n (branches_of (entries n text))) (ours rows mask) n r
     found_of r f = subst (λ (g : Graph). Found g (ours rows mask) n r) (theirs-same a.same n ∙ graph1) f
 
     module _ (room3 : List ℕ) (m : AllMarked lines room2 room3 lines) (v : Judged) (f : Found (theirs n lines room2) (ours rows mask) n v) where
@@ -77,10 +77,10 @@ module _ {rows : List ℕ} {mask n : ℕ} {text : List ℕ} {lines : ℕ} {room 
             (told_moved (theirs n lines room2) rows mask n room2 room3 j (sym (marked.same.start j k)) (sym (marked.same.lead j k)) (sym (marked.same.told j k)) (told-asks.told j l k));
       }
 
-      mark-right : (j : ℕ) → j < lines → MarkRight (theirs n lines room3) room3 (markAt room3 j) j
-      mark-right j l = subst (λ (g : Graph). MarkRight g room3 (markAt room3 j) j) (sym graph3) (record {
-        yes-is = λ h. subst (λ (s : ℕ). Chain (theirs n lines room2) (s / 2048) (s / 2 % 1024)) (sym (marked.same.start j l)) ((marked.marks j l).yes-is h);
-        no-is = λ c. (marked.marks j l).no-is (subst (λ (s : ℕ). Chain (theirs n lines room2) (s / 2048) (s / 2 % 1024)) (marked.same.start j l) c);
+      mark-right : (j : ℕ) → j < lines → MarkRight (theirs n lines room3) room3 (mark_at room3 j) j
+      mark-right j l = subst (λ (g : Graph). MarkRight g room3 (mark_at room3 j) j) (sym graph3) (record {
+        yes_is = λ h. subst (λ (s : ℕ). Chain (theirs n lines room2) (s / 2048) (s / 2 % 1024)) (sym (marked.same.start j l)) ((marked.marks j l).yes_is h);
+        no_is = λ c. (marked.marks j l).no_is (subst (λ (s : ℕ). Chain (theirs n lines room2) (s / 2048) (s / 2 % 1024)) (marked.same.start j l) c);
       })
 
       -- where the verdict is right, the surplus can be taken
@@ -98,11 +98,11 @@ module _ {rows : List ℕ} {mask n : ℕ} {text : List ℕ} {lines : ℕ} {room 
       pub surplus-for : SurplusFor v rows n room3 lines
       surplus-for = asks-for v f
 
-      pub judged-to : (r : Judgement) → (r.verdict ≡ v) × SurplusIn (theirs n lines room3) n rows v r.states r.branches → JudgedTo (listedGraph n (branchesOf (entries n text))) rows mask n r
+      pub judged-to : (r : Judgement) → (r.verdict ≡ v) × SurplusIn (theirs n lines room3) n rows v r.states r.branches → JudgedTo (listed_graph n (branches_of (entries n text))) rows mask n r
       judged-to r e = record {
-        found = subst (Found (listedGraph n (branchesOf (entries n text))) (ours rows mask) n) (sym e.0) (found_of v f);
+        found = subst (Found (listed_graph n (branches_of (entries n text))) (ours rows mask) n) (sym e.0) (found_of v f);
         surplus =
-            subst (λ (v : Judged). SurplusIn (listedGraph n (branchesOf (entries n text))) n rows v r.states r.branches) (sym e.0)
+            subst (λ (v : Judged). SurplusIn (listed_graph n (branches_of (entries n text))) n rows v r.states r.branches) (sym e.0)
             (subst (λ (g : Graph). SurplusIn g n rows v r.states r.branches) (graph3 ∙ theirs-same a.same n ∙ graph1) e.1);
       }
 

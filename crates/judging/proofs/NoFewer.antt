@@ -6,7 +6,7 @@ use mathlib.Core.Path.{ap, refl, subst, sym, ◌∙◌, ◌≡◌}
 use native.Mathlib.Decide.{dec_lt}
 use native.Mathlib.Omega.{arith}
 use Prim.Native.Nat.{◌*◌, ◌+◌, ◌<◌, ◌^◌, suc, suc-le-suc, ℕ, ◌≤◌}
-use Rattle.plates.proofs.Live.{live-is}
+use Rattle.plates.proofs.Live.{live_is}
 use Rattle.plates.specs.Code.{Masked}
 use Rattle.plates.specs.Profile.{live}
 use Rattle.trellises.proofs.Active.{active-is}
@@ -83,7 +83,7 @@ module _ (g : Graph) (n : ℕ) (rows : List ℕ) (mask : ℕ) (f l : ℕ → ℕ
       fits (StateOn g n t) c (2 ^ count (length rows) (live f l t)) k (λ v. (word (spread (length rows) (live f l t) v)).1.state t)
       (λ v m. record { word = word_of (spread (length rows) (live f l t) v); path = (word (spread (length rows) (live f l t) v)).1; here = refl })
       (λ v w d e q. spread-injective (length rows) (live f l t) v w d e
-      (λ j m a. meet t t (spread (length rows) (live f l t) v) (spread (length rows) (live f l t) w) h q (λ i p o. absurd (omega arith)) j m (live-is f l t j a).0 (live-is f l t j a).1))
+      (λ j m a. meet t t (spread (length rows) (live f l t) v) (spread (length rows) (live f l t) w) h q (λ i p o. absurd (omega arith)) j m (live_is f l t j a).0 (live_is f l t j a).1))
 
   -- and no fewer branches than 2 ^ (number of rows active in section t)
   pub no-fewer-branches : (t c : ℕ) → t < n → Number (BranchOn g n t) c → 2 ^ count (length rows) (active f l t) ≤ c

@@ -15,35 +15,35 @@ use Rattle.words.specs.Word.{bit}
 use Rattle.judging.proofs.Counting.{Value, count-some, number-count, number_same, some-count}
 use Rattle.judging.proofs.Used.{LineUsed, of-used, one_line, path-line, used-of}
 use Rattle.judging.proofs.Ways.{Ended}
-use Rattle.judging.specs.Marks.{MarkRight, firstTest, markAt, sameTest, usedTest}
+use Rattle.judging.specs.Marks.{MarkRight, first_test, mark_at, same_test, used_test}
 use Rattle.judging.specs.Ours.{OfPlate, ours}
-use Rattle.judging.specs.Room.{Holds, ToldFrom, key_of, start_at, theirs, toldAt}
+use Rattle.judging.specs.Room.{Holds, ToldFrom, key_of, start_at, theirs, told_at}
 use Rattle.judging.specs.Surplus.{BranchOn, Number, StateOn}
 use Rattle.judging.specs.Ways.{Same}
 
 module _ (rows : List ℕ) (mask n : ℕ) (room : List ℕ) (lines : ℕ) (o : OfPlate rows mask n) (holds : Holds n lines room)
     (told : ToldFrom (theirs n lines room) rows mask n lines room 0) (right : Same (theirs n lines room) (ours rows mask) n 0 1 1)
-    (ends : Ended (theirs n lines room) n) (marks : (j : ℕ) → j < lines → MarkRight (theirs n lines room) room (markAt room j) j) where
+    (ends : Ended (theirs n lines room) n) (marks : (j : ℕ) → j < lines → MarkRight (theirs n lines room) room (mark_at room j) j) where
   -- ---- a line is counted exactly if it is on a full path
 
-  used-true : (t i : ℕ) → i < lines → usedTest room t i ≡ true → (start_at room i / 2048 ≡ t) × LineUsed rows mask n room lines o holds told right i
-  used-true t i l e = go (eqb (start_at room i / 2048) t) refl (eqb (markAt room i) 1) refl e
+  used-true : (t i : ℕ) → i < lines → used_test room t i ≡ true → (start_at room i / 2048 ≡ t) × LineUsed rows mask n room lines o holds told right i
+  used-true t i l e = go (eqb (start_at room i / 2048) t) refl (eqb (mark_at room i) 1) refl e
     where
-      go : (a : Bool) → eqb (start_at room i / 2048) t ≡ a → (b : Bool) → eqb (markAt room i) 1 ≡ b → cond a (cond b (ltb 0 (toldAt room i)) false) false ≡ true
+      go : (a : Bool) → eqb (start_at room i / 2048) t ≡ a → (b : Bool) → eqb (mark_at room i) 1 ≡ b → cond a (cond b (ltb 0 (told_at room i)) false) false ≡ true
           → (start_at room i / 2048 ≡ t) × LineUsed rows mask n room lines o holds told right i
       go true p true q r =
-          (eqb-true _ _ p, used-of rows mask n room lines o holds told right ends i l ((marks i l).yes-is (eqb-true _ _ q)) (λ z. omega (arith, z, ltb-true 0 (toldAt room i) r)))
+          (eqb-true _ _ p, used-of rows mask n room lines o holds told right ends i l ((marks i l).yes_is (eqb-true _ _ q)) (λ z. omega (arith, z, ltb-true 0 (told_at room i) r)))
       go true p false q r = absurd (false≢true r)
       go false p b q r = absurd (false≢true r)
 
-  true-used : (t i : ℕ) → i < lines → start_at room i / 2048 ≡ t → LineUsed rows mask n room lines o holds told right i → usedTest room t i ≡ true
+  true-used : (t i : ℕ) → i < lines → start_at room i / 2048 ≡ t → LineUsed rows mask n room lines o holds told right i → used_test room t i ≡ true
   true-used t i l e u =
       let x = of-used rows mask n room lines o holds told right ends i l u in
-      rw (eq-eqb (start_at room i / 2048) t e, eq-eqb (markAt room i) 1 ((marks i l).no-is x.0), lt-ltb 0 (toldAt room i) (omega (arith, x.1)))
+      rw (eq-eqb (start_at room i / 2048) t e, eq-eqb (mark_at room i) 1 ((marks i l).no_is x.0), lt-ltb 0 (told_at room i) (omega (arith, x.1)))
 
   -- the line that a full path takes in a section
   taken-line : (t w : ℕ) → t < n → (p : Path (theirs n lines room) n w)
-      → (j : ℕ) × (j < lines) × (usedTest room t j ≡ true) × (start_at room j ≡ key_of t (p.state t) (bit w t)) × (p.state t < 1024)
+      → (j : ℕ) × (j < lines) × (used_test room t j ≡ true) × (start_at room j ≡ key_of t (p.state t) (bit w t)) × (p.state t < 1024)
   taken-line t w l p =
       let x = path-line n lines room holds w p t l in
       let two : bit w t < 2 = bit-lt t w in
@@ -51,7 +51,7 @@ module _ (rows : List ℕ) (mask n : ℕ) (room : List ℕ) (lines : ℕ) (o : O
       let d : start_at room x.0 / 2048 ≡ t = omega (arith, x.2, two, small) in
       let f : start_at room x.0 / 2 % 1024 ≡ p.state t = omega (arith, x.2, two, small) in
       let b : start_at room x.0 % 2 ≡ bit w t = omega (arith, x.2, two, small) in
-      let u : LineUsed rows mask n room lines o holds told right x.0 = record { word = w; path = p; state-is = ap p.state d ∙ sym f; bit_is = ap (bit w) d ∙ sym b } in
+      let u : LineUsed rows mask n room lines o holds told right x.0 = record { word = w; path = p; state_is = ap p.state d ∙ sym f; bit_is = ap (bit w) d ∙ sym b } in
       (x.0, x.1, true-used t x.0 x.1 d u, x.2, small)
 
   -- two lines of one depth with the same rest of their starts are one
@@ -61,21 +61,21 @@ module _ (rows : List ℕ) (mask n : ℕ) (room : List ℕ) (lines : ℕ) (o : O
 
   -- ---- branches
 
-  pub branches-counted : (t : ℕ) → t < n → Number (BranchOn (theirs n lines room) n t) (count lines (usedTest room t))
+  pub branches-counted : (t : ℕ) → t < n → Number (BranchOn (theirs n lines room) n t) (count lines (used_test room t))
   branches-counted t h =
-      number_same to from (number-count lines (usedTest room t) (λ i. start_at room i % 2048) (λ i j l m p q e.
+      number_same to from (number-count lines (used_test room t) (λ i. start_at room i % 2048) (λ i j l m p q e.
       let k : i < lines = omega (arith, l, m) in
       let z : i ≡ j = same_start t i j k m (used-true t i k p).0 (used-true t j m q).0 e in
       omega (arith, z, l)))
     where
-      to : (x : ℕ) → Value lines (usedTest room t) (λ i. start_at room i % 2048) x → BranchOn (theirs n lines room) n t x
+      to : (x : ℕ) → Value lines (used_test room t) (λ i. start_at room i % 2048) x → BranchOn (theirs n lines room) n t x
       to x v =
           let u = used-true t v.0 v.1 v.2 in
-          let s : u.1.path.state t ≡ start_at room v.0 / 2 % 1024 = ap u.1.path.state (sym u.0) ∙ u.1.state-is in
+          let s : u.1.path.state t ≡ start_at room v.0 / 2 % 1024 = ap u.1.path.state (sym u.0) ∙ u.1.state_is in
           let b : bit u.1.word t ≡ start_at room v.0 % 2 = ap (bit u.1.word) (sym u.0) ∙ u.1.bit_is in
           record { word = u.1.word; path = u.1.path; here = omega (arith, s, b, v.3) }
 
-      from : (x : ℕ) → BranchOn (theirs n lines room) n t x → Value lines (usedTest room t) (λ i. start_at room i % 2048) x
+      from : (x : ℕ) → BranchOn (theirs n lines room) n t x → Value lines (used_test room t) (λ i. start_at room i % 2048) x
       from x v =
           let j = taken-line t v.word h v.path in
           let two : bit v.word t < 2 = bit-lt t v.word in
@@ -83,49 +83,49 @@ module _ (rows : List ℕ) (mask n : ℕ) (room : List ℕ) (lines : ℕ) (o : O
 
   -- ---- states
 
-  first-true : (t i : ℕ) → firstTest room t i ≡ true → (usedTest room t i ≡ true) × (count i (sameTest room t (start_at room i / 2 % 1024)) ≡ 0)
-  first-true t i e = go (usedTest room t i) refl e
+  first-true : (t i : ℕ) → first_test room t i ≡ true → (used_test room t i ≡ true) × (count i (same_test room t (start_at room i / 2 % 1024)) ≡ 0)
+  first-true t i e = go (used_test room t i) refl e
     where
-      go : (a : Bool) → usedTest room t i ≡ a → cond a (eqb (count i (sameTest room t (start_at room i / 2 % 1024))) 0) false ≡ true
-          → (usedTest room t i ≡ true) × (count i (sameTest room t (start_at room i / 2 % 1024)) ≡ 0)
+      go : (a : Bool) → used_test room t i ≡ a → cond a (eqb (count i (same_test room t (start_at room i / 2 % 1024))) 0) false ≡ true
+          → (used_test room t i ≡ true) × (count i (same_test room t (start_at room i / 2 % 1024)) ≡ 0)
       go true p q = (p, eqb-true _ _ q)
       go false p q = absurd (false≢true q)
 
-  true_same : (t s i : ℕ) → usedTest room t i ≡ true → start_at room i / 2 % 1024 ≡ s → sameTest room t s i ≡ true
+  true_same : (t s i : ℕ) → used_test room t i ≡ true → start_at room i / 2 % 1024 ≡ s → same_test room t s i ≡ true
   true_same t s i p q = rw (p, eq-eqb (start_at room i / 2 % 1024) s q)
 
-  same_true : (t s i : ℕ) → sameTest room t s i ≡ true → (usedTest room t i ≡ true) × (start_at room i / 2 % 1024 ≡ s)
-  same_true t s i e = go (usedTest room t i) refl e
+  same_true : (t s i : ℕ) → same_test room t s i ≡ true → (used_test room t i ≡ true) × (start_at room i / 2 % 1024 ≡ s)
+  same_true t s i e = go (used_test room t i) refl e
     where
-      go : (a : Bool) → usedTest room t i ≡ a → cond a (eqb (start_at room i / 2 % 1024) s) false ≡ true → (usedTest room t i ≡ true) × (start_at room i / 2 % 1024 ≡ s)
+      go : (a : Bool) → used_test room t i ≡ a → cond a (eqb (start_at room i / 2 % 1024) s) false ≡ true → (used_test room t i ≡ true) × (start_at room i / 2 % 1024 ≡ s)
       go true p q = (p, eqb-true _ _ q)
       go false p q = absurd (false≢true q)
 
   abbrev FirstOf : ℕ → ℕ → Type 0
-  FirstOf t s = Value lines (firstTest room t) (λ i. start_at room i / 2 % 1024) s
+  FirstOf t s = Value lines (first_test room t) (λ i. start_at room i / 2 % 1024) s
 
   -- of the lines of a state the first is counted
-  least : (m t j : ℕ) → j < m → j < lines → usedTest room t j ≡ true → FirstOf t (start_at room j / 2 % 1024)
+  least : (m t j : ℕ) → j < m → j < lines → used_test room t j ≡ true → FirstOf t (start_at room j / 2 % 1024)
   least zero t j l k u = absurd (omega arith)
-  least (suc m) t j l k u = go (dec_lt 0 (count j (sameTest room t (start_at room j / 2 % 1024)))) (λ i a b c. least m t i a b c)
+  least (suc m) t j l k u = go (dec_lt 0 (count j (same_test room t (start_at room j / 2 % 1024)))) (λ i a b c. least m t i a b c)
     where
-      go : Dec (0 < count j (sameTest room t (start_at room j / 2 % 1024))) → ((i : ℕ) → i < m → i < lines → usedTest room t i ≡ true → FirstOf t (start_at room i / 2 % 1024))
+      go : Dec (0 < count j (same_test room t (start_at room j / 2 % 1024))) → ((i : ℕ) → i < m → i < lines → used_test room t i ≡ true → FirstOf t (start_at room i / 2 % 1024))
           → FirstOf t (start_at room j / 2 % 1024)
-      go (no d) ih = (j, k, rw (u, eq-eqb (count j (sameTest room t (start_at room j / 2 % 1024))) 0 (omega (arith, d))), refl)
+      go (no d) ih = (j, k, rw (u, eq-eqb (count j (same_test room t (start_at room j / 2 % 1024))) 0 (omega (arith, d))), refl)
       go (yes d) ih =
-          let x = count-some j (sameTest room t (start_at room j / 2 % 1024)) d in
+          let x = count-some j (same_test room t (start_at room j / 2 % 1024)) d in
           let y = same_true t (start_at room j / 2 % 1024) x.0 x.2 in
           subst (FirstOf t) y.1 (ih x.0 (omega (arith, x.1, l)) (omega (arith, x.1, k)) y.0)
 
-  pub states-counted : (t : ℕ) → t < n → Number (StateOn (theirs n lines room) n t) (count lines (firstTest room t))
+  pub states-counted : (t : ℕ) → t < n → Number (StateOn (theirs n lines room) n t) (count lines (first_test room t))
   states-counted t h =
-      number_same to from (number-count lines (firstTest room t) (λ i. start_at room i / 2 % 1024) (λ i j l m p q e.
-      omega (arith, (first-true t j q).1, some-count j (sameTest room t (start_at room j / 2 % 1024)) i l (true_same t (start_at room j / 2 % 1024) i (first-true t i p).0 e))))
+      number_same to from (number-count lines (first_test room t) (λ i. start_at room i / 2 % 1024) (λ i j l m p q e.
+      omega (arith, (first-true t j q).1, some-count j (same_test room t (start_at room j / 2 % 1024)) i l (true_same t (start_at room j / 2 % 1024) i (first-true t i p).0 e))))
     where
       to : (x : ℕ) → FirstOf t x → StateOn (theirs n lines room) n t x
       to x v =
           let u = used-true t v.0 v.1 (first-true t v.0 v.2).0 in
-          record { word = u.1.word; path = u.1.path; here = ap u.1.path.state (sym u.0) ∙ u.1.state-is ∙ v.3 }
+          record { word = u.1.word; path = u.1.path; here = ap u.1.path.state (sym u.0) ∙ u.1.state_is ∙ v.3 }
 
       from : (x : ℕ) → StateOn (theirs n lines room) n t x → FirstOf t x
       from x v =

@@ -9,11 +9,11 @@ use mathlib.Core.Path.{ap, refl, subst, sym, ◌∙◌, ◌≡◌}
 use native.Mathlib.Decide.{dec_lt}
 use native.Mathlib.Omega.{arith}
 use Prim.Native.Nat.{◌%◌, ◌*◌, ◌+◌, ◌/◌, ◌<◌, ◌^◌, suc, zero, ℕ, ◌≤◌}
-use Rattle.plates.proofs.Live.{is_live, live-is}
+use Rattle.plates.proofs.Live.{is_live, live_is}
 use Rattle.plates.proofs.SoundIsPrepared.{prepared}
 use Rattle.plates.specs.declared.Plate.{Plate}
 use Rattle.plates.specs.Prepare.{rows_of}
-use Rattle.plates.specs.Profile.{live, liveAt}
+use Rattle.plates.specs.Profile.{live, live_at}
 use Rattle.plates.specs.Refusals.{Refuses}
 use Rattle.plates.specs.Sound.{Sound}
 use Rattle.trellises.proofs.Active.{active-is, is-active}
@@ -22,14 +22,14 @@ use Rattle.trellises.proofs.MaskedGraph.{has-off, xor-twice}
 use Rattle.trellises.proofs.NextIsBranch.{next-branches}
 use Rattle.trellises.proofs.PathsOnce.{nth-branch}
 use Rattle.trellises.proofs.PlateTrellis.{plate-spans, plate-spells}
-use Rattle.trellises.specs.Branching.{Branches, branchConditions, codeTrellis}
+use Rattle.trellises.specs.Branching.{Branches, branch_conditions, code_trellis}
 use Rattle.trellises.specs.declared.Next.{Next}
 use Rattle.trellises.specs.declared.Next.TheVariants.{NoBranch, Refused, State}
 use Rattle.trellises.specs.Following.{next_of}
 use Rattle.trellises.specs.Graph.{Branch, Has}
 use Rattle.trellises.specs.Masking.{turned}
 use Rattle.trellises.specs.Numbers.{bit_of}
-use Rattle.trellises.specs.SectionOf.{sectionOf}
+use Rattle.trellises.specs.SectionOf.{section_of}
 use Rattle.trellises.specs.States.{active, state_of, trellis}
 use Rattle.words.proofs.Choice.{gather-lt, gather-same, gather-shows, spread-gather, spread-zero}
 use Rattle.words.proofs.Span.{zero-from}
@@ -104,7 +104,7 @@ module _ (rows : List ℕ) (f l : ℕ → ℕ) (s : Spans rows f l) (t x y : ℕ
   pub same-state : state_of rows f l t x ≡ state_of rows f l t y
   same-state =
       gather-same (length rows) (live f l t) x y (λ j k a.
-      let b = live-is f l t j a in
+      let b = live_is f l t j a in
       bit-same x y j (sym (on j k (is-active f l t j (omega (arith, b.0)) b.1)) ∙ zero-from rows f l s m t nothing j k b.1))
 
 -- the rows that a branch takes
@@ -125,25 +125,25 @@ module _ {plate : Plate} (s : Sound plate) where
   spans = plate-spans plate (prepared s)
 
   -- the code's branch
-  own : {t a b c : ℕ} → Has (ours (rows_of plate) plate.mask) t a b c → Has (codeTrellis plate) t a (turned (bit plate.mask t) b) c
-  own h = has-off plate.mask (codeTrellis plate) h
+  own : {t a b c : ℕ} → Has (ours (rows_of plate) plate.mask) t a b c → Has (code_trellis plate) t a (turned (bit plate.mask t) b) c
+  own h = has-off plate.mask (code_trellis plate) h
 
   -- a branch leads to a state of the next depth
-  pub our-inside : (t a b c : ℕ) → Has (ours (rows_of plate) plate.mask) t a b c → c < 2 ^ liveAt (rows_of plate) (suc t)
+  pub our-inside : (t a b c : ℕ) → Has (ours (rows_of plate) plate.mask) t a b c → c < 2 ^ live_at (rows_of plate) (suc t)
   our-inside t a b c h =
-      subst (λ (x : ℕ). x < 2 ^ liveAt (rows_of plate) (suc t))
+      subst (λ (x : ℕ). x < 2 ^ live_at (rows_of plate) (suc t))
       (sym (ap (λ (b : Branch). b.to) (nth-branch (rows_of plate) _ _ spans t (own h).place (own h).there)) ∙ (own h).leads)
       (gather-lt (length (rows_of plate)) _ _)
 
-  pub one-start : 2 ^ liveAt (rows_of plate) 0 ≡ 1
+  pub one-start : 2 ^ live_at (rows_of plate) 0 ≡ 1
   one-start = (plate-spells plate (prepared s)).start
 
-  pub one_end : 2 ^ liveAt (rows_of plate) plate.n ≡ 1
+  pub one_end : 2 ^ live_at (rows_of plate) plate.n ≡ 1
   one_end = (plate-spells plate (prepared s)).end
 
   module _ (t : ℕ) (h : t < plate.n) where
     -- by what the branch asked for is answered
-    by_next : (a b : ℕ) → a < 2 ^ liveAt (rows_of plate) t → b ≤ 1 → (N : Next) → Branches plate t a b N → Leads (ours (rows_of plate) plate.mask) t (suc a) b (number_of N)
+    by_next : (a b : ℕ) → a < 2 ^ live_at (rows_of plate) t → b ≤ 1 → (N : Next) → Branches plate t a b N → Leads (ours (rows_of plate) plate.mask) t (suc a) b (number_of N)
     by_next a b l m (State z) x = record {
       none = λ e. absurd (omega (arith, e));
       all = λ v k e q.
@@ -158,7 +158,7 @@ module _ {plate : Plate} (s : Sound plate) where
     }
     by_next a b l m (Refused q) x = absurd (never x)
       where
-        never : Refuses (branchConditions plate t a b) q → ⊥
+        never : Refuses (branch_conditions plate t a b) q → ⊥
         never (inl y) = y.0 (prepared s)
         never (inr (n, inl ((inl y), e))) = omega (arith, y, h)
         never (inr (n, inl ((inr (inl y)), e))) = omega (arith, y, l)
@@ -166,43 +166,43 @@ module _ {plate : Plate} (s : Sound plate) where
         never (inr (n, inr (k, y))) = y
 
     -- where our branches lead: the bit of the code's branch is the mask's added
-    pub our-leads : (y b : ℕ) → y ≤ 2 ^ liveAt (rows_of plate) t → b < 2
-        → Leads (ours (rows_of plate) plate.mask) t y b (follows (sectionOf (rows_of plate) t) y (bit_xor b (bit plate.mask t)))
+    pub our-leads : (y b : ℕ) → y ≤ 2 ^ live_at (rows_of plate) t → b < 2
+        → Leads (ours (rows_of plate) plate.mask) t y b (follows (section_of (rows_of plate) t) y (bit_xor b (bit plate.mask t)))
     our-leads zero b l m = record { none = λ e. refl; all = λ v k e q. absurd (omega (arith, e)); some = λ k e. absurd (omega (arith, e)) }
     our-leads (suc a) b l m =
-        by_next a b (omega arith) (omega arith) (next_of (sectionOf (rows_of plate) t) a (bit_xor b (bit plate.mask t)))
+        by_next a b (omega arith) (omega arith) (next_of (section_of (rows_of plate) t) a (bit_xor b (bit plate.mask t)))
         (next-branches plate s t a b h (omega arith) (omega arith))
 
     -- the same by the bit of the code's branch
-    pub code-leads : (y b : ℕ) → y ≤ 2 ^ liveAt (rows_of plate) t → b < 2
-        → Leads (ours (rows_of plate) plate.mask) t y (bit_xor b (bit plate.mask t)) (follows (sectionOf (rows_of plate) t) y b)
+    pub code-leads : (y b : ℕ) → y ≤ 2 ^ live_at (rows_of plate) t → b < 2
+        → Leads (ours (rows_of plate) plate.mask) t y (bit_xor b (bit plate.mask t)) (follows (section_of (rows_of plate) t) y b)
     code-leads y b l m =
-        subst (λ (d : ℕ). Leads (ours (rows_of plate) plate.mask) t y (bit_xor b (bit plate.mask t)) (follows (sectionOf (rows_of plate) t) y d))
+        subst (λ (d : ℕ). Leads (ours (rows_of plate) plate.mask) t y (bit_xor b (bit plate.mask t)) (follows (section_of (rows_of plate) t) y d))
         (xor-twice b (bit plate.mask t)) (our-leads y (bit_xor b (bit plate.mask t)) l (xor_lt 1 b (bit plate.mask t) m (bit-lt t plate.mask)))
 
-    pub our-small : (y b : ℕ) → y ≤ 2 ^ liveAt (rows_of plate) t → b < 2 → follows (sectionOf (rows_of plate) t) y b ≤ 2 ^ liveAt (rows_of plate) (suc t)
-    our-small y b l m = go (follows (sectionOf (rows_of plate) t) y b) refl
+    pub our-small : (y b : ℕ) → y ≤ 2 ^ live_at (rows_of plate) t → b < 2 → follows (section_of (rows_of plate) t) y b ≤ 2 ^ live_at (rows_of plate) (suc t)
+    our-small y b l m = go (follows (section_of (rows_of plate) t) y b) refl
       where
-        go : (z : ℕ) → follows (sectionOf (rows_of plate) t) y b ≡ z → z ≤ 2 ^ liveAt (rows_of plate) (suc t)
+        go : (z : ℕ) → follows (section_of (rows_of plate) t) y b ≡ z → z ≤ 2 ^ live_at (rows_of plate) (suc t)
         go zero e = omega arith
         go (suc k) e = let x = (code-leads y b l m).some k e in omega (arith, our-inside t x.0 _ k x.2)
 
     -- each state has a branch
-    pub our-branch : (a : ℕ) → follows (sectionOf (rows_of plate) t) (suc a) (bit_of (sectionOf (rows_of plate) t) a) ≡ 0 → ⊥
-    our-branch a e = let c = sectionOf (rows_of plate) t in omega (arith, rw (eq-eqb (bit_of c a) (bit_of c a) refl) at e)
+    pub our-branch : (a : ℕ) → follows (section_of (rows_of plate) t) (suc a) (bit_of (section_of (rows_of plate) t) a) ≡ 0 → ⊥
+    our-branch a e = let c = section_of (rows_of plate) t in omega (arith, rw (eq-eqb (bit_of c a) (bit_of c a) refl) at e)
 
     -- and no two have the same
-    pub our-apart : (a a' : ℕ) → a < 2 ^ liveAt (rows_of plate) t → a' < 2 ^ liveAt (rows_of plate) t
-        → ((b : ℕ) → b < 2 → follows (sectionOf (rows_of plate) t) (suc a) b ≡ follows (sectionOf (rows_of plate) t) (suc a') b) → a ≡ a'
-    our-apart a a' l l' same = go (follows (sectionOf (rows_of plate) t) (suc a) (bit_of (sectionOf (rows_of plate) t) a)) refl
+    pub our-apart : (a a' : ℕ) → a < 2 ^ live_at (rows_of plate) t → a' < 2 ^ live_at (rows_of plate) t
+        → ((b : ℕ) → b < 2 → follows (section_of (rows_of plate) t) (suc a) b ≡ follows (section_of (rows_of plate) t) (suc a') b) → a ≡ a'
+    our-apart a a' l l' same = go (follows (section_of (rows_of plate) t) (suc a) (bit_of (section_of (rows_of plate) t) a)) refl
       where
-        two : bit_of (sectionOf (rows_of plate) t) a < 2
+        two : bit_of (section_of (rows_of plate) t) a < 2
         two = omega arith
 
-        go : (z : ℕ) → follows (sectionOf (rows_of plate) t) (suc a) (bit_of (sectionOf (rows_of plate) t) a) ≡ z → a ≡ a'
+        go : (z : ℕ) → follows (section_of (rows_of plate) t) (suc a) (bit_of (section_of (rows_of plate) t) a) ≡ z → a ≡ a'
         go zero e = absurd (our-branch a e)
         go (suc k) e =
-            let b = bit_of (sectionOf (rows_of plate) t) a in
+            let b = bit_of (section_of (rows_of plate) t) a in
             let x = (code-leads (suc a) b (omega arith) two).some k e in
             let y = (code-leads (suc a') b (omega arith) two).some k (sym (same b two) ∙ e) in
             let p = branch-parts (rows_of plate) _ _ spans t x.0 _ k (own x.2) in
@@ -211,23 +211,23 @@ module _ {plate : Plate} (s : Sound plate) where
             omega (arith, x.1, y.1, m)
 
   -- each state has a way to the end
-  pub our-way : (d t a : ℕ) → t + d ≡ plate.n → a < 2 ^ liveAt (rows_of plate) t → (w : ℕ) × Way (ours (rows_of plate) plate.mask) d t a w
+  pub our-way : (d t a : ℕ) → t + d ≡ plate.n → a < 2 ^ live_at (rows_of plate) t → (w : ℕ) × Way (ours (rows_of plate) plate.mask) d t a w
   our-way zero t a e l =
       let q : t ≡ plate.n = omega arith in
-      (0, (omega (arith, subst (λ (t : ℕ). a < 2 ^ liveAt (rows_of plate) t) q l, one_end), refl))
+      (0, (omega (arith, subst (λ (t : ℕ). a < 2 ^ live_at (rows_of plate) t) q l, one_end), refl))
   our-way (suc d) t a e l =
-      go (λ k m. our-way d (suc t) k (omega arith) m) (follows (sectionOf (rows_of plate) t) (suc a) (bit_of (sectionOf (rows_of plate) t) a)) refl
+      go (λ k m. our-way d (suc t) k (omega arith) m) (follows (section_of (rows_of plate) t) (suc a) (bit_of (section_of (rows_of plate) t) a)) refl
     where
-      two : bit_of (sectionOf (rows_of plate) t) a < 2
+      two : bit_of (section_of (rows_of plate) t) a < 2
       two = omega arith
 
-      go : ((k : ℕ) → k < 2 ^ liveAt (rows_of plate) (suc t) → (w : ℕ) × Way (ours (rows_of plate) plate.mask) d (suc t) k w) → (z : ℕ)
-          → follows (sectionOf (rows_of plate) t) (suc a) (bit_of (sectionOf (rows_of plate) t) a) ≡ z → (w : ℕ) × Way (ours (rows_of plate) plate.mask) (suc d) t a w
+      go : ((k : ℕ) → k < 2 ^ live_at (rows_of plate) (suc t) → (w : ℕ) × Way (ours (rows_of plate) plate.mask) d (suc t) k w) → (z : ℕ)
+          → follows (section_of (rows_of plate) t) (suc a) (bit_of (section_of (rows_of plate) t) a) ≡ z → (w : ℕ) × Way (ours (rows_of plate) plate.mask) (suc d) t a w
       go more zero q = absurd (our-branch t (omega arith) a q)
       go more (suc k) q =
-          let b : ℕ = bit_xor (bit_of (sectionOf (rows_of plate) t) a) (bit plate.mask t) in
-          let small : b < 2 = xor_lt 1 (bit_of (sectionOf (rows_of plate) t) a) (bit plate.mask t) two (bit-lt t plate.mask) in
-          let x = (code-leads t (omega arith) (suc a) (bit_of (sectionOf (rows_of plate) t) a) (omega arith) two).some k q in
+          let b : ℕ = bit_xor (bit_of (section_of (rows_of plate) t) a) (bit plate.mask t) in
+          let small : b < 2 = xor_lt 1 (bit_of (section_of (rows_of plate) t) a) (bit plate.mask t) two (bit-lt t plate.mask) in
+          let x = (code-leads t (omega arith) (suc a) (bit_of (section_of (rows_of plate) t) a) (omega arith) two).some k q in
           let i : x.0 ≡ a = omega (arith, x.1) in
           let h : Has (ours (rows_of plate) plate.mask) t a b k = subst (λ (y : ℕ). Has (ours (rows_of plate) plate.mask) t y b k) i x.2 in
           let r = more k (our-inside t a b k h) in

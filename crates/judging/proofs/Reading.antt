@@ -9,13 +9,13 @@ use native.Mathlib.Omega.{arith}
 use Prim.Native.Nat.{◌+◌, ◌<◌, suc, zero, ℕ, ◌≤◌}
 use Rattle.sheets.proofs.Entries.{entries_none, entry_first, entry-on, entry-small}
 use Rattle.sheets.proofs.Parts.{from_start}
-use Rattle.sheets.specs.Listed.{entries, entriesOf, entry_at}
-use Rattle.sheets.specs.Text.{lineFeed, lines_from}
+use Rattle.sheets.specs.Listed.{entries, entries_of, entry_at}
+use Rattle.sheets.specs.Text.{line_feed, lines_from}
 use Rattle.sheets.specs.declared.listed.Branch.{Branch}
 use Rattle.sheets.specs.declared.listed.BranchLine.{BranchLine}
 use Rattle.sheets.specs.declared.listed.BranchLine.TheVariants.{Bad}
 use Rattle.sheets.specs.declared.listed.Entry.{Entry}
-use Rattle.judging.specs.Listing.{branchIn, clash, clashes, depthBefore}
+use Rattle.judging.specs.Listing.{branch_in, clash, clashes, depth_before}
 use Rattle.judging.specs.Working.{FirstFound}
 
 -- what a list has from a place on says what it has there
@@ -45,18 +45,18 @@ module _ {A : Type 0} (z : A) where
 
 -- i lines are read, and the next begins at `at`
 pub record Reading (n : ℕ) (s : List ℕ) (i at : ℕ) : Type 0 where
-  pub left : entriesOf n (lines_from s at) ≡ drop i (entries n s)
+  pub left : entries_of n (lines_from s at) ≡ drop i (entries n s)
   pub few : i ≤ length (entries n s)
   pub low : i ≤ at
 
 pub reading-start : (n : ℕ) (s : List ℕ) → Reading n s 0 0
-reading-start n s = record { left = ap (entriesOf n) (from_start lineFeed s); few = omega arith; low = omega arith }
+reading-start n s = record { left = ap (entries_of n) (from_start line_feed s); few = omega arith; low = omega arith }
 
 module _ (n : ℕ) (s : List ℕ) (i at : ℕ) (r : Reading n s i at) where
   -- one line more
   pub record More (e : Entry) : Type 0 where
     pub there : i < length (entries n s)
-    pub line-is : get_or (entries n s) i Bad ≡ e.line
+    pub line_is : get_or (entries n s) i Bad ≡ e.line
     pub on : Reading n s (i + 1) e.next
     pub further : at < e.next
     pub small : e.next ≤ length s + 1
@@ -65,14 +65,14 @@ module _ (n : ℕ) (s : List ℕ) (i at : ℕ) (r : Reading n s i at) where
   reading-on l e q =
       subst More (sym q) (record {
         there = m.0;
-        line-is = m.1;
+        line_is = m.1;
         on = record { left = sym m.2; few = omega (arith, m.0); low = omega (arith, r.low, entry-on n s at l) };
         further = entry-on n s at l;
         small = entry-small n s at l;
       })
     where
-      m : (i < length (entries n s)) × (get_or (entries n s) i Bad ≡ (entry_at n s at).line) × (drop (i + 1) (entries n s) ≡ entriesOf n (lines_from s (entry_at n s at).next))
-      m = drop-there Bad (entries n s) i (entry_at n s at).line (entriesOf n (lines_from s (entry_at n s at).next)) (sym r.left ∙ entry_first n s at l)
+      m : (i < length (entries n s)) × (get_or (entries n s) i Bad ≡ (entry_at n s at).line) × (drop (i + 1) (entries n s) ≡ entries_of n (lines_from s (entry_at n s at).next))
+      m = drop-there Bad (entries n s) i (entry_at n s at).line (entries_of n (lines_from s (entry_at n s at).next)) (sym r.left ∙ entry_first n s at l)
 
   -- or all are read
   pub reading-end : length s ≤ at → i ≡ length (entries n s)
@@ -105,12 +105,12 @@ module _ {m : ℕ} {test : ℕ → Bool} {i : ℕ} (s : Searching m test i) wher
 module _ (n : ℕ) (s : List ℕ) (first : ℕ) (b : Branch) where
   -- what is left of the search says what the whole says
   pub record Clashing (at left : ℕ) : Type 0 where
-    pub same : clashes (entriesOf n (lines_from s at)) left b ≡ clashes (entries n s) first b
-    pub few : left ≤ length (entriesOf n (lines_from s at))
+    pub same : clashes (entries_of n (lines_from s at)) left b ≡ clashes (entries n s) first b
+    pub few : left ≤ length (entries_of n (lines_from s at))
 
   pub clashing-start : first ≤ length (entries n s) → Clashing 0 first
   clashing-start l =
-      let e : entries n s ≡ entriesOf n (lines_from s 0) = ap (entriesOf n) (sym (from_start lineFeed s)) in
+      let e : entries n s ≡ entries_of n (lines_from s 0) = ap (entries_of n) (sym (from_start line_feed s)) in
       record { same = ap (λ (es : List BranchLine). clashes es first b) (sym e); few = subst (λ (es : List BranchLine). first ≤ length es) e l }
 
   module _ (at left : ℕ) (c : Clashing at left) (l : 0 < left) where
@@ -121,31 +121,31 @@ module _ (n : ℕ) (s : List ℕ) (first : ℕ) (b : Branch) where
         go (yes d) = d
         go (no d) = absurd (omega (arith, c.few, l, ap length (entries_none n s at (omega (arith, d)))))
 
-    split : (t : Bool) → clash (branchIn (entry_at n s at).line) b ≡ t → clashes (entriesOf n (lines_from s at)) left b ≡ clashes ((entry_at n s at).line ∷ entriesOf n (lines_from s (entry_at n s at).next)) left b
+    split : (t : Bool) → clash (branch_in (entry_at n s at).line) b ≡ t → clashes (entries_of n (lines_from s at)) left b ≡ clashes ((entry_at n s at).line ∷ entries_of n (lines_from s (entry_at n s at).next)) left b
     split t q = ap (λ (es : List BranchLine). clashes es left b) (entry_first n s at inside)
 
-    step : (left : ℕ) → 0 < left → (e : BranchLine) (es : List BranchLine) → clash (branchIn e) b ≡ true → clashes (e ∷ es) left b ≡ true
+    step : (left : ℕ) → 0 < left → (e : BranchLine) (es : List BranchLine) → clash (branch_in e) b ≡ true → clashes (e ∷ es) left b ≡ true
     step zero l e es q = absurd (omega arith)
     step (suc k) l e es q = rw q
 
-    pass : (left k : ℕ) → left ≡ suc k → (e : BranchLine) (es : List BranchLine) → clash (branchIn e) b ≡ false → clashes (e ∷ es) left b ≡ clashes es k b
+    pass : (left k : ℕ) → left ≡ suc k → (e : BranchLine) (es : List BranchLine) → clash (branch_in e) b ≡ false → clashes (e ∷ es) left b ≡ clashes es k b
     pass left k h e es q = rw (h, q)
 
-    pub clashing-found : (e : Entry) → e ≡ entry_at n s at → clash (branchIn e.line) b ≡ true → true ≡ clashes (entries n s) first b
+    pub clashing-found : (e : Entry) → e ≡ entry_at n s at → clash (branch_in e.line) b ≡ true → true ≡ clashes (entries n s) first b
     clashing-found e q t =
-        let z : clash (branchIn (entry_at n s at).line) b ≡ true = ap (λ (x : Entry). clash (branchIn x.line) b) (sym q) ∙ t in
-        sym (sym c.same ∙ split true z ∙ step left l (entry_at n s at).line (entriesOf n (lines_from s (entry_at n s at).next)) z)
+        let z : clash (branch_in (entry_at n s at).line) b ≡ true = ap (λ (x : Entry). clash (branch_in x.line) b) (sym q) ∙ t in
+        sym (sym c.same ∙ split true z ∙ step left l (entry_at n s at).line (entries_of n (lines_from s (entry_at n s at).next)) z)
 
-    pub clashing-on : (e : Entry) → e ≡ entry_at n s at → clash (branchIn e.line) b ≡ false → (k : ℕ) → left ≡ suc k → Clashing e.next k
+    pub clashing-on : (e : Entry) → e ≡ entry_at n s at → clash (branch_in e.line) b ≡ false → (k : ℕ) → left ≡ suc k → Clashing e.next k
     clashing-on e q t k h =
-        let z : clash (branchIn (entry_at n s at).line) b ≡ false = ap (λ (x : Entry). clash (branchIn x.line) b) (sym q) ∙ t in
+        let z : clash (branch_in (entry_at n s at).line) b ≡ false = ap (λ (x : Entry). clash (branch_in x.line) b) (sym q) ∙ t in
         subst (λ (x : Entry). Clashing x.next k) (sym q) (record {
-          same = sym (pass left k h (entry_at n s at).line (entriesOf n (lines_from s (entry_at n s at).next)) z) ∙ sym (split false z) ∙ c.same;
+          same = sym (pass left k h (entry_at n s at).line (entries_of n (lines_from s (entry_at n s at).next)) z) ∙ sym (split false z) ∙ c.same;
           few = omega (arith, c.few, h, ap length (entry_first n s at inside));
         })
 
   pub clashing-none : (at left : ℕ) → Clashing at left → left ≡ 0 → false ≡ clashes (entries n s) first b
-  clashing-none at left c e = sym (none (entriesOf n (lines_from s at)) left e) ∙ c.same
+  clashing-none at left c e = sym (none (entries_of n (lines_from s at)) left e) ∙ c.same
     where
       none : (es : List BranchLine) (k : ℕ) → k ≡ 0 → clashes es k b ≡ false
       none [] k e = refl
@@ -153,5 +153,5 @@ module _ (n : ℕ) (s : List ℕ) (first : ℕ) (b : Branch) where
       none (x ∷ es) (suc k) e = absurd (omega arith)
 
 -- the depth before the next line
-pub depth-after : (es : List BranchLine) (i : ℕ) (b : Branch) → b ≡ branchIn (get_or es i Bad) → b.depth ≡ depthBefore es (i + 1)
-depth-after es i b e = ap (λ (x : Branch). x.depth) e ∙ ap (depthBefore es) (sym (add-one i))
+pub depth-after : (es : List BranchLine) (i : ℕ) (b : Branch) → b ≡ branch_in (get_or es i Bad) → b.depth ≡ depth_before es (i + 1)
+depth-after es i b e = ap (λ (x : Branch). x.depth) e ∙ ap (depth_before es) (sym (add-one i))

@@ -22,8 +22,8 @@ use Rattle.judging.specs.Clean.{Clean}
 use Rattle.judging.specs.declared.Judged.{Judged}
 use Rattle.judging.specs.declared.Judged.TheVariants as J
 use Rattle.judging.specs.declared.Judgement.{Judgement}
-use Rattle.judging.specs.Judging.{FaultyLine, FirstLine, Judges, JudgesBy, RepeatedLine, Zeroed, graphAgainst, judgingConditions, roomNeed, tooManyLines}
-use Rattle.judging.specs.Listing.{branchesOf, faultyAt, listedGraph, repeatsAt}
+use Rattle.judging.specs.Judging.{FaultyLine, FirstLine, Judges, JudgesBy, RepeatedLine, Zeroed, graph_against, judging_conditions, room_need, too_many_lines}
+use Rattle.judging.specs.Listing.{branches_of, faulty_at, listed_graph, repeats_at}
 use Rattle.judging.specs.Ours.{OfPlate, ours}
 use Rattle.judging.specs.Steps.{Found, JudgedTo}
 use Rattle.judging.specs.Surplus.{SurplusIn}
@@ -42,45 +42,45 @@ module _ (plate : Plate) (text room : List ℕ) where
   es = entries plate.n text
 
   -- a refusal, with no surplus and the room unchanged
-  pub refused-reply : (q : Refusal) → Refuses (judgingConditions plate (entries plate.n text) room) q → (r : Judgement)
+  pub refused-reply : (q : Refusal) → Refuses (judging_conditions plate (entries plate.n text) room) q → (r : Judgement)
       → (r.verdict ≡ J.Refused q) × (r.states ≡ replicate 65 0) × (r.branches ≡ replicate 64 0) → Judges plate text room room r
   refused-reply q x r e = record {
     reply = subst (JudgesBy plate (entries plate.n text) room room) (sym e.0) (x, refl);
-    surplus = subst (λ (v : Judged). SurplusIn (graphAgainst plate (entries plate.n text)) plate.n (rows_of plate) v r.states r.branches) (sym e.0) (e.1, e.2);
+    surplus = subst (λ (v : Judged). SurplusIn (graph_against plate (entries plate.n text)) plate.n (rows_of plate) v r.states r.branches) (sym e.0) (e.1, e.2);
   }
 
-  pub refused-5 : (IsPrepared plate → ⊥) → Refuses (judgingConditions plate es room) NotPrepared
+  pub refused-5 : (IsPrepared plate → ⊥) → Refuses (judging_conditions plate es room) NotPrepared
   refused-5 d = inl (d, refl)
 
   module _ (given : IsPrepared plate) where
     not-5 : (q : Refusal) → (IsPrepared plate → ⊥) × (q ≡ NotPrepared) → ⊥
     not-5 q x = x.0 given
 
-    pub refused-28 : 1024 < length es → Refuses (judgingConditions plate es room) TooManyLines
+    pub refused-28 : 1024 < length es → Refuses (judging_conditions plate es room) TooManyLines
     refused-28 l = inr (not-5, inl (l, refl))
 
-    module _ (few : length (entries plate.n text) ≤ 1024) (f : ℕ) (first : FirstFound (length (entries plate.n text)) (faultyAt (entries plate.n text)) f) where
-      not-28 : (q : Refusal) → tooManyLines es q → ⊥
+    module _ (few : length (entries plate.n text) ≤ 1024) (f : ℕ) (first : FirstFound (length (entries plate.n text)) (faulty_at (entries plate.n text)) f) where
+      not-28 : (q : Refusal) → too_many_lines es q → ⊥
       not-28 q x = omega (arith, x.0, few)
 
-      pub refused-26 : f < length es → Refuses (judgingConditions plate es room) (BranchFault (f + 1))
+      pub refused-26 : f < length es → Refuses (judging_conditions plate es room) (BranchFault (f + 1))
       refused-26 l =
-          inr (not-5, inr (not-28, inl (record { line = f; at = first-line es (faultyAt es) f first l; is = ap BranchFault (add-one f) })))
+          inr (not-5, inr (not-28, inl (record { line = f; at = first-line es (faulty_at es) f first l; is = ap BranchFault (add-one f) })))
 
       module _ (clear : length (entries plate.n text) ≤ f) (g : ℕ)
-          (second : FirstFound (length (entries plate.n text)) (repeatsAt (entries plate.n text)) g) where
+          (second : FirstFound (length (entries plate.n text)) (repeats_at (entries plate.n text)) g) where
         not-26 : (q : Refusal) → FaultyLine es q → ⊥
-        not-26 q x = false≢true (sym (no_line es (faultyAt es) f first clear x.line x.at.there) ∙ x.at.found)
+        not-26 q x = false≢true (sym (no_line es (faulty_at es) f first clear x.line x.at.there) ∙ x.at.found)
 
-        pub refused-27 : g < length es → Refuses (judgingConditions plate es room) (BranchTwice (g + 1))
+        pub refused-27 : g < length es → Refuses (judging_conditions plate es room) (BranchTwice (g + 1))
         refused-27 l =
-            inr (not-5, inr (not-28, inr (not-26, inl (record { line = g; at = first-line es (repeatsAt es) g second l; is = ap BranchTwice (add-one g) }))))
+            inr (not-5, inr (not-28, inr (not-26, inl (record { line = g; at = first-line es (repeats_at es) g second l; is = ap BranchTwice (add-one g) }))))
 
         module _ (single : length (entries plate.n text) ≤ g) where
           not-27 : (q : Refusal) → RepeatedLine es q → ⊥
-          not-27 q x = false≢true (sym (no_line es (repeatsAt es) g second single x.line x.at.there) ∙ x.at.found)
+          not-27 q x = false≢true (sym (no_line es (repeats_at es) g second single x.line x.at.there) ∙ x.at.found)
 
-          pub refused-8 : length room < roomNeed es → Refuses (judgingConditions plate es room) MetricRoom
+          pub refused-8 : length room < room_need es → Refuses (judging_conditions plate es room) MetricRoom
           refused-8 l = inr (not-5, inr (not-28, inr (not-26, inr (not-27, inl (l, refl)))))
 
           pub all-clean : Clean plate.n es
@@ -88,27 +88,27 @@ module _ (plate : Plate) (text room : List ℕ) where
             few = few;
             short = (sound given).short;
             ranged = entry-ranged plate.n (lines text);
-            faultless = no_line es (faultyAt es) f first clear;
-            single = no_line es (repeatsAt es) g second single;
+            faultless = no_line es (faulty_at es) f first clear;
+            single = no_line es (repeats_at es) g second single;
           }
 
           pub of-this-plate : OfPlate (rows_of plate) plate.mask plate.n
-          of-this-plate = record { plate = plate; sound = sound given; rows_are = refl; mask_is = refl; length-is = refl }
+          of-this-plate = record { plate = plate; sound = sound given; rows_are = refl; mask_is = refl; length_is = refl }
 
-          module _ (enough : roomNeed (entries plate.n text) ≤ length room) where
-            passes : Passes (judgingConditions plate es room)
+          module _ (enough : room_need (entries plate.n text) ≤ length room) where
+            passes : Passes (judging_conditions plate es room)
             passes = (not-5, (not-28, (not-26, (not-27, ((λ q x. omega (arith, x.0, enough)), tt)))))
 
-            by-verdict : (v : Judged) → Found (listedGraph plate.n (branchesOf (entries plate.n text))) (ours (rows_of plate) plate.mask) plate.n v
-                → (room' : List ℕ) → Zeroed (roomNeed (entries plate.n text)) room room' → JudgesBy plate (entries plate.n text) room room' v
+            by-verdict : (v : Judged) → Found (listed_graph plate.n (branches_of (entries plate.n text))) (ours (rows_of plate) plate.mask) plate.n v
+                → (room' : List ℕ) → Zeroed (room_need (entries plate.n text)) room room' → JudgesBy plate (entries plate.n text) room room' v
             by-verdict J.Right h room' z =
-                (passes, found_right (sound given) (listedGraph plate.n (branchesOf (entries plate.n text))) (listed-ends all-clean (sound given).positive) h, z)
+                (passes, found_right (sound given) (listed_graph plate.n (branches_of (entries plate.n text))) (listed-ends all-clean (sound given).positive) h, z)
             by-verdict (J.SpelledWrongly w) h room' z =
-                (passes, found-wrongly (sound given) (listedGraph plate.n (branchesOf (entries plate.n text))) (listed-ends all-clean (sound given).positive) w h, z)
+                (passes, found-wrongly (sound given) (listed_graph plate.n (branches_of (entries plate.n text))) (listed-ends all-clean (sound given).positive) w h, z)
             by-verdict (J.NotSpelled w) h room' z =
-                (passes, found-missing (sound given) (listedGraph plate.n (branchesOf (entries plate.n text))) (listed-ends all-clean (sound given).positive) w h, z)
+                (passes, found-missing (sound given) (listed_graph plate.n (branches_of (entries plate.n text))) (listed-ends all-clean (sound given).positive) w h, z)
             by-verdict (J.Refused q) h room' z = absurd h
 
-            pub judged-reply : (r : Judgement) → JudgedTo (listedGraph plate.n (branchesOf (entries plate.n text))) (rows_of plate) plate.mask plate.n r
-                → (room' : List ℕ) → Zeroed (roomNeed (entries plate.n text)) room room' → Judges plate text room room' r
+            pub judged-reply : (r : Judgement) → JudgedTo (listed_graph plate.n (branches_of (entries plate.n text))) (rows_of plate) plate.mask plate.n r
+                → (room' : List ℕ) → Zeroed (room_need (entries plate.n text)) room room' → Judges plate text room room' r
             judged-reply r j room' z = record { reply = by-verdict r.verdict j.found room' z; surplus = j.surplus }

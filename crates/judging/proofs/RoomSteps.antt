@@ -10,8 +10,8 @@ use native.Mathlib.Omega.{arith}
 use Prim.Native.Nat.{◌*◌, ◌+◌, ◌-◌, ◌<◌, suc, ℕ, ◌≤◌}
 use Rattle.sheets.specs.declared.listed.Branch.{Branch}
 use Rattle.sheets.specs.declared.listed.BranchLine.{BranchLine}
-use Rattle.judging.specs.Listing.{branchAt}
-use Rattle.judging.specs.Room.{LineFrom, Put, Stored, key_of, keyTest, leadAt, leadNumber, start_at, toldAt, toldNumber}
+use Rattle.judging.specs.Listing.{branch_at}
+use Rattle.judging.specs.Room.{LineFrom, Put, Stored, key_of, key_test, lead_at, lead_number, start_at, told_at, told_number}
 use Rattle.judging.specs.Working.{FirstFound}
 
 -- ---- one line
@@ -32,22 +32,22 @@ put-done room line k b l e = record {
 
 -- ---- one line more
 
-module _ (es : List BranchLine) (i : ℕ) (room room' : List ℕ) (b : Branch) (s : Stored es i room) (p : Put room i b room') (e : b ≡ branchAt es i) where
+module _ (es : List BranchLine) (i : ℕ) (room room' : List ℕ) (b : Branch) (s : Stored es i room) (p : Put room i b room') (e : b ≡ branch_at es i) where
   pub stored_more : Stored es (i + 1) room'
   stored_more = record { start = λ j l. start j l (dec_lt j i); lead = λ j l. lead j l (dec_lt j i) }
     where
-      start : (j : ℕ) → j < i + 1 → Dec (j < i) → start_at room' j ≡ key_of (branchAt es j).depth (branchAt es j).from (branchAt es j).bit
+      start : (j : ℕ) → j < i + 1 → Dec (j < i) → start_at room' j ≡ key_of (branch_at es j).depth (branch_at es j).from (branch_at es j).bit
       start j l (yes d) = p.others (4 * j) (inl (omega arith)) ∙ s.start j d
       start j l (no d) =
           let q : i ≡ j = omega arith in
-          subst (λ (j : ℕ). start_at room' j ≡ key_of (branchAt es j).depth (branchAt es j).from (branchAt es j).bit) q
+          subst (λ (j : ℕ). start_at room' j ≡ key_of (branch_at es j).depth (branch_at es j).from (branch_at es j).bit) q
           (p.start ∙ ap (λ (x : Branch). key_of x.depth x.from x.bit) e)
 
-      lead : (j : ℕ) → j < i + 1 → Dec (j < i) → leadAt room' j ≡ (branchAt es j).to
+      lead : (j : ℕ) → j < i + 1 → Dec (j < i) → lead_at room' j ≡ (branch_at es j).to
       lead j l (yes d) = p.others (4 * j + 1) (inl (omega arith)) ∙ s.lead j d
       lead j l (no d) =
           let q : i ≡ j = omega arith in
-          subst (λ (j : ℕ). leadAt room' j ≡ (branchAt es j).to) q (p.lead ∙ ap (λ (x : Branch). x.to) e)
+          subst (λ (j : ℕ). lead_at room' j ≡ (branch_at es j).to) q (p.lead ∙ ap (λ (x : Branch). x.to) e)
 
 pub stored-none : (es : List BranchLine) (room : List ℕ) → Stored es 0 room
 stored-none es room = record { start = λ j l. absurd (omega arith); lead = λ j l. absurd (omega arith) }
@@ -57,24 +57,24 @@ stored-none es room = record { start = λ j l. absurd (omega arith); lead = λ j
 pub line-none : (room : List ℕ) (lines t u b : ℕ) → u ≡ 0 → LineFrom room lines t u b lines
 line-none room lines t u b e = record { none = λ q. refl; some = λ v q. absurd (omega (arith, e, q)) }
 
-pub line-some : (room : List ℕ) (lines t u b r k : ℕ) → (u ≡ 0 → ⊥) → k ≡ key_of t (u - 1) b → FirstFound lines (keyTest room k) r → LineFrom room lines t u b r
+pub line-some : (room : List ℕ) (lines t u b r k : ℕ) → (u ≡ 0 → ⊥) → k ≡ key_of t (u - 1) b → FirstFound lines (key_test room k) r → LineFrom room lines t u b r
 line-some room lines t u b r k d e f = record {
   none = λ q. absurd (d q);
   some = λ v q.
       let z : u - 1 ≡ v = omega (arith, q) in
-      subst (λ (k : ℕ). FirstFound lines (keyTest room k) r) (e ∙ ap (λ (x : ℕ). key_of t x b) z) f;
+      subst (λ (k : ℕ). FirstFound lines (key_test room k) r) (e ∙ ap (λ (x : ℕ). key_of t x b) z) f;
 }
 
-pub lead-there : (room : List ℕ) (lines j : ℕ) → j < lines → leadAt room j + 1 ≡ leadNumber room lines j
+pub lead-there : (room : List ℕ) (lines j : ℕ) → j < lines → lead_at room j + 1 ≡ lead_number room lines j
 lead-there room lines j l = rw (lt-ltb j lines l) (omega arith)
 
-pub lead-none : (room : List ℕ) (lines j : ℕ) → lines ≤ j → 0 ≡ leadNumber room lines j
+pub lead-none : (room : List ℕ) (lines j : ℕ) → lines ≤ j → 0 ≡ lead_number room lines j
 lead-none room lines j l = rw (le-ltb j lines l)
 
-pub told-there : (room : List ℕ) (lines j : ℕ) → j < lines → toldAt room j ≡ toldNumber room lines j
+pub told-there : (room : List ℕ) (lines j : ℕ) → j < lines → told_at room j ≡ told_number room lines j
 told-there room lines j l = rw (lt-ltb j lines l)
 
-pub told_none : (room : List ℕ) (lines j : ℕ) → lines ≤ j → 0 ≡ toldNumber room lines j
+pub told_none : (room : List ℕ) (lines j : ℕ) → lines ≤ j → 0 ≡ told_number room lines j
 told_none room lines j l = rw (le-ltb j lines l)
 
 -- ---- zeros

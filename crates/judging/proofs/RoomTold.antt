@@ -9,9 +9,9 @@ use native.Mathlib.Omega.{arith}
 use Prim.Native.Nat.{◌%◌, ◌*◌, ◌+◌, ◌-◌, ◌/◌, ◌<◌, suc, zero, ℕ}
 use Rattle.sheets.specs.declared.listed.Branch.{Branch}
 use Rattle.trellises.specs.Graph.{Graph}
-use Rattle.judging.specs.Listing.{listedGraph}
+use Rattle.judging.specs.Listing.{listed_graph}
 use Rattle.judging.specs.Ours.{ours}
-use Rattle.judging.specs.Room.{Holds, SameLines, ToldAt, ToldFrom, decoded, leadAt, listed, start_at, theirs, toldAt}
+use Rattle.judging.specs.Room.{Holds, SameLines, ToldAt, ToldFrom, decoded, lead_at, listed, start_at, theirs, told_at}
 use Rattle.judging.specs.Steps.{Asking, Ready}
 use Rattle.judging.specs.Ways.{Tells}
 
@@ -27,7 +27,7 @@ listed_same (suc m) F G h = ap₂ ◌∷◌ (h 0 (omega arith)) (listed_same m (
 module _ {lines : ℕ} {room room' : List ℕ} (same : SameLines lines room room') where
   pub theirs-same : (n : ℕ) → theirs n lines room' ≡ theirs n lines room
   theirs-same n =
-      ap (listedGraph n) (listed_same lines (decoded room') (decoded room) (λ i l.
+      ap (listed_graph n) (listed_same lines (decoded room') (decoded room) (λ i l.
       ap₂ (λ (s e : ℕ). record { depth = s / 2048; from = s / 2 % 1024; bit = s % 2; to = e }) (same.start i l) (same.lead i l)))
 
   pub holds_same : {n : ℕ} → Holds n lines room → Holds n lines room'
@@ -42,13 +42,13 @@ module _ {lines : ℕ} {room room' : List ℕ} (same : SameLines lines room room
   }
 
 -- what is told at a line, in another room with the same line
-pub told_moved : (g : Graph) (rows : List ℕ) (mask n : ℕ) (room room' : List ℕ) (j : ℕ) → start_at room j ≡ start_at room' j → leadAt room j ≡ leadAt room' j
-    → toldAt room j ≡ toldAt room' j → ToldAt g rows mask n room j → ToldAt g rows mask n room' j
+pub told_moved : (g : Graph) (rows : List ℕ) (mask n : ℕ) (room room' : List ℕ) (j : ℕ) → start_at room j ≡ start_at room' j → lead_at room j ≡ lead_at room' j
+    → told_at room j ≡ told_at room' j → ToldAt g rows mask n room j → ToldAt g rows mask n room' j
 told_moved g rows mask n room room' j s l x t = record {
   tells =
-      subst (λ (s : ℕ). Tells g (ours rows mask) (n - suc (s / 2048)) (suc (s / 2048)) (suc (leadAt room' j)) (toldAt room' j)) s
-      (subst (λ (l : ℕ). Tells g (ours rows mask) (n - suc (start_at room j / 2048)) (suc (start_at room j / 2048)) (suc l) (toldAt room' j)) l
-      (subst (Tells g (ours rows mask) (n - suc (start_at room j / 2048)) (suc (start_at room j / 2048)) (suc (leadAt room j))) x t.tells));
+      subst (λ (s : ℕ). Tells g (ours rows mask) (n - suc (s / 2048)) (suc (s / 2048)) (suc (lead_at room' j)) (told_at room' j)) s
+      (subst (λ (l : ℕ). Tells g (ours rows mask) (n - suc (start_at room j / 2048)) (suc (start_at room j / 2048)) (suc l) (told_at room' j)) l
+      (subst (Tells g (ours rows mask) (n - suc (start_at room j / 2048)) (suc (start_at room j / 2048)) (suc (lead_at room j))) x t.tells));
 }
 
 -- ---- one line more
@@ -61,7 +61,7 @@ module _ (rows : List ℕ) (mask n lines : ℕ) (room₀ room : List ℕ) (i : �
   pub depth_below : start_at room i / 2048 < n
   depth_below = omega (arith, holds.starts i l)
 
-  pub lead-small : leadAt room i < 1024
+  pub lead-small : lead_at room i < 1024
   lead-small = holds.leads i l
 
   -- the state that the line leads to can be told: the lines of its depth come later
@@ -87,18 +87,18 @@ module _ (rows : List ℕ) (mask n lines : ℕ) (room₀ room : List ℕ) (i : �
       lead = λ j m. other (4 * j + 1) (λ e. omega (arith, e)) ∙ same.lead j m;
     }
 
-    pub told_more : Tells (theirs n lines room) (ours rows mask) (n - (start_at room i / 2048 + 1)) (start_at room i / 2048 + 1) (suc (leadAt room i)) x
+    pub told_more : Tells (theirs n lines room) (ours rows mask) (n - (start_at room i / 2048 + 1)) (start_at room i / 2048 + 1) (suc (lead_at room i)) x
         → ToldFrom (theirs n lines room₀) rows mask n lines (set room (4 * i + 2) x) i
     told_more t j m k = go (ℕ_discrete i j)
       where
         here : ToldAt (theirs n lines room₀) rows mask n (set room (4 * i + 2) x) i
         here = record {
           tells =
-              subst (λ (g : Graph). Tells g (ours rows mask) (n - suc (start_at (set room (4 * i + 2) x) i / 2048)) (suc (start_at (set room (4 * i + 2) x) i / 2048)) (suc (leadAt (set room (4 * i + 2) x) i)) (toldAt (set room (4 * i + 2) x) i)) (theirs-same same n)
-              (subst (λ (s : ℕ). Tells (theirs n lines room) (ours rows mask) (n - suc (s / 2048)) (suc (s / 2048)) (suc (leadAt (set room (4 * i + 2) x) i)) (toldAt (set room (4 * i + 2) x) i)) (sym (other (4 * i) (λ e. omega (arith, e))))
-              (subst (λ (e : ℕ). Tells (theirs n lines room) (ours rows mask) (n - suc (start_at room i / 2048)) (suc (start_at room i / 2048)) (suc e) (toldAt (set room (4 * i + 2) x) i)) (sym (other (4 * i + 1) (λ e. omega (arith, e))))
-              (subst (Tells (theirs n lines room) (ours rows mask) (n - suc (start_at room i / 2048)) (suc (start_at room i / 2048)) (suc (leadAt room i))) (sym (get_or-set_same room (4 * i + 2) x 0 (omega (arith, holds.size, l))))
-              (subst (λ (d : ℕ). Tells (theirs n lines room) (ours rows mask) (n - d) d (suc (leadAt room i)) x) (add-one (start_at room i / 2048)) t))));
+              subst (λ (g : Graph). Tells g (ours rows mask) (n - suc (start_at (set room (4 * i + 2) x) i / 2048)) (suc (start_at (set room (4 * i + 2) x) i / 2048)) (suc (lead_at (set room (4 * i + 2) x) i)) (told_at (set room (4 * i + 2) x) i)) (theirs-same same n)
+              (subst (λ (s : ℕ). Tells (theirs n lines room) (ours rows mask) (n - suc (s / 2048)) (suc (s / 2048)) (suc (lead_at (set room (4 * i + 2) x) i)) (told_at (set room (4 * i + 2) x) i)) (sym (other (4 * i) (λ e. omega (arith, e))))
+              (subst (λ (e : ℕ). Tells (theirs n lines room) (ours rows mask) (n - suc (start_at room i / 2048)) (suc (start_at room i / 2048)) (suc e) (told_at (set room (4 * i + 2) x) i)) (sym (other (4 * i + 1) (λ e. omega (arith, e))))
+              (subst (Tells (theirs n lines room) (ours rows mask) (n - suc (start_at room i / 2048)) (suc (start_at room i / 2048)) (suc (lead_at room i))) (sym (get_or-set_same room (4 * i + 2) x 0 (omega (arith, holds.size, l))))
+              (subst (λ (d : ℕ). Tells (theirs n lines room) (ours rows mask) (n - d) d (suc (lead_at room i)) x) (add-one (start_at room i / 2048)) t))));
         }
 
         go : Dec (i ≡ j) → ToldAt (theirs n lines room₀) rows mask n (set room (4 * i + 2) x) j

@@ -11,7 +11,7 @@ use Rattle.plates.specs.Prepare.{rows_of}
 use Rattle.trellises.proofs.NextIsBranch.{found, found-ending, found-live}
 use Rattle.trellises.specs.declared.Section.{Section}
 use Rattle.trellises.specs.Graph.{Graph}
-use Rattle.trellises.specs.SectionOf.{held, sectionOf}
+use Rattle.trellises.specs.SectionOf.{held, section_of}
 use Rattle.words.proofs.Word.{bit-lt}
 use Rattle.words.specs.Word.{bit}
 use Rattle.judging.proofs.ClassTells.{class-tells, tells_none}
@@ -19,7 +19,7 @@ use Rattle.judging.proofs.OurStates.{one_end, one-start, our-leads, our-small, o
 use Rattle.judging.proofs.Tells.{tells-end}
 use Rattle.judging.proofs.Theirs.{found-start, line-leads}
 use Rattle.judging.specs.Ours.{Classed, OfPlate, Small, follows, ours}
-use Rattle.judging.specs.Room.{Holds, LineFrom, ToldIn, Within, key_of, leadAt, leadNumber, start_at, theirs, toldAt, toldNumber}
+use Rattle.judging.specs.Room.{Holds, LineFrom, ToldIn, Within, key_of, lead_at, lead_number, start_at, theirs, told_at, told_number}
 use Rattle.judging.specs.Steps.{Asking}
 use Rattle.judging.specs.Ways.{Leads, Tells, Way}
 
@@ -28,22 +28,22 @@ pub of-plate : (P : List ℕ → ℕ → ℕ → Type 0) {rows : List ℕ} {mask
     → P rows mask n
 of-plate P {rows} {mask} {n} o p =
     subst (λ (r : List ℕ). P r mask n) o.rows_are
-    (subst (λ (m : ℕ). P (rows_of o.plate) m n) o.mask_is (subst (P (rows_of o.plate) o.plate.mask) o.length-is p))
+    (subst (λ (m : ℕ). P (rows_of o.plate) m n) o.mask_is (subst (P (rows_of o.plate) o.plate.mask) o.length_is p))
 
 module _ {rows : List ℕ} {mask n : ℕ} (o : OfPlate rows mask n) where
   -- the section that the code finds
-  pub section-is : (t : ℕ) → t < n → (c : Section) → c ≡ held (sectionOf rows t) → c ≡ sectionOf rows t
+  pub section-is : (t : ℕ) → t < n → (c : Section) → c ≡ held (section_of rows t) → c ≡ section_of rows t
   section-is t h c e =
-      of-plate (λ (r : List ℕ) (k m : ℕ). t < m → c ≡ held (sectionOf r t) → c ≡ sectionOf r t) o (λ h e. found o.sound t h c e) h e
+      of-plate (λ (r : List ℕ) (k m : ℕ). t < m → c ≡ held (section_of r t) → c ≡ section_of r t) o (λ h e. found o.sound t h c e) h e
 
-  pub section-small : (t : ℕ) → t < n → (c : Section) → c ≡ held (sectionOf rows t) → Small c
+  pub section-small : (t : ℕ) → t < n → (c : Section) → c ≡ held (section_of rows t) → Small c
   section-small t h c e =
-      of-plate (λ (r : List ℕ) (k m : ℕ). t < m → c ≡ held (sectionOf r t) → Small c) o
+      of-plate (λ (r : List ℕ) (k m : ℕ). t < m → c ≡ held (section_of r t) → Small c) o
       (λ h e. record { live = (found-live o.sound t h c e).1; ending = found-ending o.sound t h c e }) h e
 
-  pub states-are : (t : ℕ) → t < n → (c : Section) → c ≡ held (sectionOf rows t) → 2 ^ c.live ≡ (ours rows mask).states t
+  pub states-are : (t : ℕ) → t < n → (c : Section) → c ≡ held (section_of rows t) → 2 ^ c.live ≡ (ours rows mask).states t
   states-are t h c e =
-      of-plate (λ (r : List ℕ) (k m : ℕ). t < m → c ≡ held (sectionOf r t) → 2 ^ c.live ≡ (ours r k).states t) o
+      of-plate (λ (r : List ℕ) (k m : ℕ). t < m → c ≡ held (section_of r t) → 2 ^ c.live ≡ (ours r k).states t) o
       (λ h e. ap (λ (x : ℕ). 2 ^ x) (found-live o.sound t h c e).0) h e
 
   pub end-states : (ours rows mask).states n ≡ 1
@@ -53,14 +53,14 @@ module _ {rows : List ℕ} {mask n : ℕ} (o : OfPlate rows mask n) where
   start-states = of-plate (λ (r : List ℕ) (k m : ℕ). (ours r k).states 0 ≡ 1) o (one-start o.sound)
 
   pub leads-ours : (t y b : ℕ) → t < n → y ≤ (ours rows mask).states t → b < 2
-      → Leads (ours rows mask) t y b (follows (sectionOf rows t) y (bit_xor b (bit mask t)))
+      → Leads (ours rows mask) t y b (follows (section_of rows t) y (bit_xor b (bit mask t)))
   leads-ours t y b h =
-      of-plate (λ (r : List ℕ) (k m : ℕ). t < m → y ≤ (ours r k).states t → b < 2 → Leads (ours r k) t y b (follows (sectionOf r t) y (bit_xor b (bit k t)))) o
+      of-plate (λ (r : List ℕ) (k m : ℕ). t < m → y ≤ (ours r k).states t → b < 2 → Leads (ours r k) t y b (follows (section_of r t) y (bit_xor b (bit k t)))) o
       (λ h. our-leads o.sound t h y b) h
 
-  pub follows-small : (t y b : ℕ) → t < n → y ≤ (ours rows mask).states t → b < 2 → follows (sectionOf rows t) y b ≤ (ours rows mask).states (suc t)
+  pub follows-small : (t y b : ℕ) → t < n → y ≤ (ours rows mask).states t → b < 2 → follows (section_of rows t) y b ≤ (ours rows mask).states (suc t)
   follows-small t y b h =
-      of-plate (λ (r : List ℕ) (k m : ℕ). t < m → y ≤ (ours r k).states t → b < 2 → follows (sectionOf r t) y b ≤ (ours r k).states (suc t)) o
+      of-plate (λ (r : List ℕ) (k m : ℕ). t < m → y ≤ (ours r k).states t → b < 2 → follows (section_of r t) y b ≤ (ours r k).states (suc t)) o
       (λ h. our-small o.sound t h y b) h
 
   pub way-ours : (d t a : ℕ) → t + d ≡ n → a < (ours rows mask).states t → (w : ℕ) × Way (ours rows mask) d t a w
@@ -69,11 +69,11 @@ module _ {rows : List ℕ} {mask n : ℕ} (o : OfPlate rows mask n) where
   none_told : (A : Graph) (d t : ℕ) → t + d ≡ n → Tells A (ours rows mask) d t 0 0
   none_told A d t e = of-plate (λ (r : List ℕ) (k m : ℕ). t + d ≡ m → Tells A (ours r k) d t 0 0) o (tells_none o.sound A d t) e
 
-  class-told : (A : Graph) (t : ℕ) → t < n → (x0 x1 x : ℕ) → Classed (sectionOf rows t) x0 x1 x → (d u u0 u1 : ℕ)
+  class-told : (A : Graph) (t : ℕ) → t < n → (x0 x1 x : ℕ) → Classed (section_of rows t) x0 x1 x → (d u u0 u1 : ℕ)
       → Leads A t u (bit_xor 0 (bit mask t)) u0 → Leads A t u (bit_xor 1 (bit mask t)) u1
       → Tells A (ours rows mask) d (suc t) u0 x0 → Tells A (ours rows mask) d (suc t) u1 x1 → Tells A (ours rows mask) (suc d) t u x
   class-told A t h x0 x1 x k d u u0 u1 a0 a1 m0 m1 =
-      of-plate (λ (r : List ℕ) (k m : ℕ). t < m → Classed (sectionOf r t) x0 x1 x → Leads A t u (bit_xor 0 (bit k t)) u0 → Leads A t u (bit_xor 1 (bit k t)) u1
+      of-plate (λ (r : List ℕ) (k m : ℕ). t < m → Classed (section_of r t) x0 x1 x → Leads A t u (bit_xor 0 (bit k t)) u0 → Leads A t u (bit_xor 1 (bit k t)) u1
       → Tells A (ours r k) d (suc t) u0 x0 → Tells A (ours r k) d (suc t) u1 x1 → Tells A (ours r k) (suc d) t u x) o
       (λ h k a0 a1 m0 m1. class-tells o.sound A t h x0 x1 x k d u u0 u1 a0 a1 m0 m1) h k a0 a1 m0 m1
 
@@ -95,40 +95,40 @@ module _ {rows : List ℕ} {mask n : ℕ} (o : OfPlate rows mask n) where
 
   module _ (room : List ℕ) (lines : ℕ) (holds : Holds n lines room) (t : ℕ) (h : t < n) (told : ToldIn n lines rows mask room t) where
     pub line-told : (u b j : ℕ) → u ≤ 1024 → b < 2 → LineFrom room lines t u b j
-        → Tells (theirs n lines room) (ours rows mask) (n - suc t) (suc t) (leadNumber room lines j) (toldNumber room lines j)
+        → Tells (theirs n lines room) (ours rows mask) (n - suc t) (suc t) (lead_number room lines j) (told_number room lines j)
     line-told u b j small two l = go (dec_lt j lines) u refl
       where
-        go : Dec (j < lines) → (w : ℕ) → w ≡ u → Tells (theirs n lines room) (ours rows mask) (n - suc t) (suc t) (leadNumber room lines j) (toldNumber room lines j)
+        go : Dec (j < lines) → (w : ℕ) → w ≡ u → Tells (theirs n lines room) (ours rows mask) (n - suc t) (suc t) (lead_number room lines j) (told_number room lines j)
         go (no d) w q = rw (le-ltb j lines (omega (arith, d))) (none_told (theirs n lines room) (n - suc t) (suc t) (omega (arith, h)))
         go (yes d) zero q = absurd (omega (arith, l.none (sym q), d))
         go (yes d) (suc v) q =
             let k : start_at room j ≡ key_of t v b = found-start n lines room holds t u b j small two l v (sym q) d in
             let e : start_at room j / 2048 ≡ t = omega (arith, k, q, small, two) in
             rw (lt-ltb j lines d)
-            (subst (λ (m : ℕ). Tells (theirs n lines room) (ours rows mask) (n - suc m) (suc m) (suc (leadAt room j)) (toldAt room j)) e (told j d e).tells)
+            (subst (λ (m : ℕ). Tells (theirs n lines room) (ours rows mask) (n - suc m) (suc m) (suc (lead_at room j)) (told_at room j)) e (told j d e).tells)
 
     flipped : (b : ℕ) → b < 2 → bit_xor b (bit mask t) < 2
     flipped b l = xor_lt 1 b (bit mask t) l (bit-lt t mask)
 
     -- a state by its two lines
     pub state-told : (u j0 j1 x0 x1 x : ℕ) → u ≤ 1024 → LineFrom room lines t u (bit_xor 0 (bit mask t)) j0
-        → LineFrom room lines t u (bit_xor 1 (bit mask t)) j1 → x0 ≡ toldNumber room lines j0 → x1 ≡ toldNumber room lines j1
-        → (c : Section) → c ≡ held (sectionOf rows t) → Classed c x0 x1 x → Tells (theirs n lines room) (ours rows mask) (n - t) t u x
+        → LineFrom room lines t u (bit_xor 1 (bit mask t)) j1 → x0 ≡ told_number room lines j0 → x1 ≡ told_number room lines j1
+        → (c : Section) → c ≡ held (section_of rows t) → Classed c x0 x1 x → Tells (theirs n lines room) (ours rows mask) (n - t) t u x
     state-told u j0 j1 x0 x1 x small l0 l1 e0 e1 c ec k =
         let z : suc (n - suc t) ≡ n - t = omega (arith, h) in
         let A = theirs n lines room in
         subst (λ (d : ℕ). Tells (theirs n lines room) (ours rows mask) d t u x) z
         (class-told (theirs n lines room) t h x0 x1 x (subst (λ (c : Section). Classed c x0 x1 x) (section-is t h c ec) k) (n - suc t) u
-        (leadNumber room lines j0) (leadNumber room lines j1)
+        (lead_number room lines j0) (lead_number room lines j1)
         (line-leads n lines room holds t u (bit_xor 0 (bit mask t)) j0 small (flipped 0 (omega arith)) l0)
         (line-leads n lines room holds t u (bit_xor 1 (bit mask t)) j1 small (flipped 1 (omega arith)) l1)
-        (subst (Tells (theirs n lines room) (ours rows mask) (n - suc t) (suc t) (leadNumber room lines j0)) (sym e0) (line-told u (bit_xor 0 (bit mask t)) j0 small (flipped 0 (omega arith)) l0))
-        (subst (Tells (theirs n lines room) (ours rows mask) (n - suc t) (suc t) (leadNumber room lines j1)) (sym e1) (line-told u (bit_xor 1 (bit mask t)) j1 small (flipped 1 (omega arith)) l1)))
+        (subst (Tells (theirs n lines room) (ours rows mask) (n - suc t) (suc t) (lead_number room lines j0)) (sym e0) (line-told u (bit_xor 0 (bit mask t)) j0 small (flipped 0 (omega arith)) l0))
+        (subst (Tells (theirs n lines room) (ours rows mask) (n - suc t) (suc t) (lead_number room lines j1)) (sym e1) (line-told u (bit_xor 1 (bit mask t)) j1 small (flipped 1 (omega arith)) l1)))
 
     -- the same by the bit that the code found in the mask
     pub state-told-by : {flip : ℕ} → flip ≡ bit mask t → (u j0 j1 x0 x1 x : ℕ) → u ≤ 1024 → LineFrom room lines t u flip j0
-        → LineFrom room lines t u (bit_xor 1 flip) j1 → x0 ≡ toldNumber room lines j0 → x1 ≡ toldNumber room lines j1
-        → (c : Section) → c ≡ held (sectionOf rows t) → Classed c x0 x1 x → Tells (theirs n lines room) (ours rows mask) (n - t) t u x
+        → LineFrom room lines t u (bit_xor 1 flip) j1 → x0 ≡ told_number room lines j0 → x1 ≡ told_number room lines j1
+        → (c : Section) → c ≡ held (section_of rows t) → Classed c x0 x1 x → Tells (theirs n lines room) (ours rows mask) (n - t) t u x
     state-told-by q u j0 j1 x0 x1 x small l0 l1 =
         state-told u j0 j1 x0 x1 x small (subst (λ (b : ℕ). LineFrom room lines t u b j0) q l0) (subst (λ (b : ℕ). LineFrom room lines t u (bit_xor 1 b) j1) q l1)
 
@@ -136,7 +136,7 @@ module _ {rows : List ℕ} {mask n : ℕ} (o : OfPlate rows mask n) where
 module _ {rows : List ℕ} {mask n : ℕ} {room : List ℕ} {lines t state flip : ℕ} (a : Asking rows mask n room lines t) (left : t ≡ n → ⊥) (small : state < 1024)
     (is : flip ≡ bit mask t) where
   asks : (b : ℕ) → b < 2 → (length room ≡ 4 * lines) × Within t (state + 1 - 1) b
-  asks b two = (a.ready.holds.size, record { depth_small = omega (arith, a.ready.holds.short, a.within, left); state-small = omega (arith, small); bit-small = two })
+  asks b two = (a.ready.holds.size, record { depth_small = omega (arith, a.ready.holds.short, a.within, left); state_small = omega (arith, small); bit_small = two })
 
   pub line-asks : (length room ≡ 4 * lines) × Within t (state + 1 - 1) flip
   line-asks = asks flip (omega (arith, is, bit-lt t mask))

@@ -10,14 +10,14 @@ use Prim.Native.Nat.{◌+◌, ◌<◌, ◌^◌, suc, ℕ, ◌≤◌}
 use Rattle.plates.proofs.SoundIsPrepared.{prepared}
 use Rattle.plates.proofs.TableFilled.{zeros-at}
 use Rattle.plates.specs.Code.{Masked}
-use Rattle.plates.specs.Profile.{liveAt}
+use Rattle.plates.specs.Profile.{live_at}
 use Rattle.trellises.proofs.PlateTrellis.{plate-spans}
 use Rattle.trellises.proofs.SectionAgrees.{section-agrees}
 use Rattle.trellises.specs.declared.Section.{Section}
 use Rattle.trellises.specs.Graph.{Spells}
-use Rattle.trellises.specs.Numbers.{branchCount}
-use Rattle.trellises.specs.SectionOf.{held, sectionOf}
-use Rattle.trellises.specs.Smallest.{activeAt}
+use Rattle.trellises.specs.Numbers.{branch_count}
+use Rattle.trellises.specs.SectionOf.{held, section_of}
+use Rattle.trellises.specs.Smallest.{active_at}
 use Rattle.words.proofs.Sums.{in-zero}
 use Rattle.words.proofs.Word.{xor_self}
 use Rattle.words.specs.Choice.{count}
@@ -30,7 +30,7 @@ use Rattle.judging.proofs.NumbersOn.{branches-counted, end-counted, states-count
 use Rattle.judging.proofs.StatesTold.{end-states, of-plate, section-is, states-are}
 use Rattle.judging.proofs.Theirs.{has-line}
 use Rattle.judging.proofs.Ways.{Ended}
-use Rattle.judging.specs.Marks.{firstTest, usedTest}
+use Rattle.judging.specs.Marks.{first_test, used_test}
 use Rattle.judging.specs.Ours.{ours}
 use Rattle.judging.specs.Room.{Holds, theirs}
 use Rattle.judging.specs.Steps.{SurplusAsks}
@@ -60,24 +60,24 @@ module _ {rows : List ℕ} {n : ℕ} {room : List ℕ} {lines : ℕ} (p : Surplu
       → Spells (theirs n lines room) m (Masked (IsSum r) k)) p.asks.ready.plate
       (λ e s. found_right p.asks.ready.plate.sound (theirs n lines room) e s) ends p.right
 
-  states-on : (t : ℕ) → t < n → Number (StateOn (theirs n lines room) n t) (count lines (firstTest room t))
+  states-on : (t : ℕ) → t < n → Number (StateOn (theirs n lines room) n t) (count lines (first_test room t))
   states-on = states-counted rows p.mask n room lines p.asks.ready.plate p.asks.ready.holds p.asks.told p.right ends p.marks
 
-  branches-on : (t : ℕ) → t < n → Number (BranchOn (theirs n lines room) n t) (count lines (usedTest room t))
+  branches-on : (t : ℕ) → t < n → Number (BranchOn (theirs n lines room) n t) (count lines (used_test room t))
   branches-on = branches-counted rows p.mask n room lines p.asks.ready.plate p.asks.ready.holds p.asks.told p.right ends p.marks
 
-  module _ (t : ℕ) (h : t < n) (c : Section) (e : c ≡ held (sectionOf rows t)) where
-    pub own-states : 2 ^ c.live ≡ 2 ^ liveAt rows t
+  module _ (t : ℕ) (h : t < n) (c : Section) (e : c ≡ held (section_of rows t)) where
+    pub own-states : 2 ^ c.live ≡ 2 ^ live_at rows t
     own-states = states-are p.asks.ready.plate t h c e
 
-    pub own-branches : branchCount c ≡ 2 ^ activeAt rows t
-    own-branches = ap branchCount (section-is p.asks.ready.plate t h c e) ∙ (section-agrees rows spans t).branches
+    pub own-branches : branch_count c ≡ 2 ^ active_at rows t
+    own-branches = ap branch_count (section-is p.asks.ready.plate t h c e) ∙ (section-agrees rows spans t).branches
 
     -- none is negative
-    pub states-enough : 2 ^ c.live ≤ count lines (firstTest room t)
+    pub states-enough : 2 ^ c.live ≤ count lines (first_test room t)
     states-enough = omega (arith, own-states, no-fewer-states (theirs n lines room) n rows p.mask (firsts rows) (lasts rows) spans spells t _ (omega (arith, h)) (states-on t h))
 
-    pub branches-enough : branchCount c ≤ count lines (usedTest room t)
+    pub branches-enough : branch_count c ≤ count lines (used_test room t)
     branches-enough = omega (arith, own-branches, no-fewer-branches (theirs n lines room) n rows p.mask (firsts rows) (lasts rows) spans spells t _ h (branches-on t h))
 
   -- ---- the loop
@@ -87,10 +87,10 @@ module _ {rows : List ℕ} {n : ℕ} {room : List ℕ} {lines : ℕ} (p : Surplu
     pub within : t ≤ n
     pub depths : length states ≡ 65
     pub sections : length branches ≡ 64
-    pub state : (i : ℕ) → i < t → Number (StateOn (theirs n lines room) n i) (2 ^ liveAt rows i + get_or states i 0)
-    pub branch : (i : ℕ) → i < t → Number (BranchOn (theirs n lines room) n i) (2 ^ activeAt rows i + get_or branches i 0)
-    pub no-state : (i : ℕ) → t ≤ i → get_or states i 0 ≡ 0
-    pub no-branch : (i : ℕ) → t ≤ i → get_or branches i 0 ≡ 0
+    pub state : (i : ℕ) → i < t → Number (StateOn (theirs n lines room) n i) (2 ^ live_at rows i + get_or states i 0)
+    pub branch : (i : ℕ) → i < t → Number (BranchOn (theirs n lines room) n i) (2 ^ active_at rows i + get_or branches i 0)
+    pub no_state : (i : ℕ) → t ≤ i → get_or states i 0 ≡ 0
+    pub no_branch : (i : ℕ) → t ≤ i → get_or branches i 0 ≡ 0
 
   pub filling-start : Filling 0 (replicate 65 0) (replicate 64 0)
   filling-start = record {
@@ -99,12 +99,12 @@ module _ {rows : List ℕ} {n : ℕ} {room : List ℕ} {lines : ℕ} (p : Surplu
     sections = refl;
     state = λ i l. absurd (omega arith);
     branch = λ i l. absurd (omega arith);
-    no-state = λ i l. zeros-at 65 i;
-    no-branch = λ i l. zeros-at 64 i;
+    no_state = λ i l. zeros-at 65 i;
+    no_branch = λ i l. zeros-at 64 i;
   }
 
-  pub filling-on : (t : ℕ) (states branches : List ℕ) → Filling t states branches → t < n → (c : Section) → c ≡ held (sectionOf rows t)
-      → (w x y z s b : ℕ) → w ≡ 2 ^ c.live → x ≡ count lines (firstTest room t) → w + s ≡ x → y ≡ branchCount c → z ≡ count lines (usedTest room t) → y + b ≡ z
+  pub filling-on : (t : ℕ) (states branches : List ℕ) → Filling t states branches → t < n → (c : Section) → c ≡ held (section_of rows t)
+      → (w x y z s b : ℕ) → w ≡ 2 ^ c.live → x ≡ count lines (first_test room t) → w + s ≡ x → y ≡ branch_count c → z ≡ count lines (used_test room t) → y + b ≡ z
       → Filling (t + 1) (set states t s) (set branches t b)
   filling-on t states branches f h c e w x y z s b ew ex es ey ez eb = record {
     within = omega (arith, h);
@@ -112,30 +112,30 @@ module _ {rows : List ℕ} {n : ℕ} {room : List ℕ} {lines : ℕ} (p : Surplu
     sections = length-set branches t b ∙ f.sections;
     state = λ i l. state i l (dec_lt i t);
     branch = λ i l. branch i l (dec_lt i t);
-    no-state = λ i l. get_or-set_other states t i s 0 (λ q. omega (arith, q, l)) ∙ f.no-state i (omega (arith, l));
-    no-branch = λ i l. get_or-set_other branches t i b 0 (λ q. omega (arith, q, l)) ∙ f.no-branch i (omega (arith, l));
+    no_state = λ i l. get_or-set_other states t i s 0 (λ q. omega (arith, q, l)) ∙ f.no_state i (omega (arith, l));
+    no_branch = λ i l. get_or-set_other branches t i b 0 (λ q. omega (arith, q, l)) ∙ f.no_branch i (omega (arith, l));
   }
     where
       short : n ≤ 64
       short = p.asks.ready.holds.short
 
-      state : (i : ℕ) → i < t + 1 → Dec (i < t) → Number (StateOn (theirs n lines room) n i) (2 ^ liveAt rows i + get_or (set states t s) i 0)
+      state : (i : ℕ) → i < t + 1 → Dec (i < t) → Number (StateOn (theirs n lines room) n i) (2 ^ live_at rows i + get_or (set states t s) i 0)
       state i l (yes d) =
-          subst (λ (k : ℕ). Number (StateOn (theirs n lines room) n i) (2 ^ liveAt rows i + k)) (sym (get_or-set_other states t i s 0 (λ q. omega (arith, q, d)))) (f.state i d)
+          subst (λ (k : ℕ). Number (StateOn (theirs n lines room) n i) (2 ^ live_at rows i + k)) (sym (get_or-set_other states t i s 0 (λ q. omega (arith, q, d)))) (f.state i d)
       state i l (no d) =
           let q : t ≡ i = omega arith in
           let g : get_or (set states t s) t 0 ≡ s = get_or-set_same states t s 0 (omega (arith, f.depths, h, short)) in
-          let k : count lines (firstTest room t) ≡ 2 ^ liveAt rows t + get_or (set states t s) t 0 = omega (arith, g, es, ex, ew, own-states t h c e) in
-          subst (λ (i : ℕ). Number (StateOn (theirs n lines room) n i) (2 ^ liveAt rows i + get_or (set states t s) i 0)) q (subst (Number (StateOn (theirs n lines room) n t)) k (states-on t h))
+          let k : count lines (first_test room t) ≡ 2 ^ live_at rows t + get_or (set states t s) t 0 = omega (arith, g, es, ex, ew, own-states t h c e) in
+          subst (λ (i : ℕ). Number (StateOn (theirs n lines room) n i) (2 ^ live_at rows i + get_or (set states t s) i 0)) q (subst (Number (StateOn (theirs n lines room) n t)) k (states-on t h))
 
-      branch : (i : ℕ) → i < t + 1 → Dec (i < t) → Number (BranchOn (theirs n lines room) n i) (2 ^ activeAt rows i + get_or (set branches t b) i 0)
+      branch : (i : ℕ) → i < t + 1 → Dec (i < t) → Number (BranchOn (theirs n lines room) n i) (2 ^ active_at rows i + get_or (set branches t b) i 0)
       branch i l (yes d) =
-          subst (λ (k : ℕ). Number (BranchOn (theirs n lines room) n i) (2 ^ activeAt rows i + k)) (sym (get_or-set_other branches t i b 0 (λ q. omega (arith, q, d)))) (f.branch i d)
+          subst (λ (k : ℕ). Number (BranchOn (theirs n lines room) n i) (2 ^ active_at rows i + k)) (sym (get_or-set_other branches t i b 0 (λ q. omega (arith, q, d)))) (f.branch i d)
       branch i l (no d) =
           let q : t ≡ i = omega arith in
           let g : get_or (set branches t b) t 0 ≡ b = get_or-set_same branches t b 0 (omega (arith, f.sections, h, short)) in
-          let k : count lines (usedTest room t) ≡ 2 ^ activeAt rows t + get_or (set branches t b) t 0 = omega (arith, g, eb, ez, ey, own-branches t h c e) in
-          subst (λ (i : ℕ). Number (BranchOn (theirs n lines room) n i) (2 ^ activeAt rows i + get_or (set branches t b) i 0)) q (subst (Number (BranchOn (theirs n lines room) n t)) k (branches-on t h))
+          let k : count lines (used_test room t) ≡ 2 ^ active_at rows t + get_or (set branches t b) t 0 = omega (arith, g, eb, ez, ey, own-branches t h c e) in
+          subst (λ (i : ℕ). Number (BranchOn (theirs n lines room) n i) (2 ^ active_at rows i + get_or (set branches t b) i 0)) q (subst (Number (BranchOn (theirs n lines room) n t)) k (branches-on t h))
 
   pub filling-end : (t : ℕ) (states branches : List ℕ) → Filling t states branches → t ≡ n → SurplusOver (theirs n lines room) n rows states branches
   filling-end t states branches f e = record {
@@ -143,14 +143,14 @@ module _ {rows : List ℕ} {n : ℕ} {room : List ℕ} {lines : ℕ} (p : Surplu
     sections = f.sections;
     state = λ i l. state i l (dec_lt i n);
     branch = λ i l. f.branch i (omega (arith, l, e));
-    no-depth = λ i l. f.no-state i (omega (arith, l, e));
-    no-section = λ i l. f.no-branch i (omega (arith, l, e));
+    no_depth = λ i l. f.no_state i (omega (arith, l, e));
+    no_section = λ i l. f.no_branch i (omega (arith, l, e));
   }
     where
-      state : (i : ℕ) → i ≤ n → Dec (i < n) → Number (StateOn (theirs n lines room) n i) (2 ^ liveAt rows i + get_or states i 0)
+      state : (i : ℕ) → i ≤ n → Dec (i < n) → Number (StateOn (theirs n lines room) n i) (2 ^ live_at rows i + get_or states i 0)
       state i l (yes d) = f.state i (omega (arith, d, e))
       state i l (no d) =
           let q : n ≡ i = omega arith in
-          let k : 1 ≡ 2 ^ liveAt rows n + get_or states n 0 = omega (arith, end-states p.asks.ready.plate, f.no-state n (omega (arith, e))) in
-          subst (λ (i : ℕ). Number (StateOn (theirs n lines room) n i) (2 ^ liveAt rows i + get_or states i 0)) q
+          let k : 1 ≡ 2 ^ live_at rows n + get_or states n 0 = omega (arith, end-states p.asks.ready.plate, f.no_state n (omega (arith, e))) in
+          subst (λ (i : ℕ). Number (StateOn (theirs n lines room) n i) (2 ^ live_at rows i + get_or states i 0)) q
           (subst (Number (StateOn (theirs n lines room) n n)) k (end-counted (theirs n lines room) n p.mask ends.end ((spells.exact p.mask).0 (subst (IsSum rows) (sym (xor_self p.mask)) (in-zero rows))).1))

@@ -11,8 +11,8 @@ use Prim.Native.Nat.{◌%◌, ◌-◌, ◌/◌, ◌<◌, suc, zero, ℕ, ◌≤�
 use Rattle.sheets.specs.declared.listed.Branch.{Branch}
 use Rattle.trellises.specs.Graph.{Has}
 use Rattle.trellises.specs.Graph as Graphs
-use Rattle.judging.specs.Listing.{sectionAt, with}
-use Rattle.judging.specs.Room.{Holds, LineFrom, decoded, key_of, leadAt, leadNumber, listed, start_at, theirs}
+use Rattle.judging.specs.Listing.{section_at, with}
+use Rattle.judging.specs.Room.{Holds, LineFrom, decoded, key_of, lead_at, lead_number, listed, start_at, theirs}
 use Rattle.judging.specs.Ways.{Leads}
 
 -- a listed branch as a branch of the graph
@@ -24,26 +24,26 @@ plain b = record { from = b.from; out = b.bit; to = b.to }
 abbrev From : ℕ → (ℕ → Branch) → ℕ → Graphs.Branch → Type 0
 From m F t x = (i : ℕ) × (i < m) × ((F i).depth ≡ t) × (x ≡ plain (F i))
 
-pub section-listed : (m : ℕ) (F : ℕ → Branch) (t p : ℕ) → p < length (sectionAt t (listed m F)) → From m F t (get_or (sectionAt t (listed m F)) p Graphs.noBranch)
+pub section-listed : (m : ℕ) (F : ℕ → Branch) (t p : ℕ) → p < length (section_at t (listed m F)) → From m F t (get_or (section_at t (listed m F)) p Graphs.no_branch)
 section-listed zero F t p l = absurd (omega arith)
 section-listed (suc m) F t p l = go (eqb (F 0).depth t) refl (λ p l. section-listed m (λ i. F (suc i)) t p l) p l
   where
     rest : List Graphs.Branch
-    rest = sectionAt t (listed m (λ i. F (suc i)))
+    rest = section_at t (listed m (λ i. F (suc i)))
 
     shift : {x : Graphs.Branch} → From m (λ i. F (suc i)) t x → From (suc m) F t x
     shift r = (suc r.0, omega (arith, r.1), r.2, r.3)
 
     go : (b : Bool) → eqb (F 0).depth t ≡ b
-        → ((p : ℕ) → p < length (sectionAt t (listed m (λ i. F (suc i)))) → From m (λ i. F (suc i)) t (get_or (sectionAt t (listed m (λ i. F (suc i)))) p Graphs.noBranch))
-        → (p : ℕ) → p < length (with b (plain (F 0)) (sectionAt t (listed m (λ i. F (suc i)))))
-        → From (suc m) F t (get_or (with b (plain (F 0)) (sectionAt t (listed m (λ i. F (suc i))))) p Graphs.noBranch)
+        → ((p : ℕ) → p < length (section_at t (listed m (λ i. F (suc i)))) → From m (λ i. F (suc i)) t (get_or (section_at t (listed m (λ i. F (suc i)))) p Graphs.no_branch))
+        → (p : ℕ) → p < length (with b (plain (F 0)) (section_at t (listed m (λ i. F (suc i)))))
+        → From (suc m) F t (get_or (with b (plain (F 0)) (section_at t (listed m (λ i. F (suc i))))) p Graphs.no_branch)
     go true e ih zero l = (0, omega arith, eqb-true (F 0).depth t e, refl)
     go true e ih (suc p) l = shift (ih p (omega arith))
     go false e ih p l = shift (ih p l)
 
 abbrev There : ℕ → (ℕ → Branch) → ℕ → Graphs.Branch → Type 0
-There m F t x = (p : ℕ) × (p < length (sectionAt t (listed m F))) × (get_or (sectionAt t (listed m F)) p Graphs.noBranch ≡ x)
+There m F t x = (p : ℕ) × (p < length (section_at t (listed m F))) × (get_or (section_at t (listed m F)) p Graphs.no_branch ≡ x)
 
 pub listed-section : (m : ℕ) (F : ℕ → Branch) (t i : ℕ) → i < m → (F i).depth ≡ t → There m F t (plain (F i))
 listed-section zero F t i l e = absurd (omega arith)
@@ -51,8 +51,8 @@ listed-section (suc m) F t zero l e = rw (eq-eqb (F 0).depth t e) (0, omega arit
 listed-section (suc m) F t (suc i) l e = go (eqb (F 0).depth t) (listed-section m (λ i. F (suc i)) t i (omega arith) e)
   where
     go : (b : Bool) → There m (λ i. F (suc i)) t (plain (F (suc i)))
-        → (p : ℕ) × (p < length (with b (plain (F 0)) (sectionAt t (listed m (λ i. F (suc i))))))
-        × (get_or (with b (plain (F 0)) (sectionAt t (listed m (λ i. F (suc i))))) p Graphs.noBranch ≡ plain (F (suc i)))
+        → (p : ℕ) × (p < length (with b (plain (F 0)) (section_at t (listed m (λ i. F (suc i))))))
+        × (get_or (with b (plain (F 0)) (section_at t (listed m (λ i. F (suc i))))) p Graphs.no_branch ≡ plain (F (suc i)))
     go true r = (suc r.0, omega (arith, r.1), r.2)
     go false r = r
 
@@ -60,7 +60,7 @@ listed-section (suc m) F t (suc i) l e = go (eqb (F 0).depth t) (listed-section 
 
 module _ (n lines : ℕ) (room : List ℕ) where
   -- a branch of the graph is a line
-  pub has-line : (t a b c : ℕ) → Has (theirs n lines room) t a b c → (i : ℕ) × (i < lines) × (start_at room i ≡ key_of t a b) × (leadAt room i ≡ c)
+  pub has-line : (t a b c : ℕ) → Has (theirs n lines room) t a b c → (i : ℕ) × (i < lines) × (start_at room i ≡ key_of t a b) × (lead_at room i ≡ c)
   has-line t a b c h =
       let r = section-listed lines (decoded room) t h.place h.there in
       let k : ℕ = start_at room r.0 in
@@ -77,7 +77,7 @@ module _ (n lines : ℕ) (room : List ℕ) where
       (omega (arith, f), omega (arith, o))
 
   -- and a line is a branch
-  pub line-has : (t a b i : ℕ) → a < 1024 → b < 2 → i < lines → start_at room i ≡ key_of t a b → Has (theirs n lines room) t a b (leadAt room i)
+  pub line-has : (t a b i : ℕ) → a < 1024 → b < 2 → i < lines → start_at room i ≡ key_of t a b → Has (theirs n lines room) t a b (lead_at room i)
   line-has t a b i la lb l e =
       let d : start_at room i / 2048 ≡ t = omega (arith, e) in
       let r = listed-section lines (decoded room) t i l d in
@@ -94,10 +94,10 @@ module _ (n lines : ℕ) (room : List ℕ) where
     pub found-start : (v : ℕ) → u ≡ suc v → j < lines → start_at room j ≡ key_of t v b
     found-start v e m = eqb-true (start_at room j) (key_of t v b) ((l.some v e).here m)
 
-    lead_is : j < lines → leadNumber room lines j ≡ suc (leadAt room j)
+    lead_is : j < lines → lead_number room lines j ≡ suc (lead_at room j)
     lead_is m = rw (lt-ltb j lines m)
 
-    no_lead : lines ≤ j → leadNumber room lines j ≡ 0
+    no_lead : lines ≤ j → lead_number room lines j ≡ 0
     no_lead m = rw (le-ltb j lines m)
 
     -- a line with that start is the one that is found
@@ -109,20 +109,20 @@ module _ (n lines : ℕ) (room : List ℕ) where
         go (no d) (yes x) = absurd (holds.apart j i x m (found-start v e (omega (arith, x, m)) ∙ sym q))
         go (no d) (no x) = omega arith
 
-    some : (c : ℕ) → Dec (j < lines) → leadNumber room lines j ≡ suc c → (w : ℕ) → w ≡ u → (v : ℕ) × (u ≡ suc v) × Has (theirs n lines room) t v b c
+    some : (c : ℕ) → Dec (j < lines) → lead_number room lines j ≡ suc c → (w : ℕ) → w ≡ u → (v : ℕ) × (u ≡ suc v) × Has (theirs n lines room) t v b c
     some c (no d) e w q = absurd (omega (arith, e, no_lead (omega (arith, d))))
     some c (yes d) e zero q = absurd (omega (arith, l.none (sym q)))
     some c (yes d) e (suc v) q =
-        let k : leadAt room j ≡ c = omega (arith, lead_is d, e) in
+        let k : lead_at room j ≡ c = omega (arith, lead_is d, e) in
         (v, sym q, subst (Has (theirs n lines room) t v b) k (line-has t v b j (omega (arith, q, small)) two d (found-start v (sym q) d)))
 
     -- it leads where the branch asked for leads
-    pub line-leads : Leads (theirs n lines room) t u b (leadNumber room lines j)
+    pub line-leads : Leads (theirs n lines room) t u b (lead_number room lines j)
     line-leads = record {
       none = λ e. no_lead (omega (arith, l.none e));
       all = λ v c e h.
           let r = has-line t v b c h in
           let q : j ≡ r.0 = only v e r.0 r.1 r.2 in
-          lead_is (omega (arith, r.1)) ∙ ap suc (ap (leadAt room) q ∙ r.3);
+          lead_is (omega (arith, r.1)) ∙ ap suc (ap (lead_at room) q ∙ r.3);
       some = λ c e. some c (dec_lt j lines) e u refl;
     }

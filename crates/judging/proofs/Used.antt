@@ -6,7 +6,7 @@ use native.Mathlib.Decide.{dec_lt}
 use native.Mathlib.Omega.{arith}
 use Prim.Native.Nat.{◌%◌, ◌*◌, ◌+◌, ◌-◌, ◌/◌, ◌<◌, suc, zero, ℕ, ◌≤◌}
 use Rattle.trellises.specs.Graph.{Graph, Has, Path}
-use Rattle.trellises.specs.SectionOf.{sectionOf}
+use Rattle.trellises.specs.SectionOf.{section_of}
 use Rattle.words.proofs.Word.{bit-lt}
 use Rattle.words.specs.Word.{bit}
 use Rattle.judging.proofs.Chains.{path-chain, through}
@@ -15,7 +15,7 @@ use Rattle.judging.proofs.Tells.{same-one}
 use Rattle.judging.proofs.Theirs.{has-line, has-range, line-has}
 use Rattle.judging.proofs.Ways.{Ended}
 use Rattle.judging.specs.Ours.{OfPlate, follows, ours}
-use Rattle.judging.specs.Room.{Holds, ToldFrom, key_of, leadAt, start_at, theirs, toldAt}
+use Rattle.judging.specs.Room.{Holds, ToldFrom, key_of, lead_at, start_at, theirs, told_at}
 use Rattle.judging.specs.Ways.{Chain, Leads, Same, Way}
 
 module _ (n lines : ℕ) (room : List ℕ) (holds : Holds n lines room) where
@@ -36,7 +36,7 @@ module _ (n lines : ℕ) (room : List ℕ) (holds : Holds n lines room) where
         let x = has-line n lines room t v b c h in
         let y = has-line n lines room t v' b c' h' in
         let i : x.0 ≡ y.0 = one_line x.0 y.0 x.1 y.1 (x.2 ∙ ap (λ (a : ℕ). key_of t a b) q ∙ sym y.2) in
-        ap suc (sym x.3 ∙ ap (leadAt room) i ∙ y.3);
+        ap suc (sym x.3 ∙ ap (lead_at room) i ∙ y.3);
     some = λ c' e. let q : c ≡ c' = omega (arith, e) in (v, refl, subst (Has (theirs n lines room) t v b) q h);
   }
 
@@ -45,7 +45,7 @@ module _ (n lines : ℕ) (room : List ℕ) (holds : Holds n lines room) where
   pub start_is : (j : ℕ) → start_at room j ≡ key_of (start_at room j / 2048) (start_at room j / 2 % 1024) (start_at room j % 2)
   start_is j = omega arith
 
-  pub line-branch : (j : ℕ) → j < lines → Has (theirs n lines room) (start_at room j / 2048) (start_at room j / 2 % 1024) (start_at room j % 2) (leadAt room j)
+  pub line-branch : (j : ℕ) → j < lines → Has (theirs n lines room) (start_at room j / 2048) (start_at room j / 2 % 1024) (start_at room j % 2) (lead_at room j)
   line-branch j l = line-has n lines room (start_at room j / 2048) (start_at room j / 2 % 1024) (start_at room j % 2) j (omega arith) (omega arith) l (start_is j)
 
   pub depth_small : (j : ℕ) → j < lines → start_at room j / 2048 < n
@@ -53,7 +53,7 @@ module _ (n lines : ℕ) (room : List ℕ) (holds : Holds n lines room) where
 
   -- the line that a path takes
   pub path-line : (w : ℕ) (p : Path (theirs n lines room) n w) (t : ℕ) → t < n
-      → (j : ℕ) × (j < lines) × (start_at room j ≡ key_of t (p.state t) (bit w t)) × (leadAt room j ≡ p.state (suc t)) × (p.state t < 1024)
+      → (j : ℕ) × (j < lines) × (start_at room j ≡ key_of t (p.state t) (bit w t)) × (lead_at room j ≡ p.state (suc t)) × (p.state t < 1024)
   path-line w p t l =
       let h = p.branch t l in
       let x = has-line n lines room t (p.state t) (bit w t) (p.state (suc t)) h in
@@ -80,11 +80,11 @@ module _ (rows : List ℕ) (mask n : ℕ) (room : List ℕ) (lines : ℕ) (o : O
   Known t v = (y : ℕ) × (y ≤ (ours rows mask).states t) × Same (theirs n lines room) (ours rows mask) (n - t) t (suc v) y
 
   known_on : (t v b c : ℕ) → t < n → b < 2 → Has (theirs n lines room) t v b c → (y : ℕ) → y ≤ (ours rows mask).states t → Same (theirs n lines room) (ours rows mask) (n - t) t (suc v) y
-      → (follows (sectionOf rows t) y (bit_xor b (bit mask t)) ≤ (ours rows mask).states (suc t)) × Same (theirs n lines room) (ours rows mask) (n - suc t) (suc t) (suc c) (follows (sectionOf rows t) y (bit_xor b (bit mask t)))
+      → (follows (section_of rows t) y (bit_xor b (bit mask t)) ≤ (ours rows mask).states (suc t)) × Same (theirs n lines room) (ours rows mask) (n - suc t) (suc t) (suc c) (follows (section_of rows t) y (bit_xor b (bit mask t)))
   known_on t v b c l two h y m s =
       let z : n - t ≡ suc (n - suc t) = omega (arith, l) in (
         follows-small o t y (bit_xor b (bit mask t)) l m (xor_lt 1 b (bit mask t) two (bit-lt t mask)),
-        same-one (theirs n lines room) (ours rows mask) (n - suc t) t (suc v) b (suc c) y (follows (sectionOf rows t) y (bit_xor b (bit mask t))) two (has-leads n lines room holds t v b c h) (leads-ours o t y b l m two)
+        same-one (theirs n lines room) (ours rows mask) (n - suc t) t (suc v) b (suc c) y (follows (section_of rows t) y (bit_xor b (bit mask t))) two (has-leads n lines room holds t v b c h) (leads-ours o t y b l m two)
             (subst (λ (d : ℕ). Same (theirs n lines room) (ours rows mask) d t (suc v) y) z s),
       )
 
@@ -95,7 +95,7 @@ module _ (rows : List ℕ) (mask n : ℕ) (room : List ℕ) (lines : ℕ) (o : O
   known-along t v l c (suc i) m =
       let k = known-along t v l c i (omega arith) in
       let x = known_on i (c.state i) (c.digit i) (c.state (suc i)) (omega arith) (c.two i (omega arith)) (c.has i (omega arith)) k.0 k.1 k.2 in
-      (follows (sectionOf rows i) k.0 (bit_xor (c.digit i) (bit mask i)), x.0, x.1)
+      (follows (section_of rows i) k.0 (bit_xor (c.digit i) (bit mask i)), x.0, x.1)
 
   pub known : (t v : ℕ) → t ≤ n → Chain (theirs n lines room) t v → Known t v
   known t v l c = subst (Known t) c.here (known-along t v l c t (omega arith))
@@ -106,31 +106,31 @@ module _ (rows : List ℕ) (mask n : ℕ) (room : List ℕ) (lines : ℕ) (o : O
   pub record LineUsed (j : ℕ) : Type 0 where
     pub word : ℕ
     pub path : Path (theirs n lines room) n word
-    pub state-is : path.state (start_at room j / 2048) ≡ start_at room j / 2 % 1024
+    pub state_is : path.state (start_at room j / 2048) ≡ start_at room j / 2 % 1024
     pub bit_is : bit word (start_at room j / 2048) ≡ start_at room j % 2
 
   module _ (ends : Ended (theirs n lines room) n) (j : ℕ) (l : j < lines) where
     -- a number of ours is told, and so there is a way to the end
     way-there : (z : ℕ) → z ≤ (ours rows mask).states (suc (start_at room j / 2048)) → (z ≡ 0 → ⊥)
-        → Same (theirs n lines room) (ours rows mask) (n - suc (start_at room j / 2048)) (suc (start_at room j / 2048)) (suc (leadAt room j)) z
-        → (r : ℕ) × Way (theirs n lines room) (n - suc (start_at room j / 2048)) (suc (start_at room j / 2048)) (leadAt room j) r
+        → Same (theirs n lines room) (ours rows mask) (n - suc (start_at room j / 2048)) (suc (start_at room j / 2048)) (suc (lead_at room j)) z
+        → (r : ℕ) × Way (theirs n lines room) (n - suc (start_at room j / 2048)) (suc (start_at room j / 2048)) (lead_at room j) r
     way-there zero m d s = absurd (d refl)
     way-there (suc c) m d s =
         let x = way-ours o (n - suc (start_at room j / 2048)) (suc (start_at room j / 2048)) c (omega (arith, depth_small n lines room holds j l)) (omega arith) in
         (x.0, (s x.0).1 x.1)
 
-    pub used-of : Chain (theirs n lines room) (start_at room j / 2048) (start_at room j / 2 % 1024) → (toldAt room j ≡ 0 → ⊥) → LineUsed j
+    pub used-of : Chain (theirs n lines room) (start_at room j / 2048) (start_at room j / 2 % 1024) → (told_at room j ≡ 0 → ⊥) → LineUsed j
     used-of c d =
         let t : ℕ = start_at room j / 2048 in
         let small : start_at room j / 2048 < n = depth_small n lines room holds j l in
         let k = known (start_at room j / 2048) (start_at room j / 2 % 1024) (omega (arith, small)) c in
-        let x = known_on (start_at room j / 2048) (start_at room j / 2 % 1024) (start_at room j % 2) (leadAt room j) small (omega arith) (line-branch n lines room holds j l) k.0 k.1 k.2 in
-        let e : toldAt room j ≡ follows (sectionOf rows (start_at room j / 2048)) k.0 (bit_xor (start_at room j % 2) (bit mask (start_at room j / 2048))) = (told j (omega arith) l).tells.from _ x.0 x.1 in
-        let f = way-there (follows (sectionOf rows (start_at room j / 2048)) k.0 (bit_xor (start_at room j % 2) (bit mask (start_at room j / 2048)))) x.0 (λ z. d (e ∙ z)) x.1 in
-        let u = through (theirs n lines room) n ends (n - suc (start_at room j / 2048)) (start_at room j / 2048) (start_at room j / 2 % 1024) (start_at room j % 2) (leadAt room j) f.0 (omega (arith, small)) (omega arith) c (line-branch n lines room holds j l) f.1 in
-        record { word = u.0; path = u.1; state-is = u.2; bit_is = u.3 }
+        let x = known_on (start_at room j / 2048) (start_at room j / 2 % 1024) (start_at room j % 2) (lead_at room j) small (omega arith) (line-branch n lines room holds j l) k.0 k.1 k.2 in
+        let e : told_at room j ≡ follows (section_of rows (start_at room j / 2048)) k.0 (bit_xor (start_at room j % 2) (bit mask (start_at room j / 2048))) = (told j (omega arith) l).tells.from _ x.0 x.1 in
+        let f = way-there (follows (section_of rows (start_at room j / 2048)) k.0 (bit_xor (start_at room j % 2) (bit mask (start_at room j / 2048)))) x.0 (λ z. d (e ∙ z)) x.1 in
+        let u = through (theirs n lines room) n ends (n - suc (start_at room j / 2048)) (start_at room j / 2048) (start_at room j / 2 % 1024) (start_at room j % 2) (lead_at room j) f.0 (omega (arith, small)) (omega arith) c (line-branch n lines room holds j l) f.1 in
+        record { word = u.0; path = u.1; state_is = u.2; bit_is = u.3 }
 
-    pub of-used : LineUsed j → Chain (theirs n lines room) (start_at room j / 2048) (start_at room j / 2 % 1024) × (toldAt room j ≡ 0 → ⊥)
+    pub of-used : LineUsed j → Chain (theirs n lines room) (start_at room j / 2048) (start_at room j / 2 % 1024) × (told_at room j ≡ 0 → ⊥)
     of-used u = (chain, dead)
       where
         small : start_at room j / 2048 < n
@@ -138,14 +138,14 @@ module _ (rows : List ℕ) (mask n : ℕ) (room : List ℕ) (lines : ℕ) (o : O
 
         chain : Chain (theirs n lines room) (start_at room j / 2048) (start_at room j / 2 % 1024)
         chain =
-            subst (Chain (theirs n lines room) (start_at room j / 2048)) u.state-is
+            subst (Chain (theirs n lines room) (start_at room j / 2048)) u.state_is
             (path-chain (theirs n lines room) n u.word u.path (omega (arith, ends.start, u.path.inside 0 (omega arith))) (start_at room j / 2048) (omega (arith, small)))
 
-        dead : toldAt room j ≡ 0 → ⊥
+        dead : told_at room j ≡ 0 → ⊥
         dead z =
             let p = path-line n lines room holds u.word u.path (start_at room j / 2048) small in
-            let q : p.0 ≡ j = one_line n lines room holds p.0 j p.1 l (p.2 ∙ ap (λ (a : ℕ). a) (keys u.state-is u.bit_is) ∙ sym (start_is n lines room holds j)) in
-            let e : u.path.state (suc (start_at room j / 2048)) ≡ leadAt room j = sym p.3 ∙ ap (leadAt room) q in
+            let q : p.0 ≡ j = one_line n lines room holds p.0 j p.1 l (p.2 ∙ ap (λ (a : ℕ). a) (keys u.state_is u.bit_is) ∙ sym (start_is n lines room holds j)) in
+            let e : u.path.state (suc (start_at room j / 2048)) ≡ lead_at room j = sym p.3 ∙ ap (lead_at room) q in
             let f = suffix-way (theirs n lines room) n u.word u.path ends.end (n - suc (start_at room j / 2048)) (suc (start_at room j / 2048)) (omega (arith, small)) in
             ((told j (omega arith) l).tells.to 0 (omega arith) z f.0).0 (subst (λ (v : ℕ). Way (theirs n lines room) (n - suc (start_at room j / 2048)) (suc (start_at room j / 2048)) v f.0) e f.1)
           where

@@ -12,7 +12,7 @@ use native.Mathlib.Omega.{arith}
 use Prim.Native.Nat.{◌*◌, ◌+◌, ◌-◌, ◌<◌, ◌^◌, suc, zero, ℕ, ◌≤◌}
 use Rattle.trellises.specs.declared.Section.{Section}
 use Rattle.trellises.specs.Graph.{Graph}
-use Rattle.trellises.specs.SectionOf.{held, sectionOf}
+use Rattle.trellises.specs.SectionOf.{held, section_of}
 use Rattle.words.proofs.Word.{bit-lt}
 use Rattle.words.specs.Word.{bit}
 use Rattle.judging.proofs.Differing.{differs-on, differs-ours, differs-theirs}
@@ -21,14 +21,14 @@ use Rattle.judging.proofs.Tells.{same-both}
 use Rattle.judging.proofs.Theirs.{line-leads}
 use Rattle.judging.specs.declared.walking.Place.{Place}
 use Rattle.judging.specs.Ours.{Small, follows, ours}
-use Rattle.judging.specs.Room.{Holds, LineFrom, Within, leadNumber, theirs, toldNumber}
+use Rattle.judging.specs.Room.{Holds, LineFrom, Within, lead_number, theirs, told_number}
 use Rattle.judging.specs.Steps.{SteppedTo, Stepping}
 use Rattle.judging.specs.Ways.{Differs, From, Leads, Same}
 
-lead-most : (n : ℕ) (room : List ℕ) (lines : ℕ) → Holds n lines room → (j : ℕ) → leadNumber room lines j ≤ 1024
+lead-most : (n : ℕ) (room : List ℕ) (lines : ℕ) → Holds n lines room → (j : ℕ) → lead_number room lines j ≤ 1024
 lead-most n room lines h j = go (dec_lt j lines)
   where
-    go : Dec (j < lines) → leadNumber room lines j ≤ 1024
+    go : Dec (j < lines) → lead_number room lines j ≤ 1024
     go (yes d) = rw (lt-ltb j lines d) (omega (arith, h.leads j d))
     go (no d) = rw (le-ltb j lines (omega (arith, d))) (omega arith)
 
@@ -39,71 +39,71 @@ module _ {rows : List ℕ} {mask n : ℕ} {room : List ℕ} {lines t u y : ℕ} 
     p.asking.ready.holds.size,
     record {
       depth_small = omega (arith, p.before, p.asking.ready.holds.short);
-      state-small = omega (arith, p.theirs-small);
-      bit-small = two;
+      state_small = omega (arith, p.theirs_small);
+      bit_small = two;
     },
   )
 
-  pub step-follow : {c : Section} → c ≡ held (sectionOf rows t) → Small c × (y ≤ 2 ^ c.live)
+  pub step-follow : {c : Section} → c ≡ held (section_of rows t) → Small c × (y ≤ 2 ^ c.live)
   step-follow {c} e =
       (section-small p.asking.ready.plate t p.before c e, omega (arith, states-are p.asking.ready.plate t p.before c e, p.ours_small))
 
-module _ (rows : List ℕ) (mask n : ℕ) (room : List ℕ) (lines t u y : ℕ) (p : Stepping rows mask n room lines t u y) (c : Section) (ec : c ≡ held (sectionOf rows t)) where
+module _ (rows : List ℕ) (mask n : ℕ) (room : List ℕ) (lines t u y : ℕ) (p : Stepping rows mask n room lines t u y) (c : Section) (ec : c ≡ held (section_of rows t)) where
   one_more : suc (n - suc t) ≡ n - t
   one_more = omega (arith, p.before)
 
   -- our branch, as the code finds it
   our-branch-leads : (b z : ℕ) → b < 2 → z ≡ follows c y (bit_xor b (bit mask t)) → Leads (ours rows mask) t y b z × (z ≤ (ours rows mask).states (suc t))
   our-branch-leads b z two e =
-      let q : follows (sectionOf rows t) y (bit_xor b (bit mask t)) ≡ z =
+      let q : follows (section_of rows t) y (bit_xor b (bit mask t)) ≡ z =
       sym (e ∙ ap (λ (c : Section). follows c y (bit_xor b (bit mask t))) (section-is p.asking.ready.plate t p.before c ec)) in (
         subst (Leads (ours rows mask) t y b) q (leads-ours p.asking.ready.plate t y b p.before p.ours_small two),
         subst (λ (z : ℕ). z ≤ (ours rows mask).states (suc t)) q (follows-small p.asking.ready.plate t y (bit_xor b (bit mask t)) p.before p.ours_small (xor_lt 1 b (bit mask t) two (bit-lt t mask))),
       )
 
   -- theirs
-  their-leads : (b j : ℕ) → b < 2 → LineFrom room lines t u b j → Leads (theirs n lines room) t u b (leadNumber room lines j)
-  their-leads b j two l = line-leads n lines room p.asking.ready.holds t u b j p.theirs-small two l
+  their-leads : (b j : ℕ) → b < 2 → LineFrom room lines t u b j → Leads (theirs n lines room) t u b (lead_number room lines j)
+  their-leads b j two l = line-leads n lines room p.asking.ready.holds t u b j p.theirs_small two l
 
   module _ (j0 z0 : ℕ) (l0 : LineFrom room lines t u 0 j0) (e0 : z0 ≡ follows c y (bit_xor 0 (bit mask t))) where
     -- what the ways with 0 tell
-    told-zero : toldNumber room lines j0 ≡ z0 → Same (theirs n lines room) (ours rows mask) (n - suc t) (suc t) (leadNumber room lines j0) z0
+    told-zero : told_number room lines j0 ≡ z0 → Same (theirs n lines room) (ours rows mask) (n - suc t) (suc t) (lead_number room lines j0) z0
     told-zero q =
-        (line-told p.asking.ready.plate room lines p.asking.ready.holds t p.before (p.asking.told p.before) u 0 j0 p.theirs-small (omega arith) l0
+        (line-told p.asking.ready.plate room lines p.asking.ready.holds t p.before (p.asking.told p.before) u 0 j0 p.theirs_small (omega arith) l0
         ).to z0 (our-branch-leads 0 z0 (omega arith) e0).1 q
 
-    zero-told : Same (theirs n lines room) (ours rows mask) (n - suc t) (suc t) (leadNumber room lines j0) z0 → toldNumber room lines j0 ≡ z0
+    zero-told : Same (theirs n lines room) (ours rows mask) (n - suc t) (suc t) (lead_number room lines j0) z0 → told_number room lines j0 ≡ z0
     zero-told q =
-        (line-told p.asking.ready.plate room lines p.asking.ready.holds t p.before (p.asking.told p.before) u 0 j0 p.theirs-small (omega arith) l0
+        (line-told p.asking.ready.plate room lines p.asking.ready.holds t p.before (p.asking.told p.before) u 0 j0 p.theirs_small (omega arith) l0
         ).from z0 (our-branch-leads 0 z0 (omega arith) e0).1 q
 
     -- they differ: the walk takes 0
-    pub step-zero : (toldNumber room lines j0 ≡ z0 → ⊥) → (lead : ℕ) → lead ≡ leadNumber room lines j0
+    pub step-zero : (told_number room lines j0 ≡ z0 → ⊥) → (lead : ℕ) → lead ≡ lead_number room lines j0
         → SteppedTo (theirs n lines room) (ours rows mask) n t u y (record { theirs = lead; ours = z0; bit = 0 })
     step-zero d lead e = subst (λ (k : ℕ). SteppedTo (theirs n lines room) (ours rows mask) n t u y (record { theirs = k; ours = z0; bit = 0 })) (sym e) (record {
-      theirs-small = lead-most n room lines p.asking.ready.holds j0;
+      theirs_small = lead-most n room lines p.asking.ready.holds j0;
       ours_small = (our-branch-leads 0 z0 (omega arith) e0).1;
-      bit-small = omega arith;
+      bit_small = omega arith;
       apart = λ a s. d (zero-told s);
       on = λ r s a f. subst (λ (k : ℕ). Differs (theirs n lines room) (ours rows mask) k t u y (r * 2 + 0) s) one_more
-          (differs-on (theirs n lines room) (ours rows mask) (n - suc t) t u y (leadNumber room lines j0) z0 0 (leadNumber room lines j0) z0 r s (omega arith)
+          (differs-on (theirs n lines room) (ours rows mask) (n - suc t) t u y (lead_number room lines j0) z0 0 (lead_number room lines j0) z0 r s (omega arith)
           (their-leads 0 j0 (omega arith) l0) (our-branch-leads 0 z0 (omega arith) e0).0 (λ q. absurd (omega (arith, q)))
           (their-leads 0 j0 (omega arith) l0) (our-branch-leads 0 z0 (omega arith) e0).0 f);
     })
 
     -- they are the same: it takes 1
-    pub step-one : toldNumber room lines j0 ≡ z0 → (j1 z1 lead : ℕ) → LineFrom room lines t u 1 j1 → z1 ≡ follows c y (bit_xor 1 (bit mask t)) → lead ≡ leadNumber room lines j1
+    pub step-one : told_number room lines j0 ≡ z0 → (j1 z1 lead : ℕ) → LineFrom room lines t u 1 j1 → z1 ≡ follows c y (bit_xor 1 (bit mask t)) → lead ≡ lead_number room lines j1
         → SteppedTo (theirs n lines room) (ours rows mask) n t u y (record { theirs = lead; ours = z1; bit = 1 })
     step-one q j1 z1 lead l1 e1 e = subst (λ (k : ℕ). SteppedTo (theirs n lines room) (ours rows mask) n t u y (record { theirs = k; ours = z1; bit = 1 })) (sym e) (record {
-      theirs-small = lead-most n room lines p.asking.ready.holds j1;
+      theirs_small = lead-most n room lines p.asking.ready.holds j1;
       ours_small = (our-branch-leads 1 z1 (omega arith) e1).1;
-      bit-small = omega arith;
+      bit_small = omega arith;
       apart = λ a s. a (subst (λ (k : ℕ). Same (theirs n lines room) (ours rows mask) k t u y) one_more
-          (same-both (theirs n lines room) (ours rows mask) (n - suc t) t u (leadNumber room lines j0) (leadNumber room lines j1)
+          (same-both (theirs n lines room) (ours rows mask) (n - suc t) t u (lead_number room lines j0) (lead_number room lines j1)
           (their-leads 0 j0 (omega arith) l0) (their-leads 1 j1 (omega arith) l1) y z0 z1
           (our-branch-leads 0 z0 (omega arith) e0).0 (our-branch-leads 1 z1 (omega arith) e1).0 (told-zero q) s));
       on = λ r s a f. subst (λ (k : ℕ). Differs (theirs n lines room) (ours rows mask) k t u y (r * 2 + 1) s) one_more
-          (differs-on (theirs n lines room) (ours rows mask) (n - suc t) t u y (leadNumber room lines j0) z0 1 (leadNumber room lines j1) z1 r s (omega arith)
+          (differs-on (theirs n lines room) (ours rows mask) (n - suc t) t u y (lead_number room lines j0) z0 1 (lead_number room lines j1) z1 r s (omega arith)
           (their-leads 0 j0 (omega arith) l0) (our-branch-leads 0 z0 (omega arith) e0).0 (λ x. told-zero q)
           (their-leads 1 j1 (omega arith) l1) (our-branch-leads 1 z1 (omega arith) e1).0 f);
     })
@@ -113,7 +113,7 @@ module _ (rows : List ℕ) (mask n : ℕ) (room : List ℕ) (lines t u y : ℕ) 
 -- the walk stands before section t: the word so far, and two numbers whose ways differ
 pub record Walked (A B : Graph) (n t u y word : ℕ) : Type 0 where
   pub within : t ≤ n
-  pub theirs-small : u ≤ 1024
+  pub theirs_small : u ≤ 1024
   pub ours_small : y ≤ B.states t
   pub word_small : word < 2 ^ t
   pub apart : Same A B (n - t) t u y → ⊥
@@ -122,7 +122,7 @@ pub record Walked (A B : Graph) (n t u y word : ℕ) : Type 0 where
 pub walked_start : (A B : Graph) (n : ℕ) → B.states 0 ≡ 1 → (Same A B n 0 1 1 → ⊥) → Walked A B n 0 1 1 0
 walked_start A B n e d = record {
   within = omega arith;
-  theirs-small = omega arith;
+  theirs_small = omega arith;
   ours_small = omega (arith, e);
   word_small = omega arith;
   apart = λ s. d (subst (λ (k : ℕ). Same A B k 0 1 1) z s);
@@ -138,7 +138,7 @@ pub walked_on : (A B : Graph) (n t u y word : ℕ) → t < n → Walked A B n t 
     → (w : ℕ) → w ≡ word + p.bit * 2 ^ t → w < 2 ^ suc t → Walked A B n (t + 1) p.theirs p.ours w
 walked_on A B n t u y word l k p s w e m = subst (λ (x : ℕ). Walked A B n x p.theirs p.ours w) (suc_one t) (record {
   within = l;
-  theirs-small = s.theirs-small;
+  theirs_small = s.theirs_small;
   ours_small = s.ours_small;
   word_small = m;
   apart = s.apart k.apart;

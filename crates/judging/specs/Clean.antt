@@ -3,14 +3,14 @@ use Rattle.std.specs.Prelude.{get_or, length, false, List, ◌≡◌, ◌<◌, �
 use Rattle.sheets.specs.declared.listed.Branch.{Branch}
 use Rattle.sheets.specs.declared.listed.BranchLine.{BranchLine}
 use Rattle.sheets.specs.declared.listed.BranchLine.TheVariants.{Bad, Is}
-use Rattle.judging.specs.Listing.{faultyAt, repeatsAt}
+use Rattle.judging.specs.Listing.{faulty_at, repeats_at}
 
 -- a branch of a listing against a plate of length n
 pub record Ranged (n : ℕ) (b : Branch) : Type 0 where
   pub depth_small : b.depth < n
-  pub from-small : b.from < 1024
-  pub bit-small : b.bit < 2
-  pub to-small : b.to < 1024
+  pub from_small : b.from < 1024
+  pub bit_small : b.bit < 2
+  pub to_small : b.to < 1024
 
 -- a line says a branch in range, or is bad
 abbrev pub RangedLine : ℕ → BranchLine → Type 0
@@ -22,5 +22,5 @@ pub record Clean (n : ℕ) (es : List BranchLine) : Type 0 where
   pub few : length es ≤ 1024
   pub short : n ≤ 64
   pub ranged : (i : ℕ) → RangedLine n (get_or es i Bad)
-  pub faultless : (i : ℕ) → i < length es → faultyAt es i ≡ false
-  pub single : (i : ℕ) → i < length es → repeatsAt es i ≡ false
+  pub faultless : (i : ℕ) → i < length es → faulty_at es i ≡ false
+  pub single : (i : ℕ) → i < length es → repeats_at es i ≡ false

@@ -8,30 +8,30 @@ use Rattle.trellises.specs.Graph as Graphs
 
 -- ---- lines
 
-abbrev pub noBranch : Branch
-noBranch = record { depth = 0; from = 0; bit = 0; to = 0 }
+abbrev pub no_branch : Branch
+no_branch = record { depth = 0; from = 0; bit = 0; to = 0 }
 
 -- the branch of a line
-abbrev pub branchIn : BranchLine → Branch
-branchIn (Is b) = b
-branchIn Bad = noBranch
+abbrev pub branch_in : BranchLine → Branch
+branch_in (Is b) = b
+branch_in Bad = no_branch
 
 -- the branch of line i, from 0
-abbrev pub branchAt : List BranchLine → ℕ → Branch
-branchAt es i = branchIn (get_or es i Bad)
+abbrev pub branch_at : List BranchLine → ℕ → Branch
+branch_at es i = branch_in (get_or es i Bad)
 
 -- the depth of the line before line i, and 0 before the first
-abbrev pub depthBefore : List BranchLine → ℕ → ℕ
-depthBefore es zero = 0
-depthBefore es (suc i) = (branchAt es i).depth
+abbrev pub depth_before : List BranchLine → ℕ → ℕ
+depth_before es zero = 0
+depth_before es (suc i) = (branch_at es i).depth
 
 -- a line is faulty where it is bad or its depth is below that of the line before it
 abbrev pub faulty : BranchLine → ℕ → Bool
 faulty (Is b) before = ltb b.depth before
 faulty Bad before = true
 
-abbrev pub faultyAt : List BranchLine → ℕ → Bool
-faultyAt es i = faulty (get_or es i Bad) (depthBefore es i)
+abbrev pub faulty_at : List BranchLine → ℕ → Bool
+faulty_at es i = faulty (get_or es i Bad) (depth_before es i)
 
 -- two branches with one bit leaving one state of one depth
 abbrev pub clash : Branch → Branch → Bool
@@ -41,17 +41,17 @@ clash a b = cond (eqb a.depth b.depth) (cond (eqb a.from b.from) (eqb a.bit b.bi
 abbrev pub clashes : List BranchLine → ℕ → Branch → Bool
 clashes [] i b = false
 clashes (e ∷ es) zero b = false
-clashes (e ∷ es) (suc i) b = cond (clash (branchIn e) b) true (clashes es i b)
+clashes (e ∷ es) (suc i) b = cond (clash (branch_in e) b) true (clashes es i b)
 
 -- a line repeats one before it
-abbrev pub repeatsAt : List BranchLine → ℕ → Bool
-repeatsAt es i = clashes es i (branchAt es i)
+abbrev pub repeats_at : List BranchLine → ℕ → Bool
+repeats_at es i = clashes es i (branch_at es i)
 
 -- ---- the graph
 
-abbrev pub branchesOf : List BranchLine → List Branch
-branchesOf [] = []
-branchesOf (e ∷ es) = branchIn e ∷ branchesOf es
+abbrev pub branches_of : List BranchLine → List Branch
+branches_of [] = []
+branches_of (e ∷ es) = branch_in e ∷ branches_of es
 
 -- one branch more in a section, where it is of that depth
 abbrev pub with : Bool → Graphs.Branch → List Graphs.Branch → List Graphs.Branch
@@ -59,10 +59,10 @@ with true b bs = b ∷ bs
 with false b bs = bs
 
 -- the branches of a section
-abbrev pub sectionAt : ℕ → List Branch → List Graphs.Branch
-sectionAt t [] = []
-sectionAt t (b ∷ bs) = with (eqb b.depth t) (record { from = b.from; out = b.bit; to = b.to }) (sectionAt t bs)
+abbrev pub section_at : ℕ → List Branch → List Graphs.Branch
+section_at t [] = []
+section_at t (b ∷ bs) = with (eqb b.depth t) (record { from = b.from; out = b.bit; to = b.to }) (section_at t bs)
 
 -- start and end are state 0; the states between are 0 to 1023
-abbrev pub listedGraph : ℕ → List Branch → Graph
-listedGraph n bs = record { states = λ t. cond (eqb t 0 || eqb t n) 1 1024; branches = λ t. sectionAt t bs }
+abbrev pub listed_graph : ℕ → List Branch → Graph
+listed_graph n bs = record { states = λ t. cond (eqb t 0 || eqb t n) 1 1024; branches = λ t. section_at t bs }

@@ -18,7 +18,7 @@ pub record OfPlate (rows : List ℕ) (mask n : ℕ) : Type 0 where
   pub sound : Sound plate
   pub rows_are : rows_of plate ≡ rows
   pub mask_is : plate.mask ≡ mask
-  pub length-is : plate.n ≡ n
+  pub length_is : plate.n ≡ n
 
 abbrev pub ours : List ℕ → ℕ → Graph
 ours rows mask = masked mask (trellis rows (firsts rows) (lasts rows))

@@ -4,7 +4,7 @@ use Rattle.std.specs.Prelude.{eqb, ltb, get_or, length, Bool, cond, List, [], �
 use Rattle.sheets.specs.declared.listed.Branch.{Branch}
 use Rattle.sheets.specs.declared.listed.BranchLine.{BranchLine}
 use Rattle.trellises.specs.Graph.{Graph}
-use Rattle.judging.specs.Listing.{branchAt, listedGraph}
+use Rattle.judging.specs.Listing.{branch_at, listed_graph}
 use Rattle.judging.specs.Ours.{ours}
 use Rattle.judging.specs.Ways.{Tells}
 use Rattle.judging.specs.Working.{FirstFound}
@@ -15,51 +15,51 @@ key_of depth state bit = depth * 2048 + state * 2 + bit
 
 pub record Within (depth state bit : ℕ) : Type 0 where
   pub depth_small : depth < 64
-  pub state-small : state < 1024
-  pub bit-small : bit < 2
+  pub state_small : state < 1024
+  pub bit_small : bit < 2
 
 -- a branch whose numbers fit
 pub record InRange (b : Branch) : Type 0 where
   pub start : Within b.depth b.from b.bit
-  pub to-small : b.to < 1024
+  pub to_small : b.to < 1024
 
 abbrev pub AllInRange : List BranchLine → Type 0
-AllInRange es = (i : ℕ) → i < length es → InRange (branchAt es i)
+AllInRange es = (i : ℕ) → i < length es → InRange (branch_at es i)
 
 -- ---- the places of a line
 
 abbrev pub start_at : List ℕ → ℕ → ℕ
 start_at room i = get_or room (4 * i) 0
 
-abbrev pub leadAt : List ℕ → ℕ → ℕ
-leadAt room i = get_or room (4 * i + 1) 0
+abbrev pub lead_at : List ℕ → ℕ → ℕ
+lead_at room i = get_or room (4 * i + 1) 0
 
-abbrev pub toldAt : List ℕ → ℕ → ℕ
-toldAt room i = get_or room (4 * i + 2) 0
+abbrev pub told_at : List ℕ → ℕ → ℕ
+told_at room i = get_or room (4 * i + 2) 0
 
 -- a branch in the places of a line, and all other lines' places as they were
 pub record Put (room : List ℕ) (line : ℕ) (b : Branch) (room' : List ℕ) : Type 0 where
   pub size : length room' ≡ length room
   pub start : start_at room' line ≡ key_of b.depth b.from b.bit
-  pub lead : leadAt room' line ≡ b.to
+  pub lead : lead_at room' line ≡ b.to
   pub others : (k : ℕ) → (k < 4 * line) ⊎ (4 * line + 4 ≤ k) → get_or room' k 0 ≡ get_or room k 0
 
 -- the branches of the first m lines stand in their places
 pub record Stored (es : List BranchLine) (m : ℕ) (room : List ℕ) : Type 0 where
-  pub start : (i : ℕ) → i < m → start_at room i ≡ key_of (branchAt es i).depth (branchAt es i).from (branchAt es i).bit
-  pub lead : (i : ℕ) → i < m → leadAt room i ≡ (branchAt es i).to
+  pub start : (i : ℕ) → i < m → start_at room i ≡ key_of (branch_at es i).depth (branch_at es i).from (branch_at es i).bit
+  pub lead : (i : ℕ) → i < m → lead_at room i ≡ (branch_at es i).to
 
 -- ---- the graph that the room holds
 
 abbrev pub decoded : List ℕ → ℕ → Branch
-decoded room i = record { depth = start_at room i / 2048; from = start_at room i / 2 % 1024; bit = start_at room i % 2; to = leadAt room i }
+decoded room i = record { depth = start_at room i / 2048; from = start_at room i / 2 % 1024; bit = start_at room i % 2; to = lead_at room i }
 
 abbrev pub listed : ℕ → (ℕ → Branch) → List Branch
 listed zero F = []
 listed (suc m) F = F 0 ∷ listed m (λ i. F (suc i))
 
 abbrev pub theirs : ℕ → ℕ → List ℕ → Graph
-theirs n lines room = listedGraph n (listed lines (decoded room))
+theirs n lines room = listed_graph n (listed lines (decoded room))
 
 -- what stands in the room: branches in range and in order of depth, none of which repeats another
 pub record Holds (n lines : ℕ) (room : List ℕ) : Type 0 where
@@ -67,30 +67,30 @@ pub record Holds (n lines : ℕ) (room : List ℕ) : Type 0 where
   pub few : lines ≤ 1024
   pub short : n ≤ 64
   pub starts : (i : ℕ) → i < lines → start_at room i < n * 2048
-  pub leads : (i : ℕ) → i < lines → leadAt room i < 1024
+  pub leads : (i : ℕ) → i < lines → lead_at room i < 1024
   pub order : (i j : ℕ) → i < j → j < lines → start_at room i / 2048 ≤ start_at room j / 2048
   pub apart : (i j : ℕ) → i < j → j < lines → start_at room i ≡ start_at room j → ⊥
 
 -- ---- looking a branch up
 
-abbrev pub keyTest : List ℕ → ℕ → ℕ → Bool
-keyTest room key j = eqb (start_at room j) key
+abbrev pub key_test : List ℕ → ℕ → ℕ → Bool
+key_test room key j = eqb (start_at room j) key
 
 -- the line of the branch with a bit from a number, and the number of lines where there is none
 pub record LineFrom (room : List ℕ) (lines t u b r : ℕ) : Type 0 where
   pub none : u ≡ 0 → r ≡ lines
-  pub some : (v : ℕ) → u ≡ suc v → FirstFound lines (keyTest room (key_of t v b)) r
+  pub some : (v : ℕ) → u ≡ suc v → FirstFound lines (key_test room (key_of t v b)) r
 
 -- where the branch of a line leads, and what is told of it; 0 where there is no such line
-abbrev pub leadNumber : List ℕ → ℕ → ℕ → ℕ
-leadNumber room lines j = cond (ltb j lines) (suc (leadAt room j)) 0
+abbrev pub lead_number : List ℕ → ℕ → ℕ → ℕ
+lead_number room lines j = cond (ltb j lines) (suc (lead_at room j)) 0
 
-abbrev pub toldNumber : List ℕ → ℕ → ℕ → ℕ
-toldNumber room lines j = cond (ltb j lines) (toldAt room j) 0
+abbrev pub told_number : List ℕ → ℕ → ℕ → ℕ
+told_number room lines j = cond (ltb j lines) (told_at room j) 0
 
 -- what is told at a line is right
 pub record ToldAt (g : Graph) (rows : List ℕ) (mask n : ℕ) (room : List ℕ) (j : ℕ) : Type 0 where
-  pub tells : Tells g (ours rows mask) (n - suc (start_at room j / 2048)) (suc (start_at room j / 2048)) (suc (leadAt room j)) (toldAt room j)
+  pub tells : Tells g (ours rows mask) (n - suc (start_at room j / 2048)) (suc (start_at room j / 2048)) (suc (lead_at room j)) (told_at room j)
 
 -- it is right at each line of a depth
 abbrev pub ToldIn : ℕ → ℕ → List ℕ → ℕ → List ℕ → ℕ → Type 0
@@ -104,7 +104,7 @@ ToldFrom g rows mask n lines room i = (j : ℕ) → i ≤ j → j < lines → To
 pub record SameLines (lines : ℕ) (room room' : List ℕ) : Type 0 where
   pub size : length room' ≡ length room
   pub start : (i : ℕ) → i < lines → start_at room' i ≡ start_at room i
-  pub lead : (i : ℕ) → i < lines → leadAt room' i ≡ leadAt room i
+  pub lead : (i : ℕ) → i < lines → lead_at room' i ≡ lead_at room i
 
 -- right from the first line on, of the branches that stood there
 pub record AllTold (n lines : ℕ) (rows : List ℕ) (mask : ℕ) (room room' : List ℕ) : Type 0 where

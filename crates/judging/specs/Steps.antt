@@ -11,7 +11,7 @@ use Rattle.judging.specs.Ours.{OfPlate, ours}
 use Rattle.judging.specs.Room.{Holds, ToldFrom, ToldIn, theirs}
 use Rattle.judging.specs.Surplus.{SurplusIn}
 use Rattle.judging.specs.Ways.{Differs, Same}
-use Rattle.judging.specs.Marks.{MarkRight, markAt}
+use Rattle.judging.specs.Marks.{MarkRight, mark_at}
 
 -- the rows and the mask of a plate, and a listing in the room
 pub record Ready (rows : List ℕ) (mask n : ℕ) (room : List ℕ) (lines : ℕ) : Type 0 where
@@ -28,14 +28,14 @@ pub record Asking (rows : List ℕ) (mask n : ℕ) (room : List ℕ) (lines t : 
 pub record Stepping (rows : List ℕ) (mask n : ℕ) (room : List ℕ) (lines t u y : ℕ) : Type 0 where
   pub asking : Asking rows mask n room lines t
   pub before : t < n
-  pub theirs-small : u ≤ 1024
+  pub theirs_small : u ≤ 1024
   pub ours_small : y ≤ (ours rows mask).states t
 
 -- and what it gives: the next numbers, which differ where these do, and whose earliest difference makes that of these
 pub record SteppedTo (A B : Graph) (n t u y : ℕ) (p : Place) : Type 0 where
-  pub theirs-small : p.theirs ≤ 1024
+  pub theirs_small : p.theirs ≤ 1024
   pub ours_small : p.ours ≤ B.states (suc t)
-  pub bit-small : p.bit < 2
+  pub bit_small : p.bit < 2
   pub apart : (Same A B (n - t) t u y → ⊥) → Same A B (n - suc t) (suc t) p.theirs p.ours → ⊥
   pub on : (r : ℕ) (s : Bool) → (Same A B (n - t) t u y → ⊥) → Differs A B (n - suc t) (suc t) p.theirs p.ours r s
       → Differs A B (n - t) t u y (r * 2 + p.bit) s
@@ -72,7 +72,7 @@ pub record SurplusAsks (rows : List ℕ) (n : ℕ) (room : List ℕ) (lines : �
   pub mask : ℕ
   pub asks : VerdictAsks rows mask n room lines
   pub right : Same (theirs n lines room) (ours rows mask) n 0 1 1
-  pub marks : (j : ℕ) → j < lines → MarkRight (theirs n lines room) room (markAt room j) j
+  pub marks : (j : ℕ) → j < lines → MarkRight (theirs n lines room) room (mark_at room j) j
 
 -- where the verdict is right
 abbrev pub SurplusFor : Judged → List ℕ → ℕ → List ℕ → ℕ → Type 0

@@ -1,8 +1,8 @@
 -- The surplus of a right listing over our trellis: states by depth and branches by section, those on full paths.
 use Rattle.std.specs.Prelude.{get_or, length, replicate, List, ◌≡◌, ◌*◌, ◌+◌, ◌<◌, ◌^◌, ℕ, ◌≤◌}
-use Rattle.plates.specs.Profile.{liveAt}
+use Rattle.plates.specs.Profile.{live_at}
 use Rattle.trellises.specs.Graph.{Graph, Path}
-use Rattle.trellises.specs.Smallest.{activeAt}
+use Rattle.trellises.specs.Smallest.{active_at}
 use Rattle.words.specs.Word.{bit}
 use Rattle.judging.specs.declared.Judged.{Judged}
 use Rattle.judging.specs.declared.Judged.TheVariants.{NotSpelled, Refused, Right, SpelledWrongly}
@@ -31,10 +31,10 @@ pub record BranchOn (g : Graph) (n t k : ℕ) : Type 0 where
 pub record SurplusOver (g : Graph) (n : ℕ) (rows states branches : List ℕ) : Type 0 where
   pub depths : length states ≡ 65
   pub sections : length branches ≡ 64
-  pub state : (t : ℕ) → t ≤ n → Number (StateOn g n t) (2 ^ liveAt rows t + get_or states t 0)
-  pub branch : (t : ℕ) → t < n → Number (BranchOn g n t) (2 ^ activeAt rows t + get_or branches t 0)
-  pub no-depth : (t : ℕ) → n < t → get_or states t 0 ≡ 0
-  pub no-section : (t : ℕ) → n ≤ t → get_or branches t 0 ≡ 0
+  pub state : (t : ℕ) → t ≤ n → Number (StateOn g n t) (2 ^ live_at rows t + get_or states t 0)
+  pub branch : (t : ℕ) → t < n → Number (BranchOn g n t) (2 ^ active_at rows t + get_or branches t 0)
+  pub no_depth : (t : ℕ) → n < t → get_or states t 0 ≡ 0
+  pub no_section : (t : ℕ) → n ≤ t → get_or branches t 0 ≡ 0
 
 -- a right listing has its surplus, and all others none
 abbrev pub SurplusIn : Graph → ℕ → List ℕ → Judged → List ℕ → List ℕ → Type 0

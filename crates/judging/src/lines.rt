@@ -1,14 +1,14 @@
 // The lines of a listing, read one after the other: how many there are, and the first that is faulty or repeats a branch.
 ghost use Rattle.std.specs.Prelude.{◌≤◌, length, ◌≡◌};
 ghost use Rattle.sheets.specs.Listed.{entries};
-ghost use Rattle.judging.specs.Listing.{branchIn, clash, clashes, faulty, faultyAt, repeatsAt};
+ghost use Rattle.judging.specs.Listing.{branch_in, clash, clashes, faulty, faulty_at, repeats_at};
 ghost use Rattle.judging.specs.Working.{FirstFound};
 
 use sheets::listed::{Branch, BranchLine, read_entry};
 
 // The branch of a line, all 0 where it is bad.
 pub fn branch_in(line: BranchLine) -> Branch
-    ensures { result ≡ branchIn line }
+    ensures { result ≡ branch_in line }
 {
     match line {
         BranchLine::Is(branch) => branch,
@@ -47,7 +47,7 @@ fn is_faulty(line: BranchLine, before: usize) -> bool
 
 // The first faulty line, from 0; the number of lines where there is none.
 pub fn first_faulty(text: &[u8], n: usize) -> usize
-    ensures { FirstFound (length (entries n text.now)) (faultyAt (entries n text.now)) result }
+    ensures { FirstFound (length (entries n text.now)) (faulty_at (entries n text.now)) result }
 {
     let mut i: usize = 0;
     let mut at: usize = 0;
@@ -101,7 +101,7 @@ fn clashes_among(text: &[u8], n: usize, first: usize, branch: Branch) -> bool
 
 // The first line that repeats one before it, from 0; the number of lines where there is none.
 pub fn first_repeating(text: &[u8], n: usize) -> usize
-    ensures { FirstFound (length (entries n text.now)) (repeatsAt (entries n text.now)) result }
+    ensures { FirstFound (length (entries n text.now)) (repeats_at (entries n text.now)) result }
 {
     let mut i: usize = 0;
     let mut at: usize = 0;

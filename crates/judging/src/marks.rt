@@ -1,7 +1,7 @@
 // The lines that are on full paths: marked from the first to the last, and counted.
 ghost use Rattle.std.specs.Prelude.{◌*◌, ◌+◌, ◌<◌, ◌≤◌, ◌^◌, length, ◌≡◌};
 ghost use Rattle.words.specs.Choice.{count, more};
-ghost use Rattle.judging.specs.Marks.{AllMarked, firstTest, markFor, reachTest, sameTest, usedTest};
+ghost use Rattle.judging.specs.Marks.{AllMarked, first_test, mark_for, reach_test, same_test, used_test};
 
 // One more where a test passes.
 fn raised(count: usize, passes: bool) -> usize
@@ -17,7 +17,7 @@ fn raised(count: usize, passes: bool) -> usize
 // Whether a line of a section is marked and leads to a state.
 fn reaches(room: &[u64], k: usize, section: u64, state: u64) -> bool
     requires { 4 * k + 4 ≤ length room.now }
-    ensures { result ≡ reachTest room.now section state k }
+    ensures { result ≡ reach_test room.now section state k }
 {
     if room[4 * k] / 2048 != section {
         return false;
@@ -31,7 +31,7 @@ fn reaches(room: &[u64], k: usize, section: u64, state: u64) -> bool
 // How many marked lines of a section lead to a state.
 fn count_reaching(room: &[u64], lines: usize, section: u64, state: u64) -> usize
     requires { (length room.now ≡ 4 * lines) × (lines ≤ 1024) }
-    ensures { result ≡ count lines (reachTest room.now section state) }
+    ensures { result ≡ count lines (reach_test room.now section state) }
 {
     let mut c: usize = 0;
     let mut j = lines;
@@ -46,7 +46,7 @@ fn count_reaching(room: &[u64], lines: usize, section: u64, state: u64) -> usize
 // 1 where a state of a depth is reached.
 fn mark_of(room: &[u64], lines: usize, t: u64, state: u64) -> u64
     requires { (length room.now ≡ 4 * lines) × (lines ≤ 1024) }
-    ensures { result ≡ markFor room.now lines t state }
+    ensures { result ≡ mark_for room.now lines t state }
 {
     if t == 0 {
         if state == 0 {
@@ -79,7 +79,7 @@ pub fn mark_all(room: &mut [u64], lines: usize)
 // Whether a line of a section is on a full path.
 fn is_used(room: &[u64], t: u64, i: usize) -> bool
     requires { 4 * i + 4 ≤ length room.now }
-    ensures { result ≡ usedTest room.now t i }
+    ensures { result ≡ used_test room.now t i }
 {
     if room[4 * i] / 2048 != t {
         return false;
@@ -93,7 +93,7 @@ fn is_used(room: &[u64], t: u64, i: usize) -> bool
 // Whether it leaves a state besides.
 fn is_same(room: &[u64], t: u64, state: u64, i: usize) -> bool
     requires { 4 * i + 4 ≤ length room.now }
-    ensures { result ≡ sameTest room.now t state i }
+    ensures { result ≡ same_test room.now t state i }
 {
     if is_used(room, t, i) {
         return room[4 * i] / 2 % 1024 == state;
@@ -104,7 +104,7 @@ fn is_same(room: &[u64], t: u64, state: u64, i: usize) -> bool
 // How many of the first lines do.
 fn count_same(room: &[u64], first: usize, t: u64, state: u64) -> usize
     requires { (4 * first ≤ length room.now) × (first ≤ 1024) }
-    ensures { result ≡ count first (sameTest room.now t state) }
+    ensures { result ≡ count first (same_test room.now t state) }
 {
     let mut c: usize = 0;
     let mut j = first;
@@ -119,7 +119,7 @@ fn count_same(room: &[u64], first: usize, t: u64, state: u64) -> usize
 // Whether a line on a full path is the first that leaves its state.
 fn is_first(room: &[u64], t: u64, i: usize) -> bool
     requires { (4 * i + 4 ≤ length room.now) × (i ≤ 1024) }
-    ensures { result ≡ firstTest room.now t i }
+    ensures { result ≡ first_test room.now t i }
 {
     if is_used(room, t, i) {
         let state = room[4 * i] / 2 % 1024;
@@ -131,7 +131,7 @@ fn is_first(room: &[u64], t: u64, i: usize) -> bool
 // How many branches of a section are on full paths.
 pub fn count_used(room: &[u64], lines: usize, t: u64) -> usize
     requires { (length room.now ≡ 4 * lines) × (lines ≤ 1024) }
-    ensures { result ≡ count lines (usedTest room.now t) }
+    ensures { result ≡ count lines (used_test room.now t) }
 {
     let mut c: usize = 0;
     let mut j = lines;
@@ -146,7 +146,7 @@ pub fn count_used(room: &[u64], lines: usize, t: u64) -> usize
 // How many states of a depth before the end are.
 pub fn count_first(room: &[u64], lines: usize, t: u64) -> usize
     requires { (length room.now ≡ 4 * lines) × (lines ≤ 1024) }
-    ensures { result ≡ count lines (firstTest room.now t) }
+    ensures { result ≡ count lines (first_test room.now t) }
 {
     let mut c: usize = 0;
     let mut j = lines;

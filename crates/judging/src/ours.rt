@@ -1,6 +1,6 @@
 // The trellis of the plate by numbers: 0 is no state, and each state is one more than its number.
 ghost use Rattle.std.specs.Prelude.{◌≡◌, ◌<◌, ◌^◌, ◌≤◌, suc};
-ghost use Rattle.trellises.specs.Numbers.{leadsTo, without};
+ghost use Rattle.trellises.specs.Numbers.{leads_to, without};
 ghost use Rattle.judging.specs.Ours.{Classed, Small, follows, suits};
 ghost use Rattle.judging.specs.Working.{FirstFound};
 
@@ -26,7 +26,7 @@ fn without_digit(number: usize, place: usize) -> usize
 // The state that a branch leads to: its number, without the digit of the row that ends.
 fn end_of(section: Section, number: usize) -> usize
     requires { section.ending < 64 }
-    ensures { result ≡ leadsTo section number }
+    ensures { result ≡ leads_to section number }
 {
     if section.ends {
         return without_digit(number, section.ending);

@@ -2,7 +2,7 @@
 // number of ours that has the same ways to the end as that state, and a mark.
 ghost use Rattle.std.specs.Prelude.{length, replicate, ◌≡◌, ℕ, ◌*◌, ◌+◌, ◌-◌, ◌<◌, ◌≤◌};
 ghost use Rattle.sheets.specs.Listed.{entries};
-ghost use Rattle.judging.specs.Room.{AllInRange, InRange, LineFrom, Put, Stored, Within, key_of, keyTest, leadAt, leadNumber, toldNumber};
+ghost use Rattle.judging.specs.Room.{AllInRange, InRange, LineFrom, Put, Stored, Within, key_of, key_test, lead_at, lead_number, told_number};
 ghost use Rattle.judging.specs.Working.{FirstFound};
 
 use crate::lines::branch_in;
@@ -51,7 +51,7 @@ pub fn fill(text: &[u8], n: usize, room: &mut [u64])
 // The first line with a start; the number of lines where there is none.
 fn find(room: &[u64], lines: usize, key: u64) -> usize
     requires { length room.now ≡ 4 * lines }
-    ensures { FirstFound lines (keyTest room.now key) result }
+    ensures { FirstFound lines (key_test room.now key) result }
 {
     let mut j: usize = 0;
     while j < lines {
@@ -79,8 +79,8 @@ pub fn line_from(room: &[u64], lines: usize, t: usize, u: usize, bit: usize) -> 
 // Where the branch of a line leads, as a number of theirs.
 pub fn lead_number(room: &[u64], lines: usize, j: usize) -> usize
     requires room_len { length room.now ≡ 4 * lines }
-    requires by_index { (i : ℕ) → i < lines → leadAt room.now i < 1024 }
-    ensures { result ≡ leadNumber room.now lines j }
+    requires by_index { (i : ℕ) → i < lines → lead_at room.now i < 1024 }
+    ensures { result ≡ lead_number room.now lines j }
 {
     if j < lines {
         let to = room[4 * j + 1] as usize;
@@ -92,7 +92,7 @@ pub fn lead_number(room: &[u64], lines: usize, j: usize) -> usize
 // What is told of the state that the branch of a line leads to.
 pub fn told_number(room: &[u64], lines: usize, j: usize) -> usize
     requires { length room.now ≡ 4 * lines }
-    ensures { result ≡ toldNumber room.now lines j }
+    ensures { result ≡ told_number room.now lines j }
 {
     if j < lines {
         return room[4 * j + 2] as usize;

@@ -1,6 +1,6 @@
 // By how much a right listing has more states and branches than our trellis, of those on full paths.
 ghost use Rattle.std.specs.Prelude.{◌+◌, ◌≤◌, replicate, ◌≡◌};
-ghost use Rattle.trellises.specs.Numbers.{branchCount};
+ghost use Rattle.trellises.specs.Numbers.{branch_count};
 ghost use Rattle.judging.specs.Ours.{Small};
 ghost use Rattle.judging.specs.Room.{theirs};
 ghost use Rattle.judging.specs.Steps.{SurplusAsks, SurplusFor};
@@ -15,7 +15,7 @@ use trellises::Section;
 // How many branches a section of ours has.
 fn branch_number(section: Section) -> usize
     requires { Small section }
-    ensures { result ≡ branchCount section }
+    ensures { result ≡ branch_count section }
 {
     let states = weight_of(section.live);
     if section.begins {

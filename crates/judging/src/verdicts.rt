@@ -1,7 +1,7 @@
 // The judgement of clean lines, in a room of four numbers a line.
 ghost use Rattle.std.specs.Prelude.{length, replicate, ◌≡◌};
 ghost use Rattle.sheets.specs.Listed.{entries};
-ghost use Rattle.judging.specs.Listing.{branchesOf, listedGraph};
+ghost use Rattle.judging.specs.Listing.{branches_of, listed_graph};
 ghost use Rattle.judging.specs.Ours.{ours};
 ghost use Rattle.judging.specs.Room.{theirs};
 ghost use Rattle.judging.specs.Steps.{Found, JudgedAsks, JudgedTo, VerdictAsks};
@@ -40,7 +40,7 @@ pub fn judged(
     room: &mut [u64],
 ) -> Judgement
     requires { JudgedAsks rows.now mask n text.now lines room.old }
-    ensures judged_to { JudgedTo (listedGraph n (branchesOf (entries n text.now))) rows.now mask n result }
+    ensures judged_to { JudgedTo (listed_graph n (branches_of (entries n text.now))) rows.now mask n result }
     ensures room_after { room.new ≡ replicate (length room.old) 0 }
 {
     fill(text, n, &mut *room);

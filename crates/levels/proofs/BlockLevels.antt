@@ -11,7 +11,7 @@ use native.Mathlib.Omega.{arith}
 use Rattle.levels.specs.declared.Levels.TheVariants as B
 use Rattle.levels.specs.declared.Sample.{Sample}
 use Rattle.levels.specs.declared.Setting.{Setting}
-use Rattle.levels.specs.Choosing.{LevelOf, LevelOfSample, sampleOf}
+use Rattle.levels.specs.Choosing.{LevelOf, LevelOfSample, sample_of}
 use Rattle.levels.specs.Giving.{GivesLevels}
 use Rattle.plates.specs.declared.Refusal.TheVariants.{SampleCount}
 use Rattle.words.specs.Word.{bit}
@@ -31,8 +31,8 @@ module _ (n : ℕ) (setting : Setting) (values : List Float) (erased : ℕ) (roo
   -- a heard position has the level of its value, an erased one level 0
   pub heard-level : (i : ℕ) → i < n → bit erased i ≡ 0 → LevelOf setting (get_or values i nan) (get_or room' i (pos 0))
   heard-level i h e =
-      subst (λ (s : Sample). LevelOfSample setting s (get_or room' i (pos 0))) (ap (sampleOf (get_or values i nan)) e) (given.1.each i (omega (arith, values-n)))
+      subst (λ (s : Sample). LevelOfSample setting s (get_or room' i (pos 0))) (ap (sample_of (get_or values i nan)) e) (given.1.each i (omega (arith, values-n)))
 
   pub erased-level : (i : ℕ) → i < n → bit erased i ≡ 1 → get_or room' i (pos 0) ≡ pos 0
   erased-level i h e =
-      subst (λ (s : Sample). LevelOfSample setting s (get_or room' i (pos 0))) (ap (sampleOf (get_or values i nan)) e) (given.1.each i (omega (arith, values-n)))
+      subst (λ (s : Sample). LevelOfSample setting s (get_or room' i (pos 0))) (ap (sample_of (get_or values i nan)) e) (given.1.each i (omega (arith, values-n)))

@@ -9,15 +9,15 @@ use mathlib.Core.Path.{◌≡◌, refl}
 use native.Mathlib.Omega.{arith}
 use Rattle.plates.specs.declared.Refusal.{Refusal}
 use Rattle.plates.specs.declared.Refusal.TheVariants.{NotANumber}
-use Rattle.plates.specs.Prepare.{badLength}
+use Rattle.plates.specs.Prepare.{bad_length}
 use Rattle.plates.specs.Refusals.{Passes}
 use Rattle.levels.specs.declared.Sample.{Sample}
 use Rattle.levels.specs.declared.Setting.{Setting}
-use Rattle.levels.specs.Giving.{Good, NoNumberAt, badCount, badSetting, noNumber, sampleConditions}
+use Rattle.levels.specs.Giving.{Good, NoNumberAt, bad_count, bad_setting, no_number, sample_conditions}
 use Rattle.levels.specs.Testing.{FirstNotANumber, IsNumber, Writable}
 
 -- 1 to 64
-pub length-passed : {n : ℕ} → (n ≡ 0 → ⊥) → n ≤ 64 → (q : Refusal) → badLength n q → ⊥
+pub length-passed : {n : ℕ} → (n ≡ 0 → ⊥) → n ≤ 64 → (q : Refusal) → bad_length n q → ⊥
 length-passed {n} h k q b = go b.0
   where
     go : (n ≡ 0) ⊎ (64 < n) → ⊥
@@ -25,15 +25,15 @@ length-passed {n} h k q b = go b.0
     go (inr l) = omega arith
 
 -- a setting that is permitted
-pub good-passed : {setting : Setting} → Good setting → (q : Refusal) → badSetting setting q → ⊥
+pub good-passed : {setting : Setting} → Good setting → (q : Refusal) → bad_setting setting q → ⊥
 good-passed good q b = b.0 good
 
 -- a sample that is erased or a number
-pub number_passed : (sample : Sample) → IsNumber sample → (q : Refusal) → noNumber sample q → ⊥
+pub number_passed : (sample : Sample) → IsNumber sample → (q : Refusal) → no_number sample q → ⊥
 number_passed sample n q b = n b.0
 
 -- n values and n places
-pub count-passed : {n : ℕ} (values : List Float) (room : List ℤ) → length values ≡ n → length room ≡ n → (q : Refusal) → badCount n values room q → ⊥
+pub count-passed : {n : ℕ} (values : List Float) (room : List ℤ) → length values ≡ n → length room ≡ n → (q : Refusal) → bad_count n values room q → ⊥
 count-passed {n} values room h k q b = go b.0
   where
     go : (length values ≡ n → ⊥) ⊎ (length room ≡ n → ⊥) → ⊥
@@ -56,5 +56,5 @@ module _ {n : ℕ} {values : List Float} {erased r : ℕ} (first : FirstNotANumb
       record { good = good; as_long = omega (arith, size); numbers = λ i l. first.before i (omega (arith, size)) }
 
 -- no condition of a single sample holds
-pub sample-passes : {setting : Setting} → Good setting → (sample : Sample) → IsNumber sample → Passes (sampleConditions setting sample)
+pub sample-passes : {setting : Setting} → Good setting → (sample : Sample) → IsNumber sample → Passes (sample_conditions setting sample)
 sample-passes good sample number = (good-passed good, (number_passed sample number, tt))

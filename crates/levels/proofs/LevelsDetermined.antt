@@ -19,8 +19,8 @@ use Rattle.levels.specs.declared.Levels.TheVariants as B
 use Rattle.levels.specs.declared.Sample.{Sample}
 use Rattle.levels.specs.declared.Sample.TheVariants.{Erased, Heard}
 use Rattle.levels.specs.declared.Setting.{Setting}
-use Rattle.levels.specs.Choosing.{Largest, LevelOf, LevelOfSample, nought, sampleAt}
-use Rattle.levels.specs.Giving.{GivesLevel, GivesLevels, NoNumberAt, blockConditions, sampleConditions}
+use Rattle.levels.specs.Choosing.{Largest, LevelOf, LevelOfSample, nought, sample_at}
+use Rattle.levels.specs.Giving.{GivesLevel, GivesLevels, NoNumberAt, block_conditions, sample_conditions}
 use Rattle.levels.specs.Testing.{IsNumber}
 use Rattle.plates.proofs.Refusing.{Single, never_both, refuses-once}
 use Rattle.plates.specs.declared.Refusal.{Refusal}
@@ -50,7 +50,7 @@ module _ (setting : Setting) where
           (a.negative h).1 ∙ ap (λ (k : ℕ). neg_ℤ (pos k)) (largest-once (neg value) a.size b.size (a.negative h).0 (b.negative h).0) ∙ sym (b.negative h).1
       go false e =
           let h : T (le nought value) = not_negative value n e in
-          (a.zero-or-more h).1 ∙ ap pos (largest-once value a.size b.size (a.zero-or-more h).0 (b.zero-or-more h).0) ∙ sym (b.zero-or-more h).1
+          (a.zero_or_more h).1 ∙ ap pos (largest-once value a.size b.size (a.zero_or_more h).0 (b.zero_or_more h).0) ∙ sym (b.zero_or_more h).1
 
   -- of a heard sample that is a number, or an erased one
   pub sample-once : (sample : Sample) (y z : ℤ) → IsNumber sample → LevelOfSample setting sample y → LevelOfSample setting sample z → y ≡ z
@@ -61,15 +61,15 @@ module _ (setting : Setting) where
 
 module _ (setting : Setting) (sample : Sample) where
   -- each condition gives one refusal
-  sample-single : Single (sampleConditions setting sample)
+  sample-single : Single (sample_conditions setting sample)
   sample-single = ((λ p q x y. x.1 ∙ sym y.1), ((λ p q x y. x.1 ∙ sym y.1), tt))
 
   -- the replies of `level_of`
   pub level-determined : (r s : Level) → GivesLevel setting sample r → GivesLevel setting sample s → r ≡ s
   level-determined (L.Is y) (L.Is z) a b = ap L.Is (sample-once setting sample y z (λ n. a.0.1.0 (NotANumber 0) (n, refl)) a.1 b.1)
-  level-determined (L.Is y) (L.Refused q) a b = absurd (never_both (sampleConditions setting sample) a.0 q b)
-  level-determined (L.Refused p) (L.Is z) a b = absurd (never_both (sampleConditions setting sample) b.0 p a)
-  level-determined (L.Refused p) (L.Refused q) a b = ap L.Refused (refuses-once (sampleConditions setting sample) sample-single p q a b)
+  level-determined (L.Is y) (L.Refused q) a b = absurd (never_both (sample_conditions setting sample) a.0 q b)
+  level-determined (L.Refused p) (L.Is z) a b = absurd (never_both (sample_conditions setting sample) b.0 p a)
+  level-determined (L.Refused p) (L.Refused q) a b = ap L.Refused (refuses-once (sample_conditions setting sample) sample-single p q a b)
 
 -- ---- a block
 
@@ -84,23 +84,23 @@ module _ (n : ℕ) (setting : Setting) (values : List Float) (erased : ℕ) (roo
       go (inr (inr l)) = absurd (a.first b.position l b.here)
 
   -- each condition gives one refusal
-  block-single : Single (blockConditions n setting values erased room)
+  block-single : Single (block_conditions n setting values erased room)
   block-single = (
     (λ p q x y. x.1 ∙ sym y.1),
     ((λ p q x y. x.1 ∙ sym y.1), ((λ p q x y. x.1 ∙ sym y.1), (place-once, tt))),
   )
 
   -- where the conditions pass, every sample of the block is erased or a number
-  pub passed-number : Passes (blockConditions n setting values erased room) → (i : ℕ) → i < n → IsNumber (sampleAt values erased i)
+  pub passed-number : Passes (block_conditions n setting values erased room) → (i : ℕ) → i < n → IsNumber (sample_at values erased i)
   passed-number p = all n (λ i h. h)
     where
-      all : (m : ℕ) → ((i : ℕ) → i < m → i < n) → (i : ℕ) → i < m → IsNumber (sampleAt values erased i)
+      all : (m : ℕ) → ((i : ℕ) → i < m → i < n) → (i : ℕ) → i < m → IsNumber (sample_at values erased i)
       all zero h i l t = omega arith
       all (suc m) h i l t =
-          let before : (j : ℕ) → j < m → IsNumber (sampleAt values erased j) = all m (λ j k. h j (omega arith)) in
+          let before : (j : ℕ) → j < m → IsNumber (sample_at values erased j) = all m (λ j k. h j (omega arith)) in
           at (lt-tri i m) before
         where
-          at : (i < m) ⊎ ((i ≡ m) ⊎ (m < i)) → ((j : ℕ) → j < m → IsNumber (sampleAt values erased j)) → ⊥
+          at : (i < m) ⊎ ((i ≡ m) ⊎ (m < i)) → ((j : ℕ) → j < m → IsNumber (sample_at values erased j)) → ⊥
           at (inl k) before = before i k t
           at (inr (inl e)) before =
               p.1.1.1.0 (NotANumber i) (record { position = i; there = h i l; here = t; first = λ j k. before j (omega arith); is = refl })
@@ -113,8 +113,8 @@ module _ (n : ℕ) (setting : Setting) (values : List Float) (erased : ℕ) (roo
       same : (i : ℕ) → i < length one → get_or one i (pos 0) ≡ get_or two i (pos 0)
       same i h =
           let l : i < length values = omega (arith, a.1.as_long) in
-          sample-once setting (sampleAt values erased i) (get_or one i (pos 0)) (get_or two i (pos 0)) (passed-number a.0 i (omega (arith, values-n n setting values erased room one a))) (a.1.each i l) (b.1.each i l)
-  levels-determined B.Written (B.Refused q) one two a b = absurd (never_both (blockConditions n setting values erased room) a.0 q b.0)
-  levels-determined (B.Refused p) B.Written one two a b = absurd (never_both (blockConditions n setting values erased room) b.0 p a.0)
+          sample-once setting (sample_at values erased i) (get_or one i (pos 0)) (get_or two i (pos 0)) (passed-number a.0 i (omega (arith, values-n n setting values erased room one a))) (a.1.each i l) (b.1.each i l)
+  levels-determined B.Written (B.Refused q) one two a b = absurd (never_both (block_conditions n setting values erased room) a.0 q b.0)
+  levels-determined (B.Refused p) B.Written one two a b = absurd (never_both (block_conditions n setting values erased room) b.0 p a.0)
   levels-determined (B.Refused p) (B.Refused q) one two a b =
-      (ap B.Refused (refuses-once (blockConditions n setting values erased room) block-single p q a.0 b.0), a.1 ∙ sym b.1)
+      (ap B.Refused (refuses-once (block_conditions n setting values erased room) block-single p q a.0 b.0), a.1 ∙ sym b.1)

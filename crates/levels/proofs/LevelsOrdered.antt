@@ -97,11 +97,11 @@ module _ (setting : Setting) where
           let x = a.negative p in
           let u = b.negative q in
           both_at x.1 u.1 (less-order b.size a.size (largest-order (neg w) (neg v) b.size a.size (turned v w h) u.0 x.0))
-      go (inl p) (inr q) = both_at (a.negative p).1 (b.zero-or-more q).1 (across_order a.size b.size)
+      go (inl p) (inr q) = both_at (a.negative p).1 (b.zero_or_more q).1 (across_order a.size b.size)
       go (inr p) (inl q) = absurd (never-both-signs w q (le_trans nought v w p h))
       go (inr p) (inr q) =
-          let x = a.zero-or-more p in
-          let u = b.zero-or-more q in
+          let x = a.zero_or_more p in
+          let u = b.zero_or_more q in
           both_at x.1 u.1 (more-order (largest-order v w a.size b.size h x.0 u.0))
 
   -- a step is an f32, which is above zero, so a zero of either sign gets level 0
@@ -120,15 +120,15 @@ module _ (setting : Setting) where
         go : T (lt v nought) ⊎ T (le nought v) → T (lt (neg v) nought) ⊎ T (le nought (neg v)) → z ≡ neg_ℤ y
         go (inl p) q =
             let x = a.negative p in
-            let u = b.zero-or-more (negated-more v p) in
+            let u = b.zero_or_more (negated-more v p) in
             u.1 ∙ ap pos (largest-once setting (neg v) b.size a.size u.0 x.0) ∙ sym (neg_ℤ-neg_ℤ (pos a.size)) ∙ sym (ap neg_ℤ x.1)
         go (inr p) (inl q) =
-            let x = a.zero-or-more p in
+            let x = a.zero_or_more p in
             let u = b.negative q in
             let same : Largest setting v b.size = subst (λ (w : Float). Largest setting w b.size) (neg-neg v) u.0 in
             u.1 ∙ ap (λ (j : ℕ). neg_ℤ (pos j)) (largest-once setting v b.size a.size same x.0) ∙ sym (ap neg_ℤ x.1)
         go (inr p) (inr q) =
-            let x = a.zero-or-more p in
-            let u = b.zero-or-more q in
+            let x = a.zero_or_more p in
+            let u = b.zero_or_more q in
             u.1 ∙ ap pos (zero-reaches-none (neg v) b.size (zero-turned v p) u.0)
             ∙ sym (ap neg_ℤ (x.1 ∙ ap pos (zero-reaches-none v a.size (subst (λ (w : Float). T (le w nought)) (neg-neg v) (zero-turned (neg v) q)) x.0)))

@@ -16,7 +16,7 @@ use Rattle.levels.specs.Testing.{Raised, Within}
 
 -- a step that is permitted is finite and above zero
 pub good-positive : {setting : Setting} → Good setting → T (positive setting.step)
-good-positive {setting} good = step-positive setting.step good.step-finite good.above_zero
+good-positive {setting} good = step-positive setting.step good.step_finite good.above_zero
 
 module _ (setting : Setting) (value : Float) (good : Good setting) where
   -- what reaches a level reaches every lower one

@@ -14,7 +14,7 @@ use Rattle.levels.specs.declared.Level.TheVariants as L
 use Rattle.levels.specs.declared.Levels.TheVariants as B
 use Rattle.levels.specs.declared.Sample.TheVariants.{Heard}
 use Rattle.levels.specs.declared.Setting.{Setting}
-use Rattle.levels.specs.Choosing.{LevelOf, sampleOf}
+use Rattle.levels.specs.Choosing.{LevelOf, sample_of}
 use Rattle.levels.specs.Giving.{GivesLevel, GivesLevels, Good}
 use Rattle.levels.specs.Testing.{IsNumber}
 use Rattle.plates.specs.declared.Refusal.TheVariants.{BadSetting, NotANumber}
@@ -57,5 +57,5 @@ module _ (setting : Setting) (n m : ℕ) (values others : List Float) (erased go
   pub block-levels-negated : T (fits binary32 setting.step) → get_or others j nan ≡ neg (get_or values i nan) → get_or place' j (pos 0) ≡ neg_ℤ (get_or room' i (pos 0))
   block-levels-negated f e =
       negated-levels setting (λ g. one.0.1.0 BadSetting (g, refl)) f (get_or values i nan) (get_or room' i (pos 0)) (get_or place' j (pos 0))
-      (subst IsNumber (ap (sampleOf (get_or values i nan)) i-heard) (passed-number n setting values erased room one.0 i i-in)) at_i
+      (subst IsNumber (ap (sample_of (get_or values i nan)) i-heard) (passed-number n setting values erased room one.0 i i-in)) at_i
       (subst (λ (x : Float). LevelOf setting x (get_or place' j (pos 0))) e at_j)

@@ -25,9 +25,9 @@ module _ {setting : Setting} where
   -- of a value of zero or more
   pub more-level : (value : Float) {j : ℕ} → T (le nought value) → Largest setting value j → LevelOf setting value (pos j)
   more-level value {j} m l =
-      record { size = j; zero-or-more = λ h. (l, refl); negative = λ h. absurd (never-both-signs value h m) }
+      record { size = j; zero_or_more = λ h. (l, refl); negative = λ h. absurd (never-both-signs value h m) }
 
   -- of a negative value
   pub less-level : (value : Float) {j : ℕ} → T (lt value nought) → Largest setting (neg value) j → LevelOf setting value (neg_ℤ (pos j))
   less-level value {j} m l =
-      record { size = j; zero-or-more = λ h. absurd (never-both-signs value m h); negative = λ h. (l, refl) }
+      record { size = j; zero_or_more = λ h. absurd (never-both-signs value m h); negative = λ h. (l, refl) }

@@ -9,7 +9,7 @@ use mathlib.Core.Path.{◌≡◌, ap, refl, subst, sym, ◌∙◌}
 use native.Mathlib.Omega.{arith}
 use Rattle.levels.specs.declared.Sample.TheVariants.{Erased}
 use Rattle.levels.specs.declared.Setting.{Setting}
-use Rattle.levels.specs.Choosing.{nought, sampleOf, times}
+use Rattle.levels.specs.Choosing.{nought, sample_of, times}
 use Rattle.levels.specs.Giving.{Good}
 use Rattle.levels.specs.Testing.{TestsSetting}
 
@@ -22,19 +22,19 @@ not_found e f t = subst T (sym e ∙ f) t
 
 -- a setting that a test shuts out
 pub not_good : {setting : Setting} → (Good setting → ⊥) → TestsSetting setting false
-not_good n = record { yes-is = λ e. absurd (true≢false (sym e)); no-is = λ e. n }
+not_good n = record { yes_is = λ e. absurd (true≢false (sym e)); no_is = λ e. n }
 
 -- the last test, of the greatest top level
 pub good-if : {setting : Setting} → T (finite setting.step) → T (finite (times setting.top setting.step)) → T (lt nought setting.step) → 1 ≤ setting.top
     → TestsSetting setting (leb setting.top 127)
 good-if {setting} step top above least =
     record {
-      yes-is = λ e. record { step-finite = step; top-finite = top; above_zero = above; least = least; most = leb-true setting.top 127 e };
-      no-is = λ e g. omega (arith, leb-false setting.top 127 e, g.most);
+      yes_is = λ e. record { step_finite = step; top_finite = top; above_zero = above; least = least; most = leb-true setting.top 127 e };
+      no_is = λ e g. omega (arith, leb-false setting.top 127 e, g.most);
     }
 
 -- a mark that is not 0
-pub erased-is : (value : Float) (mark : ℕ) → (mark ≡ 0 → ⊥) → Erased ≡ sampleOf value mark
+pub erased-is : (value : Float) (mark : ℕ) → (mark ≡ 0 → ⊥) → Erased ≡ sample_of value mark
 erased-is value zero h = absurd (h refl)
 erased-is value (suc mark) h = refl
 

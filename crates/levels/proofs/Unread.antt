@@ -13,8 +13,8 @@ use Rattle.levels.specs.declared.Levels.{Levels}
 use Rattle.levels.specs.declared.Levels.TheVariants as B
 use Rattle.levels.specs.declared.Sample.{Sample}
 use Rattle.levels.specs.declared.Setting.{Setting}
-use Rattle.levels.specs.Choosing.{LevelOfSample, sampleAt}
-use Rattle.levels.specs.Giving.{GivesLevels, NoNumberAt, badCount, blockConditions, notANumber}
+use Rattle.levels.specs.Choosing.{LevelOfSample, sample_at}
+use Rattle.levels.specs.Giving.{GivesLevels, NoNumberAt, bad_count, block_conditions, not_a_number}
 use Rattle.plates.specs.declared.Refusal.{Refusal}
 use Rattle.plates.specs.Refusals.{Passes, Refuses}
 
@@ -43,12 +43,12 @@ passes-alike (c ∷ cs) (d ∷ ds) a p = ((λ q y. p.0 q (a.1.0 q y)), passes-al
 -- as many values, and the same samples
 pub record SameSamples (n : ℕ) (values others : List Float) (erased gone : ℕ) : Type 0 where
   pub as_many : length values ≡ length others
-  pub samples : (i : ℕ) → i < n → sampleAt values erased i ≡ sampleAt others gone i
+  pub samples : (i : ℕ) → i < n → sample_at values erased i ≡ sample_at others gone i
 
 turned_round : {n : ℕ} {values others : List Float} {erased gone : ℕ} → SameSamples n values others erased gone → SameSamples n others values gone erased
 turned_round s = record { as_many = sym s.as_many; samples = λ i h. sym (s.samples i h) }
 
-counts-alike : {n : ℕ} {values others : List Float} {erased gone : ℕ} → SameSamples n values others erased gone → (room : List ℤ) (q : Refusal) → badCount n values room q → badCount n others room q
+counts-alike : {n : ℕ} {values others : List Float} {erased gone : ℕ} → SameSamples n values others erased gone → (room : List ℤ) (q : Refusal) → bad_count n values room q → bad_count n others room q
 counts-alike {n} {values} {others} s room q b = (go b.0, b.1)
   where
     go : (length values ≡ n → ⊥) ⊎ (length room ≡ n → ⊥) → (length others ≡ n → ⊥) ⊎ (length room ≡ n → ⊥)
@@ -60,13 +60,13 @@ numbers-alike s q b =
     record {
       position = b.position;
       there = b.there;
-      here = subst (λ (x : Sample). T (notANumber x)) (s.samples b.position b.there) b.here;
-      first = λ i h t. b.first i h (subst (λ (x : Sample). T (notANumber x)) (sym (s.samples i (omega (arith, b.there)))) t);
+      here = subst (λ (x : Sample). T (not_a_number x)) (s.samples b.position b.there) b.here;
+      first = λ i h t. b.first i h (subst (λ (x : Sample). T (not_a_number x)) (sym (s.samples i (omega (arith, b.there)))) t);
       is = b.is;
     }
 
 module _ (n : ℕ) (setting : Setting) (values others : List Float) (erased gone : ℕ) (room room' : List ℤ) (s : SameSamples n values others erased gone) where
-  conditions-alike : Alike (blockConditions n setting values erased room) (blockConditions n setting others gone room)
+  conditions-alike : Alike (block_conditions n setting values erased room) (block_conditions n setting others gone room)
   conditions-alike = (
     (λ q b. b),
     (
@@ -81,7 +81,7 @@ module _ (n : ℕ) (setting : Setting) (values others : List Float) (erased gone
   -- a reply with its room that meets the promise for the one block meets it for the other
   pub unread : (r : Levels) → GivesLevels n setting values erased room room' r → GivesLevels n setting others gone room room' r
   unread B.Written a = (
-    passes-alike (blockConditions n setting values erased room) (blockConditions n setting others gone room) conditions-alike a.0,
+    passes-alike (block_conditions n setting values erased room) (block_conditions n setting others gone room) conditions-alike a.0,
     record {
       as_long = a.1.as_long ∙ s.as_many;
       each = λ i h.
@@ -90,4 +90,4 @@ module _ (n : ℕ) (setting : Setting) (values others : List Float) (erased gone
     },
   )
   unread (B.Refused q) a =
-      (refuses-alike (blockConditions n setting values erased room) (blockConditions n setting others gone room) conditions-alike q a.0, a.1)
+      (refuses-alike (block_conditions n setting values erased room) (block_conditions n setting others gone room) conditions-alike q a.0, a.1)

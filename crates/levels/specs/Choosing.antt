@@ -28,7 +28,7 @@ pub record Largest (setting : Setting) (value : Float) (j : ℕ) : Type 0 where
 -- The level of a value: of one of zero or more, the largest that it reaches; of a negative one, minus the level of its negation
 pub record LevelOf (setting : Setting) (value : Float) (level : ℤ) : Type 0 where
   pub size : ℕ
-  pub zero-or-more : T (le nought value) → Largest setting value size × (level ≡ pos size)
+  pub zero_or_more : T (le nought value) → Largest setting value size × (level ≡ pos size)
   pub negative : T (lt value nought) → Largest setting (neg value) size × (level ≡ neg_ℤ (pos size))
 
 -- the level of a sample: an erased one gives 0
@@ -37,15 +37,15 @@ LevelOfSample setting (Heard value) level = LevelOf setting value level
 LevelOfSample setting Erased level = level ≡ pos 0
 
 -- the sample of a value and its mark, which is 1 where it is erased
-abbrev pub sampleOf : Float → ℕ → Sample
-sampleOf value zero = Heard value
-sampleOf value (suc mark) = Erased
+abbrev pub sample_of : Float → ℕ → Sample
+sample_of value zero = Heard value
+sample_of value (suc mark) = Erased
 
 -- the sample at a position of a block: a value at an erased position means nothing
-abbrev pub sampleAt : List Float → ℕ → ℕ → Sample
-sampleAt values erased i = sampleOf (get_or values i nan) (bit erased i)
+abbrev pub sample_at : List Float → ℕ → ℕ → Sample
+sample_at values erased i = sample_of (get_or values i nan) (bit erased i)
 
 -- a room has the levels of a block
 pub record LevelsOf (setting : Setting) (values : List Float) (erased : ℕ) (room : List ℤ) : Type 0 where
   pub as_long : length room ≡ length values
-  pub each : (i : ℕ) → i < length values → LevelOfSample setting (sampleAt values erased i) (get_or room i (pos 0))
+  pub each : (i : ℕ) → i < length values → LevelOfSample setting (sample_at values erased i) (get_or room i (pos 0))

@@ -3,13 +3,13 @@ use Rattle.std.specs.Prelude.{ℕ, ◌+◌, ◌≤◌, ◌<◌, T, Float, ℤ, l
 use Rattle.std.specs.Float.Ieee.{le}
 use Rattle.levels.specs.declared.Sample.{Sample}
 use Rattle.levels.specs.declared.Setting.{Setting}
-use Rattle.levels.specs.Choosing.{Reached, nought, sampleAt}
-use Rattle.levels.specs.Giving.{Good, notANumber}
+use Rattle.levels.specs.Choosing.{Reached, nought, sample_at}
+use Rattle.levels.specs.Giving.{Good, not_a_number}
 
 -- r says whether a setting is permitted
 pub record TestsSetting (setting : Setting) (r : Bool) : Type 0 where
-  pub yes-is : r ≡ true → Good setting
-  pub no-is : r ≡ false → Good setting → ⊥
+  pub yes_is : r ≡ true → Good setting
+  pub no_is : r ≡ false → Good setting → ⊥
 
 -- a value of zero or more
 abbrev pub ZeroOrMore : Float → Type 0
@@ -17,13 +17,13 @@ ZeroOrMore value = T (le nought value)
 
 -- a sample is erased, or its value is a number
 abbrev pub IsNumber : Sample → Type 0
-IsNumber sample = T (notANumber sample) → ⊥
+IsNumber sample = T (not_a_number sample) → ⊥
 
 -- r is the first position whose value is heard and not a number, and the number of values where there is none
 pub record FirstNotANumber (values : List Float) (erased r : ℕ) : Type 0 where
   pub most : r ≤ length values
-  pub before : (i : ℕ) → i < r → IsNumber (sampleAt values erased i)
-  pub here : r < length values → T (notANumber (sampleAt values erased r))
+  pub before : (i : ℕ) → i < r → IsNumber (sample_at values erased i)
+  pub here : r < length values → T (not_a_number (sample_at values erased r))
 
 -- r is the one that is so many levels higher where that is permitted and reached, and else the level
 abbrev pub Raised : Setting → Float → ℕ → ℕ → ℕ → Type 0
@@ -41,4 +41,4 @@ pub record Within (setting : Setting) (value : Float) (level span : ℕ) : Type 
 pub record Writable (setting : Setting) (values : List Float) (erased : ℕ) (room : List ℤ) : Type 0 where
   pub good : Good setting
   pub as_long : length room ≡ length values
-  pub numbers : (i : ℕ) → i < length values → IsNumber (sampleAt values erased i)
+  pub numbers : (i : ℕ) → i < length values → IsNumber (sample_at values erased i)

@@ -1,14 +1,14 @@
 // The values of a block: which are heard, and which of these are no numbers.
 ghost use Rattle.std.specs.Prelude.{◌≡◌};
-ghost use Rattle.levels.specs.Choosing.{sampleOf};
-ghost use Rattle.levels.specs.Giving.{notANumber};
+ghost use Rattle.levels.specs.Choosing.{sample_of};
+ghost use Rattle.levels.specs.Giving.{not_a_number};
 ghost use Rattle.levels.specs.Testing.{FirstNotANumber};
 
 use crate::Sample;
 
 // The sample of a value and its mark, which is 1 where it is erased.
 pub fn sample_of(value: f32, mark: u64) -> Sample
-    ensures { result ≡ sampleOf value mark }
+    ensures { result ≡ sample_of value mark }
 {
     if mark == 0 {
         return Sample::Heard(value);
@@ -18,7 +18,7 @@ pub fn sample_of(value: f32, mark: u64) -> Sample
 
 // Whether a sample is heard and its value not a number.
 pub fn is_not_a_number(sample: Sample) -> bool
-    ensures { result ≡ notANumber sample }
+    ensures { result ≡ not_a_number sample }
 {
     match sample {
         Sample::Heard(value) => value != value,

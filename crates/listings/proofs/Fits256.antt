@@ -11,8 +11,8 @@ use native.Mathlib.Omega.{arith}
 use Prim.Native.Nat.{◌%◌, ◌*◌, ◌+◌, ◌-◌, ◌/◌, ◌<◌, suc, zero, ℕ, ◌≤◌}
 use Rattle.listings.proofs.Backwards.{positions-length}
 use Rattle.listings.proofs.Digits.{decimal-high, decimal-low}
-use Rattle.listings.specs.Decimal.{decimal, digits, signedDecimal}
-use Rattle.listings.specs.Lines.{endLine, following, largest, leastLine, less, namesField, noLeastLine, plateLine, profileLine, refusedLine, tallyLine, weightLine, word_line}
+use Rattle.listings.specs.Decimal.{decimal, digits, signed_decimal}
+use Rattle.listings.specs.Lines.{line_of_end, following, largest, least_line, less, names_field, no_least_line, plate_line, profile_line, refused_line, tally_line, weight_line, word_line}
 use Rattle.listings.specs.declared.Tally.{Tally}
 use Rattle.words.proofs.Span.{lt-tri}
 
@@ -40,8 +40,8 @@ with-minus true s h = omega arith
 with-minus false s h = omega arith
 
 -- 21 bytes at most
-pub signed-length : (z : ℤ) → length (signedDecimal z) ≤ 21
-unfolding signedDecimal
+pub signed-length : (z : ℤ) → length (signed_decimal z) ≤ 21
+unfolding signed_decimal
 signed-length z = with-minus (lt_z z (pos 0)) (decimal (nat_abs z)) (decimal-length (nat_abs z))
 
 -- a number below 100 has at most two digits
@@ -62,8 +62,8 @@ decimal-two n h = go (lt-tri n 10)
 -- ---- lines
 
 -- 3 + 21 + 1
-pub end-fits-256 : (blocks : ℕ) → length (endLine blocks) ≤ 256
-unfolding endLine
+pub end-fits-256 : (blocks : ℕ) → length (line_of_end blocks) ≤ 256
+unfolding line_of_end
 end-fits-256 blocks = simp length-append (omega (arith, decimal-length blocks))
 
 -- a number that may be named, and the line feed
@@ -72,14 +72,14 @@ last-length true value = simp length-append (omega (arith, decimal-length value)
 last-length false value = omega arith
 
 -- 7 + 21 + 21 + 21 + 1
-pub refused-fits-256 : (number place field : ℕ) → length (refusedLine number place field) ≤ 256
-unfolding refusedLine
+pub refused-fits-256 : (number place field : ℕ) → length (refused_line number place field) ≤ 256
+unfolding refused_line
 refused-fits-256 number place field =
-    simp length-append (omega (arith, decimal-length number, decimal-length place, last-length (namesField number) field))
+    simp length-append (omega (arith, decimal-length number, decimal-length place, last-length (names_field number) field))
 
 -- 5 + 21 + 21 + 21 + 1
-pub plate-fits-256 : (n k : ℕ) (entries : List ℕ) → length (plateLine n k entries) ≤ 256
-unfolding plateLine
+pub plate-fits-256 : (n k : ℕ) (entries : List ℕ) → length (plate_line n k entries) ≤ 256
+unfolding plate_line
 plate-fits-256 n k entries = simp length-append (omega (arith, decimal-length n, decimal-length k, decimal-length (largest entries)))
 
 -- 4 + 65 + 22 + 21 + 21 + 1
@@ -97,23 +97,23 @@ two-each (entry ∷ entries) h =
     (omega (arith, decimal-two entry (omega (arith, h 0 (omega arith))), two-each entries (λ t l. h (suc t) (omega arith))))
 
 -- 7 + 65 * 3 + 1
-pub profile-fits-256 : (entries : List ℕ) → length entries ≤ 65 → ((t : ℕ) → t < length entries → get_or entries t 0 ≤ 12) → length (profileLine entries) ≤ 256
-unfolding profileLine
+pub profile-fits-256 : (entries : List ℕ) → length entries ≤ 65 → ((t : ℕ) → t < length entries → get_or entries t 0 ≤ 12) → length (profile_line entries) ≤ 256
+unfolding profile_line
 profile-fits-256 entries l h = omega (arith, two-each entries h)
 
 -- 6 + 21 + 21 + 1
-pub weight-fits-256 : (weight count : ℕ) → length (weightLine weight count) ≤ 256
-unfolding weightLine
+pub weight-fits-256 : (weight count : ℕ) → length (weight_line weight count) ≤ 256
+unfolding weight_line
 weight-fits-256 weight count = simp length-append (omega (arith, decimal-length weight, decimal-length count))
 
 -- 5 + 21 + 1
-pub least-fits-256 : (weight : ℕ) → length (leastLine weight) ≤ 256
-unfolding leastLine
+pub least-fits-256 : (weight : ℕ) → length (least_line weight) ≤ 256
+unfolding least_line
 least-fits-256 weight = simp length-append (omega (arith, decimal-length weight))
 
 -- 5 + 5 + 1
-pub no-least-fits-256 : length noLeastLine ≤ 256
-unfolding noLeastLine
+pub no-least-fits-256 : length no_least_line ≤ 256
+unfolding no_least_line
 no-least-fits-256 = omega arith
 
 -- 21 bytes at most
@@ -126,8 +126,8 @@ less-length above below = by (ltb above below)
     by false = omega (arith, decimal-length (above - below))
 
 -- 5 + 8 * 21 + 22 + 1
-pub tally-fits-256 : (t : Tally) → length (tallyLine t) ≤ 256
-unfolding tallyLine
+pub tally-fits-256 : (t : Tally) → length (tally_line t) ≤ 256
+unfolding tally_line
 tally-fits-256 t =
     simp length-append
     (omega (

@@ -12,8 +12,8 @@ use Rattle.listings.proofs.Conditions.{passed_first, refused-first}
 use Rattle.listings.proofs.Fits256.{profile-fits-256}
 use Rattle.listings.specs.declared.Written.{Written}
 use Rattle.listings.specs.declared.Written.TheVariants.{Refused}
-use Rattle.listings.specs.Lines.{profileLine}
-use Rattle.listings.specs.Writing.{WritesLine, WritesOf, entriesOf}
+use Rattle.listings.specs.Lines.{profile_line}
+use Rattle.listings.specs.Writing.{WritesLine, WritesOf, entries_of}
 use Rattle.plates.proofs.SoundIsPrepared.{sound}
 use Rattle.plates.specs.declared.Plate.{Plate}
 use Rattle.plates.specs.declared.Refusal.TheVariants.{NotPrepared}
@@ -38,31 +38,31 @@ module _ (plate : Plate) (p : IsPrepared plate) where
   entries-there = omega (arith, (sound p).short, (sound p).entries)
 
   -- so many are in use
-  pub entries-length : length (entriesOf plate) ≡ plate.n + 1
+  pub entries-length : length (entries_of plate) ≡ plate.n + 1
   entries-length = length-take-le (plate.n + 1) plate.profile entries-there
 
   -- each is at most 12
-  narrow : (t : ℕ) → t < length (entriesOf plate) → get_or (entriesOf plate) t 0 ≤ 12
+  narrow : (t : ℕ) → t < length (entries_of plate) → get_or (entries_of plate) t 0 ≤ 12
   narrow t h =
       let l : t ≤ plate.n = omega (arith, entries-length) in
-      let e : get_or (entriesOf plate) t 0 ≡ get_or plate.profile t 0 = get_or-take (plate.n + 1) plate.profile t 0 (omega arith) in
+      let e : get_or (entries_of plate) t 0 ≡ get_or plate.profile t 0 = get_or-take (plate.n + 1) plate.profile t 0 (omega arith) in
       rw (e, (sound p).profile t l) ((sound p).narrow t l)
 
   -- so the line fits
-  pub entries_fit : length (profileLine (entriesOf plate)) ≤ 256
-  entries_fit = profile-fits-256 (entriesOf plate) (omega (arith, entries-length, short)) narrow
+  pub entries_fit : length (profile_line (entries_of plate)) ≤ 256
+  entries_fit = profile-fits-256 (entries_of plate) (omega (arith, entries-length, short)) narrow
 
 -- ---- by the test of the plate
 
 module _ {plate : Plate} {p : Bool} (t : Tests plate p) where
   -- it says no
   pub untested : {line room : List ℕ} → p ≡ false → WritesOf plate line room (Refused NotPrepared) room
-  untested e = plate-refused (t.no-is e)
+  untested e = plate-refused (t.no_is e)
 
   -- it says yes
   module _ (e : p ≡ true) where
     given : IsPrepared plate
-    given = t.yes-is e
+    given = t.yes_is e
 
     pub tested-short : plate.n ≤ 64
     tested-short = short plate given
@@ -70,10 +70,10 @@ module _ {plate : Plate} {p : Bool} (t : Tests plate p) where
     pub count_fits : Fits w64 (plate.n + 1)
     count_fits = record { fits = omega (arith, tested-short) }
 
-    pub tested-length : plate.n + 1 ≡ length (entriesOf plate)
+    pub tested-length : plate.n + 1 ≡ length (entries_of plate)
     tested-length = sym (entries-length plate given)
 
-    pub tested-fit : length (profileLine (entriesOf plate)) ≤ 256
+    pub tested-fit : length (profile_line (entries_of plate)) ≤ 256
     tested-fit = entries_fit plate given
 
     pub tested : {line room room' : List ℕ} {r : Written} → WritesLine line room r room' → WritesOf plate line room r room'

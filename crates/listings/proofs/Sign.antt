@@ -12,7 +12,7 @@ use mir.Val.{SFits, of_z, to_z}
 use native.Mathlib.Nat.{zero-add}
 use native.Mathlib.Omega.{arith}
 use Prim.Native.Nat.{suc, ℕ, ◌-◌, ◌<◌, ◌≤◌}
-use Rattle.listings.specs.Decimal.{decimal, signedDecimal}
+use Rattle.listings.specs.Decimal.{decimal, signed_decimal}
 use Rattle.listings.specs.Lines.{less}
 
 -- not below 0
@@ -45,13 +45,13 @@ module _ (z : ℤ) (s : SFits w32 z) where
 -- ---- how it is printed
 
 -- below 0 with a minus
-pub signed_below : (z : ℤ) → lt_z z (pos 0) ≡ true → signedDecimal z ≡ 45 ∷ decimal (nat_abs z)
-unfolding signedDecimal
+pub signed_below : (z : ℤ) → lt_z z (pos 0) ≡ true → signed_decimal z ≡ 45 ∷ decimal (nat_abs z)
+unfolding signed_decimal
 signed_below z f = rw f
 
 -- else without
-pub signed-other : (z : ℤ) → lt_z z (pos 0) ≡ false → signedDecimal z ≡ decimal (nat_abs z)
-unfolding signedDecimal
+pub signed-other : (z : ℤ) → lt_z z (pos 0) ≡ false → signed_decimal z ≡ decimal (nat_abs z)
+unfolding signed_decimal
 signed-other z f = rw f
 
 -- one number less a greater

@@ -12,5 +12,5 @@ unfoldable pub decimal : ℕ → List ℕ
 decimal value = digits 20 value
 
 -- a number with a minus exactly when it is below 0
-unfoldable pub signedDecimal : ℤ → List ℕ
-signedDecimal value = cond (lt_z value (pos 0)) (45 ∷ decimal (nat_abs value)) (decimal (nat_abs value))
+unfoldable pub signed_decimal : ℤ → List ℕ
+signed_decimal value = cond (lt_z value (pos 0)) (45 ∷ decimal (nat_abs value)) (decimal (nat_abs value))

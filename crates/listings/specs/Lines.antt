@@ -1,6 +1,6 @@
 -- The kinds of listing line, byte by byte.
 use Rattle.std.specs.Prelude.{eqb, leb, ltb, ℤ, Bool, cond, ◌&&◌, ◌||◌, ◌++◌, List, [], map, ◌∷◌, ◌+◌, ◌-◌, max, suc, zero, ℕ}
-use Rattle.listings.specs.Decimal.{decimal, signedDecimal}
+use Rattle.listings.specs.Decimal.{decimal, signed_decimal}
 use Rattle.listings.specs.declared.Tally.{Tally}
 use Rattle.words.specs.Letters.{bytes}
 use Rattle.words.specs.Word.{bit}
@@ -28,73 +28,73 @@ largest (entry ∷ entries) = max entry (largest entries)
 
 -- ---- lines: the first field of each kind is its name
 
-abbrev pub plateName : List ℕ
-plateName = bytes "plate"
+abbrev pub plate_name : List ℕ
+plate_name = bytes "plate"
 
-abbrev pub profileName : List ℕ
-profileName = bytes "profile"
+abbrev pub profile_name : List ℕ
+profile_name = bytes "profile"
 
-abbrev pub wordName : List ℕ
-wordName = bytes "word"
+abbrev pub word_name : List ℕ
+word_name = bytes "word"
 
-abbrev pub refusedName : List ℕ
-refusedName = bytes "refused"
+abbrev pub refused_name : List ℕ
+refused_name = bytes "refused"
 
-abbrev pub endName : List ℕ
-endName = bytes "end"
+abbrev pub end_name : List ℕ
+end_name = bytes "end"
 
 -- plate: n, k, m, where m is the largest entry
-unfoldable pub plateLine : ℕ → ℕ → List ℕ → List ℕ
-plateLine n k entries = line plateName (decimal n ∷ decimal k ∷ decimal (largest entries) ∷ [])
+unfoldable pub plate_line : ℕ → ℕ → List ℕ → List ℕ
+plate_line n k entries = line plate_name (decimal n ∷ decimal k ∷ decimal (largest entries) ∷ [])
 
 -- profile: s(0) to s(n)
-unfoldable pub profileLine : List ℕ → List ℕ
-profileLine entries = line profileName (map decimal entries)
+unfoldable pub profile_line : List ℕ → List ℕ
+profile_line entries = line profile_name (map decimal entries)
 
 -- word: its first n positions, position 0 at the left, metric, additions, comparisons
 unfoldable pub word_line : ℕ → ℕ → ℤ → ℕ → ℕ → List ℕ
 word_line n word metric additions comparisons =
-    line wordName (positions word 0 n ∷ signedDecimal metric ∷ decimal additions ∷ decimal comparisons ∷ [])
+    line word_name (positions word 0 n ∷ signed_decimal metric ∷ decimal additions ∷ decimal comparisons ∷ [])
 
 -- whether the place of a refusal is a line and a field: 10, and 17 to 20
-abbrev pub namesField : ℕ → Bool
-namesField number = eqb number 10 || (leb 17 number && leb number 20)
+abbrev pub names_field : ℕ → Bool
+names_field number = eqb number 10 || (leb 17 number && leb number 20)
 
 -- refused: number and place, which for those is line and field
-unfoldable pub refusedLine : ℕ → ℕ → ℕ → List ℕ
-refusedLine number place field = line refusedName (decimal number ∷ decimal place ∷ cond (namesField number) (decimal field ∷ []) [])
+unfoldable pub refused_line : ℕ → ℕ → ℕ → List ℕ
+refused_line number place field = line refused_name (decimal number ∷ decimal place ∷ cond (names_field number) (decimal field ∷ []) [])
 
 -- end: the number of block lines
-unfoldable pub endLine : ℕ → List ℕ
-endLine blocks = line endName (decimal blocks ∷ [])
+unfoldable pub line_of_end : ℕ → List ℕ
+line_of_end blocks = line end_name (decimal blocks ∷ [])
 
 -- ---- the lines of a plate's weights
 
-abbrev pub weightName : List ℕ
-weightName = bytes "weight"
+abbrev pub weight_name : List ℕ
+weight_name = bytes "weight"
 
-abbrev pub leastName : List ℕ
-leastName = bytes "least"
+abbrev pub least_name : List ℕ
+least_name = bytes "least"
 
-abbrev pub noneField : List ℕ
-noneField = bytes "none"
+abbrev pub none_field : List ℕ
+none_field = bytes "none"
 
 -- weight: a weight, and how many codewords have it
-unfoldable pub weightLine : ℕ → ℕ → List ℕ
-weightLine weight count = line weightName (decimal weight ∷ decimal count ∷ [])
+unfoldable pub weight_line : ℕ → ℕ → List ℕ
+weight_line weight count = line weight_name (decimal weight ∷ decimal count ∷ [])
 
 -- least: the smallest weight above zero
-unfoldable pub leastLine : ℕ → List ℕ
-leastLine weight = line leastName (decimal weight ∷ [])
+unfoldable pub least_line : ℕ → List ℕ
+least_line weight = line least_name (decimal weight ∷ [])
 
 -- least, where there is none
-unfoldable pub noLeastLine : List ℕ
-noLeastLine = line leastName (noneField ∷ [])
+unfoldable pub no_least_line : List ℕ
+no_least_line = line least_name (none_field ∷ [])
 
 -- ---- the line of a shift's tally
 
-abbrev pub tallyName : List ℕ
-tallyName = bytes "tally"
+abbrev pub tally_name : List ℕ
+tally_name = bytes "tally"
 
 -- one number less another, with a minus exactly when that is below 0
 unfoldable pub less : ℕ → ℕ → List ℕ
@@ -102,8 +102,8 @@ less above below = cond (ltb above below) (45 ∷ decimal (below - above)) (deci
 
 -- tally: lines decoded, refused, repeated, out of turn; counters missing; positions opposed, zero samples; the sum of metrics, and the number
 -- decoded that it is over
-unfoldable pub tallyLine : Tally → List ℕ
-tallyLine t =
-    line tallyName
+unfoldable pub tally_line : Tally → List ℕ
+tally_line t =
+    line tally_name
     (decimal t.decoded ∷ decimal t.refused ∷ decimal t.repeated ∷ decimal t.late ∷ decimal t.missing ∷ decimal t.opposing
     ∷ decimal t.zeros ∷ less t.above t.below ∷ decimal t.decoded ∷ [])

@@ -1,9 +1,9 @@
 // The kinds of listing line, written into a lent room. A line is built in an array of 256 bytes, which every line is proved to fit,
 // and copied where the room is long enough.
 ghost use Rattle.std.specs.Prelude.{◌≡◌, ◌++◌, ◌≤◌, length, drop};
-ghost use Rattle.plates.specs.Prepare.{ofParts};
+ghost use Rattle.plates.specs.Prepare.{of_parts};
 ghost use Rattle.listings.specs.Building.{Ends};
-ghost use Rattle.listings.specs.Lines.{plateLine, profileLine, word_line};
+ghost use Rattle.listings.specs.Lines.{plate_line, profile_line, word_line};
 ghost use Rattle.listings.specs.Writing.{WritesLine, WritesPlate, WritesProfile, WritesWord, WritesRefused, WritesEnd, WritesWeight, WritesLeast, WritesNoLeast, WritesTally};
 
 mod pieces;
@@ -62,7 +62,7 @@ fn write_line(line: &pieces::Line, at: usize, room: &mut [u8]) -> Written
 
 // The line `plate`, from n, k and the profile's entries in use.
 fn put_plate(n: usize, k: usize, entries: &[u64], room: &mut [u8]) -> Written
-    ensures { WritesLine (plateLine n k entries.now) room.old result room.new }
+    ensures { WritesLine (plate_line n k entries.now) room.old result room.new }
 {
     let mut line = [0; 256];
     let feed = pieces::line_feed(&mut line);
@@ -75,8 +75,8 @@ fn put_plate(n: usize, k: usize, entries: &[u64], room: &mut [u8]) -> Written
 
 // The line `profile`, from the profile's entries in use.
 fn put_profile(entries: &[u64], room: &mut [u8]) -> Written
-    requires { length (profileLine entries.now) ≤ 256 }
-    ensures { WritesLine (profileLine entries.now) room.old result room.new }
+    requires { length (profile_line entries.now) ≤ 256 }
+    ensures { WritesLine (profile_line entries.now) room.old result room.new }
 {
     let mut line = [0; 256];
     let first = pieces::prepend_entries(&mut line, entries);
@@ -117,7 +117,7 @@ pub fn write_plate_parts<'a>(
     profile: &'a [u64],
     room: &mut [u8],
 ) -> Written
-    ensures { WritesPlate (ofParts n k mask rows.now profile.now) room.old result room.new }
+    ensures { WritesPlate (of_parts n k mask rows.now profile.now) room.old result room.new }
 {
     if plates::parts_prepared(n, k, mask, rows, profile) {
         let count = n + 1;
@@ -143,7 +143,7 @@ pub fn write_profile_parts<'a>(
     profile: &'a [u64],
     room: &mut [u8],
 ) -> Written
-    ensures { WritesProfile (ofParts n k mask rows.now profile.now) room.old result room.new }
+    ensures { WritesProfile (of_parts n k mask rows.now profile.now) room.old result room.new }
 {
     if plates::parts_prepared(n, k, mask, rows, profile) {
         let count = n + 1;
@@ -173,7 +173,7 @@ pub fn write_word_parts<'a>(
     comparisons: u64,
     room: &mut [u8],
 ) -> Written
-    ensures { WritesWord (ofParts n k mask rows.now profile.now) word metric additions comparisons room.old result room.new }
+    ensures { WritesWord (of_parts n k mask rows.now profile.now) word metric additions comparisons room.old result room.new }
 {
     if plates::parts_prepared(n, k, mask, rows, profile) {
         return put_word(n, word, metric, additions, comparisons, room);

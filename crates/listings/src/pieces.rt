@@ -3,8 +3,8 @@
 ghost use Rattle.std.specs.Prelude.{◌≡◌, cond, ◌∷◌, [], map, ◌+◌, max, nat_abs};
 ghost use Rattle.words.specs.Word.{bit};
 ghost use Rattle.listings.specs.Building.{Prepends};
-ghost use Rattle.listings.specs.Decimal.{decimal, signedDecimal};
-ghost use Rattle.listings.specs.Lines.{largest, less, following, namesField, positions};
+ghost use Rattle.listings.specs.Decimal.{decimal, signed_decimal};
+ghost use Rattle.listings.specs.Lines.{largest, less, following, names_field, positions};
 
 // The array that a line is built in.
 pub type Line = [u8; 256];
@@ -53,7 +53,7 @@ pub fn prepend_field(line: &mut Line, end: usize, value: u64) -> usize
 
 // Whether the place of a refusal is a line and a field.
 pub fn names_field(number: u64) -> bool
-    ensures { result ≡ namesField number }
+    ensures { result ≡ names_field number }
 {
     number == 10 || (17 <= number && number <= 20)
 }
@@ -114,7 +114,7 @@ pub fn magnitude(value: i32) -> u64
 
 // A tab and a number before a place, with a minus exactly when it is below 0.
 pub fn prepend_signed(line: &mut Line, end: usize, metric: i32) -> usize
-    ensures { Prepends line.old end (9 ∷ signedDecimal metric) line.new result }
+    ensures { Prepends line.old end (9 ∷ signed_decimal metric) line.new result }
 {
     let size = magnitude(metric);
     if metric < 0 {

@@ -5,9 +5,9 @@ use Prim.Native.Nat.{ℕ}
 use Rattle.listings.proofs.Determined.{Same, determined}
 use Rattle.listings.specs.declared.Written.{Written}
 use Rattle.outlines.specs.declared.opening.Which.{Which}
-use Rattle.outlines.specs.Opening.{OpenedAs, kindAs, maskAs}
+use Rattle.outlines.specs.Opening.{OpenedAs, kind_as, mask_as}
 use Rattle.outlines.specs.Outline.{WritesBy, WritesPlateSheet}
-use Rattle.outlines.specs.SheetText.{sheetOf}
+use Rattle.outlines.specs.SheetText.{sheet_of}
 use Rattle.plates.proofs.PrepareDetermined.{prepare-determined}
 use Rattle.plates.specs.declared.Prepared.{Prepared}
 use Rattle.plates.specs.declared.Refusal.{Refusal}
@@ -19,7 +19,7 @@ use Rattle.sheets.specs.Sheet.{Reading, reading, refused, says}
 pub one-opened : (which : Which) (found : Reading) (a b : Prepared) → OpenedAs which found a → OpenedAs which found b → a ≡ b
 one-opened which (refused q) a b x y = x ∙ sym y
 one-opened which (says sheet) a b x y =
-    prepare-determined sheet.n (kindAs which sheet.kind) sheet.rows (maskAs which sheet.mask) a b x y
+    prepare-determined sheet.n (kind_as which sheet.kind) sheet.rows (mask_as which sheet.mask) a b x y
 
 once : {refusal : Refusal} {holds : Type 0} (p q : Refusal) → holds × (p ≡ refusal) → holds × (q ≡ refusal) → p ≡ q
 once p q x y = x.1 ∙ sym y.1
@@ -32,5 +32,5 @@ pub write-sheet-determined : (which : Which) (input room : List ℕ) {r s : Writ
     → WritesPlateSheet which input room s b → Same r s a b
 write-sheet-determined which input room {r} {s} {a} {b} x y =
     let e = one-opened which (reading input) x.prepared y.prepared x.opened.is y.opened.is in
-    by-determined y.prepared.verdict (sheetOf y.prepared.plate) room
-    (subst (λ (p : Prepared). WritesBy p.verdict (sheetOf p.plate) room r a) e x.is) y.is
+    by-determined y.prepared.verdict (sheet_of y.prepared.plate) room
+    (subst (λ (p : Prepared). WritesBy p.verdict (sheet_of p.plate) room r a) e x.is) y.is

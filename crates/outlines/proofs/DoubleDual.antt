@@ -9,7 +9,7 @@ use native.Mathlib.Decide.{ℕ_discrete}
 use native.Mathlib.Omega.{arith}
 use Prim.Native.Nat.{◌%◌, ◌+◌, ◌<◌, ◌^◌, min, ℕ}
 use Rattle.decoding.proofs.RestOfWords.{off-below, off-cleared, off-sum}
-use Rattle.decoding.specs.Cosets.{takenOff}
+use Rattle.decoding.specs.Cosets.{taken_off}
 use Rattle.plates.proofs.LastOnesDiffer.{rows-spans}
 use Rattle.plates.proofs.OneCheck.{parity-all, pow-here, pow-other}
 use Rattle.plates.proofs.ProfileSteps.{here-none}
@@ -93,7 +93,7 @@ module _ (n : ℕ) (matrix : List ℕ) (below : (j : ℕ) → j < length matrix 
 
   -- what is left of the word once the rows of a are taken off would begin where no row of a does, so meet a row of b once
   pub double-dual : (w : ℕ) → w < 2 ^ n → ((v : ℕ) → IsSum b v → parity v w ≡ 0) → IsSum matrix w
-  double-dual w h all-even = by (takenOff a w) (off-sum a w) (off-below n a w row_below h) (off-cleared a w spans-a.first spans-a.rising)
+  double-dual w h all-even = by (taken_off a w) (off-sum a w) (off-below n a w row_below h) (off-cleared a w spans-a.first spans-a.rising)
     where
       by : (r : ℕ) → IsSum a (bit_xor w r) → r < 2 ^ n → ((j : ℕ) → j < length a → bit r (firsts a j) ≡ 0) → IsSum matrix w
       by r off small clear = go (ℕ_discrete r 0)

@@ -9,8 +9,8 @@ use Prim.Native.Nat.{◌<◌, ◌^◌, ℕ}
 use Rattle.outlines.proofs.DoubleDual.{check-sum, checks-sums, double-dual}
 use Rattle.outlines.proofs.SameWords.{iff-then, prepares, printed-words}
 use Rattle.outlines.specs.declared.opening.Which.TheVariants.{Dual, Own}
-use Rattle.outlines.specs.Opening.{kindAs}
-use Rattle.outlines.specs.Words.{InDual, PrintsSheet, WordOf, asSheet}
+use Rattle.outlines.specs.Opening.{kind_as}
+use Rattle.outlines.specs.Words.{InDual, PrintsSheet, WordOf, as_sheet}
 use Rattle.plates.specs.Code.{Checked, InCode}
 use Rattle.plates.specs.declared.Kind.{Kind}
 use Rattle.plates.specs.declared.Kind.TheVariants.{G, H}
@@ -28,8 +28,8 @@ use native.Mathlib.Omega.{arith}
 
 -- own: the plate rows of the matrix as it stands; other: those of the matrix under the other letter
 dual-code : (kind : Kind) (n : ℕ) (rows : List ℕ) → ((j : ℕ) → j < length rows → get_or rows j 0 < 2 ^ n) → (own other : List ℕ)
-    → RowsOf (InCode kind n rows) own (firsts own) (lasts own) → RowsOf (InCode (kindAs Dual kind) n rows) other (firsts other) (lasts other)
-    → (w : ℕ) → InCode (kindAs Dual kind) n rows w ↔ ((w < 2 ^ n) × ((v : ℕ) → InCode kind n rows v → parity v w ≡ 0))
+    → RowsOf (InCode kind n rows) own (firsts own) (lasts own) → RowsOf (InCode (kind_as Dual kind) n rows) other (firsts other) (lasts other)
+    → (w : ℕ) → InCode (kind_as Dual kind) n rows w ↔ ((w < 2 ^ n) × ((v : ℕ) → InCode kind n rows v → parity v w ≡ 0))
 dual-code G n rows below own other p q w = (
   (λ c. (c.below, λ v s. checks-sums n rows w v c s)),
   λ c. record { below = c.0; even = λ j h. c.1 (get_or rows j 0) (in_row rows j) },
@@ -44,10 +44,10 @@ pub dual-words : {input text other : List ℕ} (s : PrintsSheet Dual input text)
 dual-words {input} {text} {other} s o c r =
     let found = printed-words s c r in
     let p = (accepted c.n c.kind c.rows c.mask o.prepared (prepares o c r) o.accepted).1.rows in
-    let q = (accepted c.n (kindAs Dual c.kind) c.rows 0 s.prepared (prepares s c r) s.accepted).1.rows in
+    let q = (accepted c.n (kind_as Dual c.kind) c.rows 0 s.prepared (prepares s c r) s.accepted).1.rows in
     let code = dual-code c.kind c.n c.rows (sheet-in-range input c r).below (rows_of o.prepared.plate) (rows_of s.prepared.plate) p q in (
       found.0,
       found.1,
       found.2.0,
-      λ w. iff-then (Iff.symm (found.2.1 w)) (subst (λ (x : ℕ). InCode (kindAs Dual c.kind) c.n c.rows x ↔ InDual c w) (sym (xor_zero_r w)) (code w)),
+      λ w. iff-then (Iff.symm (found.2.1 w)) (subst (λ (x : ℕ). InCode (kind_as Dual c.kind) c.n c.rows x ↔ InDual c w) (sym (xor_zero_r w)) (code w)),
     )

@@ -7,7 +7,7 @@ use mathlib.Core.Path.{◌≡◌, refl, sym, ◌∙◌}
 use native.Mathlib.Omega.{arith}
 use Prim.Native.Nat.{◌*◌, ◌+◌, ◌<◌, ℕ, ◌≤◌}
 use lib.Dec.{eqb}
-use Rattle.decoding.specs.Cosets.{takenOff}
+use Rattle.decoding.specs.Cosets.{taken_off}
 use Rattle.listings.proofs.Backwards.{positions-length}
 use Rattle.listings.proofs.Conditions.{fits-room, too_long}
 use Rattle.listings.proofs.Fits256.{decimal-two}
@@ -16,7 +16,7 @@ use Rattle.listings.specs.declared.Written.TheVariants.{Bytes, Refused}
 use Rattle.listings.specs.Lines.{line, positions}
 use Rattle.listings.specs.Writing.{WritesLine}
 use Rattle.outlines.specs.Putting.{Puts}
-use Rattle.outlines.specs.SheetText.{coverLine, maskLines, row_line, row_lines, sheetOf, sheetText}
+use Rattle.outlines.specs.SheetText.{cover_line, mask_lines, row_line, row_lines, sheet_of, sheet_text}
 use Rattle.plates.proofs.SoundIsPrepared.{sound, used-rows}
 use Rattle.plates.specs.declared.Kind.{Kind}
 use Rattle.plates.specs.declared.Kind.TheVariants.{G}
@@ -35,41 +35,41 @@ rows-length : (n : ℕ) (rows : List ℕ) → n ≤ 64 → length (row_lines n r
 rows-length n [] h = omega arith
 rows-length n (w ∷ rows) h = omega (arith, rows-length n rows h, length-append (row_line n w) (row_lines n rows), row-length n w)
 
-mask-length : (n word : ℕ) → n ≤ 64 → length (maskLines n word) ≤ 70
-unfolding maskLines
+mask-length : (n word : ℕ) → n ≤ 64 → length (mask_lines n word) ≤ 70
+unfolding mask_lines
 mask-length n word h = by (eqb word 0)
   where
     by : (none : Bool) → length (cond none [] (line mask (positions word 0 n ∷ []))) ≤ 70
     by true = omega arith
     by false = let l = length-append (positions word 0 n) (10 ∷ []) in omega (arith, h, l, positions-length word 0 n)
 
-cover-length : (kind : Kind) (n : ℕ) → n ≤ 64 → length (coverLine kind n) ≤ 18
-unfolding coverLine
+cover-length : (kind : Kind) (n : ℕ) → n ≤ 64 → length (cover_line kind n) ≤ 18
+unfolding cover_line
 cover-length kind n h = simp length-append (omega (arith, decimal-two n (omega (arith, h))))
 
-pub sheet-length : (kind : Kind) (n word : ℕ) (rows : List ℕ) → n ≤ 64 → length rows ≤ 64 → length (sheetText kind n word rows) ≤ 8192
-unfolding sheetText
+pub sheet-length : (kind : Kind) (n word : ℕ) (rows : List ℕ) → n ≤ 64 → length rows ≤ 64 → length (sheet_text kind n word rows) ≤ 8192
+unfolding sheet_text
 sheet-length kind n word rows h k =
     simp length-append (omega (arith, k, cover-length kind n h, mask-length n word h, rows-length n rows h))
 
 -- ---- a sheet put at the start of a room
 
 module _ (kind : Kind) (n word : ℕ) (rows : List ℕ) (h : n ≤ 64) (k : length rows ≤ 64) where
-  fits : 0 + length (sheetText kind n word rows) < 18446744073709551616
+  fits : 0 + length (sheet_text kind n word rows) < 18446744073709551616
   fits = omega (arith, sheet-length kind n word rows h k)
 
-  pub sheet-written : {room room' scratch scratch' : List ℕ} {size r : ℕ} → Puts scratch 0 (sheetText kind n word rows) scratch' size → size ≤ length room
-      → Puts room 0 (sheetText kind n word rows) room' r → WritesLine (sheetText kind n word rows) room (Bytes size) room'
+  pub sheet-written : {room room' scratch scratch' : List ℕ} {size r : ℕ} → Puts scratch 0 (sheet_text kind n word rows) scratch' size → size ≤ length room
+      → Puts room 0 (sheet_text kind n word rows) room' r → WritesLine (sheet_text kind n word rows) room (Bytes size) room'
   sheet-written {room} {size = size} m l p =
-      let text = sheetText kind n word rows in
+      let text = sheet_text kind n word rows in
       let e : size ≡ length text = m.next fits ∙ omega arith in
       let z : 0 + length text ≡ length text = omega arith in
       let s : sets room 0 text ≡ text ++ drop (0 + length text) room = sets-eq text room 0 (omega (arith, e, l)) in
       rw (e, p.stands fits, s, z) (fits-room text room (omega (arith, e, l)))
 
-  pub sheet-too-long : {room scratch scratch' : List ℕ} {size : ℕ} → Puts scratch 0 (sheetText kind n word rows) scratch' size → length room < size
-      → WritesLine (sheetText kind n word rows) room (Refused R.LineRoom) room
-  sheet-too-long {room} m l = too_long (sheetText kind n word rows) room (omega (arith, m.next fits, l))
+  pub sheet-too-long : {room scratch scratch' : List ℕ} {size : ℕ} → Puts scratch 0 (sheet_text kind n word rows) scratch' size → length room < size
+      → WritesLine (sheet_text kind n word rows) room (Refused R.LineRoom) room
+  sheet-too-long {room} m l = too_long (sheet_text kind n word rows) room (omega (arith, m.next fits, l))
 
 -- ---- the rows of a prepared plate
 
@@ -88,6 +88,6 @@ module _ {plate : Plate} (p : IsPrepared plate) where
   rows_few = omega (arith, p.few, rows-used)
 
 -- with what is left of the mask
-pub plate-written : (plate : Plate) {word : ℕ} {room room' : List ℕ} {r : Written} → word ≡ takenOff (rows_of plate) plate.mask
-    → WritesLine (sheetText G plate.n word (rows_of plate)) room r room' → WritesLine (sheetOf plate) room r room'
+pub plate-written : (plate : Plate) {word : ℕ} {room room' : List ℕ} {r : Written} → word ≡ taken_off (rows_of plate) plate.mask
+    → WritesLine (sheet_text G plate.n word (rows_of plate)) room r room' → WritesLine (sheet_of plate) room r room'
 plate-written plate e w = rw e at w

@@ -5,18 +5,18 @@ use mathlib.Core.Path.{◌≡◌, ap, refl, subst, sym, ◌∙◌}
 use native.Mathlib.Omega.{arith}
 use Prim.Native.Nat.{ℕ, ◌≤◌}
 use Rattle.outlines.specs.declared.opening.Which.{Which}
-use Rattle.outlines.specs.Opening.{Opened, OpenedAs, kindAs, maskAs}
+use Rattle.outlines.specs.Opening.{Opened, OpenedAs, kind_as, mask_as}
 use Rattle.plates.specs.declared.Kind.{Kind}
 use Rattle.plates.specs.declared.Prepared.{Prepared}
 use Rattle.plates.specs.declared.Refusal.{Refusal}
 use Rattle.plates.specs.Prepare.{Prepares}
-use Rattle.plates.specs.Replying.{refusedWith}
+use Rattle.plates.specs.Replying.{refused_with}
 use Rattle.sheets.proofs.Laying.{laid-front, laid-size}
 use Rattle.sheets.proofs.Ranges.{sheet-in-range}
 use Rattle.sheets.specs.declared.Sheet.{Sheet}
 use Rattle.sheets.specs.declared.SheetReply.{SheetReply}
 use Rattle.sheets.specs.declared.SheetReply.TheVariants.{Read, Refused}
-use Rattle.sheets.specs.Sheet.{Reading, ReadsSheet, reading, refused, says, sheetAt, sheetReply, start_of, tableAfter}
+use Rattle.sheets.specs.Sheet.{Reading, ReadsSheet, reading, refused, says, sheet_at, sheet_reply, start_of, table_after}
 
 -- the table before reading
 abbrev zeros : List ℕ
@@ -35,7 +35,7 @@ module _ {input table : List ℕ} {reply : SheetReply} (s : ReadsSheet input zer
   pub rows-within : {sheet : Sheet} → reply ≡ Read sheet → sheet.rows ≤ length table
   rows-within {sheet} e = by (reading input) refl (sym e ∙ s.reply) s.rows
     where
-      by : (found : Reading) → reading input ≡ found → Read sheet ≡ sheetReply input found → table ≡ tableAfter zeros found → sheet.rows ≤ length table
+      by : (found : Reading) → reading input ≡ found → Read sheet ≡ sheet_reply input found → table ≡ table_after zeros found → sheet.rows ≤ length table
       by (says c) f r t =
           let k : sheet.rows ≡ length c.rows = cc in
           rw (t, laid-size c.rows zeros) (omega (arith, (sheet-in-range input c f).few))
@@ -43,20 +43,20 @@ module _ {input table : List ℕ} {reply : SheetReply} (s : ReadsSheet input zer
 
   -- and its matrix was prepared
   pub opened-sheet : {which : Which} {sheet : Sheet} {r : Prepared} → reply ≡ Read sheet
-      → Prepares sheet.n (kindAs which sheet.kind) (take sheet.rows table) (maskAs which sheet.mask) r → Opened which input r
+      → Prepares sheet.n (kind_as which sheet.kind) (take sheet.rows table) (mask_as which sheet.mask) r → Opened which input r
   opened-sheet {which} {sheet} {r} e p = record { is = by (reading input) refl (sym e ∙ s.reply) s.rows }
     where
-      by : (found : Reading) → reading input ≡ found → Read sheet ≡ sheetReply input found → table ≡ tableAfter zeros found → OpenedAs which found r
+      by : (found : Reading) → reading input ≡ found → Read sheet ≡ sheet_reply input found → table ≡ table_after zeros found → OpenedAs which found r
       by (says c) f rd t =
-          let g : sheet ≡ sheetAt (start_of input c) c = cc in
-          subst (λ (rows : List ℕ). Prepares c.n (kindAs which c.kind) rows (maskAs which c.mask) r)
+          let g : sheet ≡ sheet_at (start_of input c) c = cc in
+          subst (λ (rows : List ℕ). Prepares c.n (kind_as which c.kind) rows (mask_as which c.mask) r)
           (laid-front c.rows zeros (omega (arith, (sheet-in-range input c f).few))) (rw (g, t) at p)
       by (refused q) f rd t = no-sheet rd
 
   -- the input was refused
-  pub opened-refused : {which : Which} {q : Refusal} {r : Prepared} → reply ≡ Refused q → r ≡ refusedWith q → Opened which input r
+  pub opened-refused : {which : Which} {q : Refusal} {r : Prepared} → reply ≡ Refused q → r ≡ refused_with q → Opened which input r
   opened-refused {which} {q} {r} e f = record { is = by (reading input) (sym e ∙ s.reply) }
     where
-      by : (found : Reading) → Refused q ≡ sheetReply input found → OpenedAs which found r
+      by : (found : Reading) → Refused q ≡ sheet_reply input found → OpenedAs which found r
       by (says c) rd = no-sheet (sym rd)
-      by (refused p) rd = let g : q ≡ p = cc in f ∙ ap refusedWith g
+      by (refused p) rd = let g : q ≡ p = cc in f ∙ ap refused_with g

@@ -11,7 +11,7 @@ use Rattle.listings.proofs.Digits.{decimal-high, decimal-low}
 use Rattle.listings.specs.Decimal.{decimal}
 use Rattle.listings.specs.Lines.{line, positions}
 use Rattle.outlines.specs.Putting.{Puts}
-use Rattle.outlines.specs.SheetText.{coverLine, letterOf, maskLines, row_line, row_lines, sheetText}
+use Rattle.outlines.specs.SheetText.{cover_line, letter_of, mask_lines, row_line, row_lines, sheet_text}
 use Rattle.plates.specs.declared.Kind.{Kind}
 use Rattle.sheets.specs.Words.{mask}
 use Rattle.words.specs.Word.{bit}
@@ -127,25 +127,25 @@ line-put p q r s = puts_then p (puts_then q (puts_then r s))
 
 -- the cover: its word and n, the letter, and first
 pub cover-put : (kind : Kind) (n : ℕ) {x at r s t u v : ℕ} {a b c d e f : List ℕ} → Puts a at (99 ∷ 111 ∷ 118 ∷ 101 ∷ 114 ∷ 9 ∷ []) b r
-    → Puts b r (decimal n) c s → Puts c s (9 ∷ []) d t → x ≡ letterOf kind → Puts d t (x ∷ []) e u
-    → Puts e u (9 ∷ 102 ∷ 105 ∷ 114 ∷ 115 ∷ 116 ∷ 10 ∷ []) f v → Puts a at (coverLine kind n) f v
-unfolding coverLine
+    → Puts b r (decimal n) c s → Puts c s (9 ∷ []) d t → x ≡ letter_of kind → Puts d t (x ∷ []) e u
+    → Puts e u (9 ∷ 102 ∷ 105 ∷ 114 ∷ 115 ∷ 116 ∷ 10 ∷ []) f v → Puts a at (cover_line kind n) f v
+unfolding cover_line
 cover-put kind n p q r l s t = puts_then p (puts_then q (puts_then r (puts_then (rw l at s) t)))
 
 -- a mask that is zero has no line
-pub mask-none : (n word : ℕ) {room : List ℕ} {at : ℕ} → word ≡ 0 → Puts room at (maskLines n word) room at
-unfolding maskLines
+pub mask-none : (n word : ℕ) {room : List ℕ} {at : ℕ} → word ≡ 0 → Puts room at (mask_lines n word) room at
+unfolding mask_lines
 mask-none n word {room} {at} e = rw e (puts_none room at)
 
 pub mask-put : (n word : ℕ) {room room' : List ℕ} {at r : ℕ} → (word ≡ 0 → ⊥) → Puts room at (line mask (positions word 0 n ∷ [])) room' r
-    → Puts room at (maskLines n word) room' r
-unfolding maskLines
+    → Puts room at (mask_lines n word) room' r
+unfolding mask_lines
 mask-put n word h p = rw (ne_eqb word 0 h) p
 
 -- the lines of a sheet
-pub text-put : (kind : Kind) (n word : ℕ) (rows : List ℕ) {at r s t u : ℕ} {a b c d e : List ℕ} → Puts a at (coverLine kind n) b r
-    → Puts b r (maskLines n word) c s → Puts c s (row_lines n rows) d t → Puts d t (101 ∷ 110 ∷ 100 ∷ 10 ∷ []) e u → Puts a at (sheetText kind n word rows) e u
-unfolding sheetText
+pub text-put : (kind : Kind) (n word : ℕ) (rows : List ℕ) {at r s t u : ℕ} {a b c d e : List ℕ} → Puts a at (cover_line kind n) b r
+    → Puts b r (mask_lines n word) c s → Puts c s (row_lines n rows) d t → Puts d t (101 ∷ 110 ∷ 100 ∷ 10 ∷ []) e u → Puts a at (sheet_text kind n word rows) e u
+unfolding sheet_text
 text-put kind n word rows p q r s = puts_then p (puts_then q (puts_then r s))
 
 -- ---- the rows, from turn to turn
@@ -171,8 +171,8 @@ module _ {room : List ℕ} {at : ℕ} {rows : List ℕ} {n : ℕ} where
     pub rows_on : {room'' : List ℕ} {k : ℕ} → i < length rows → Puts room' r (row_line n (get_or rows i 0)) room'' k → RowsPut room at rows n (i + 1) room'' k
     rows_on h q = record { within = omega (arith, h); puts = rw (add-one, rows_more n rows i h) (puts_then b.puts q) }
 
-    pub rows-size : length room' ≡ length room
-    rows-size = b.puts.size
+    pub rows_size : length room' ≡ length room
+    rows_size = b.puts.size
 
     pub rows_end : length rows ≤ i → Puts room at (row_lines n rows) room' r
     rows_end h = rw (take_all i rows h) at b.puts

@@ -16,14 +16,14 @@ use Rattle.listings.specs.Decimal.{decimal}
 use Rattle.listings.specs.Lines.{line, positions}
 use Rattle.outlines.proofs.Fitting.{sheet-length}
 use Rattle.outlines.proofs.Putting.{tens}
-use Rattle.outlines.specs.SheetText.{coverLine, letterOf, maskLines, row_line, row_lines, sheetText}
+use Rattle.outlines.specs.SheetText.{cover_line, letter_of, mask_lines, row_line, row_lines, sheet_text}
 use Rattle.plates.specs.declared.Kind.{Kind}
 use Rattle.plates.specs.declared.Kind.TheVariants.{G, H}
 use Rattle.plates.specs.declared.Verdict.{Verdict}
 use Rattle.plates.specs.declared.Verdict.TheVariants as J
 use Rattle.sheets.proofs.Characters.{word_small}
 use Rattle.sheets.proofs.Positions.{position_first}
-use Rattle.sheets.specs.Covers.{coverFields, coverIs, coverOf}
+use Rattle.sheets.specs.Covers.{cover_fields, cover_is, cover_of}
 use Rattle.sheets.specs.declared.body.Ending.TheVariants.{Fine}
 use Rattle.sheets.specs.declared.cover.Cover.{Cover}
 use Rattle.sheets.specs.declared.cover.CoverLine.TheVariants as C
@@ -37,11 +37,11 @@ use Rattle.sheets.specs.declared.number.Number.{Number}
 use Rattle.sheets.specs.declared.number.Number.TheVariants as N
 use Rattle.sheets.specs.declared.Order.TheVariants.{First}
 use Rattle.sheets.specs.declared.row.Row.TheVariants as R
-use Rattle.sheets.specs.Lines.{front, line_of, rowIs, rows_of}
-use Rattle.sheets.specs.Masks.{maskFront, maskIn, maskIs, mask_of, masksIn}
+use Rattle.sheets.specs.Lines.{front, line_of, row_is, rows_of}
+use Rattle.sheets.specs.Masks.{mask_front, mask_in, mask_is, mask_of, masks_in}
 use Rattle.sheets.specs.Numbers.{number_of}
-use Rattle.sheets.specs.Rows.{bit_of, bitsOnly, row_of, wordFrom}
-use Rattle.sheets.specs.Sheet.{Contents, badBy, contents, coverFront, endingAfter, reading, readingBy, says, verdict}
+use Rattle.sheets.specs.Rows.{bit_of, bits_only, row_of, word_from}
+use Rattle.sheets.specs.Sheet.{Contents, bad_by, contents, cover_front, ending_after, reading, reading_by, says, verdict}
 use Rattle.sheets.specs.Text.{fields, lines, parts}
 use Rattle.sheets.specs.Words.{cover, end, first, mask, row}
 use Rattle.words.proofs.Word.{below-ext, bit-cases}
@@ -89,17 +89,17 @@ bit-back w i = by (bit-cases w i)
     by (inl e) = rw e
     by (inr e) = rw e
 
-bits-only : (w p n : ℕ) → bitsOnly (positions w p n) ≡ true
+bits-only : (w p n : ℕ) → bits_only (positions w p n) ≡ true
 bits-only w p zero = refl
 bits-only w p (suc n) = by (bit-cases w p) (bits-only w (suc p) n)
   where
-    by : (bit w p ≡ 0) ⊎ (bit w p ≡ 1) → bitsOnly (positions w (suc p) n) ≡ true → bitsOnly (positions w p (suc n)) ≡ true
+    by : (bit w p ≡ 0) ⊎ (bit w p ≡ 1) → bits_only (positions w (suc p) n) ≡ true → bits_only (positions w p (suc n)) ≡ true
     by (inl e) f = rw (e, f)
     by (inr e) f = rw (e, f)
 
-word_back : (n w : ℕ) → w < 2 ^ n → wordFrom (positions w 0 n) ≡ w
+word_back : (n w : ℕ) → w < 2 ^ n → word_from (positions w 0 n) ≡ w
 word_back n w h =
-    below-ext n (wordFrom (positions w 0 n)) w (rw (positions-length w 0 n) at (word_small (positions w 0 n))) h
+    below-ext n (word_from (positions w 0 n)) w (rw (positions-length w 0 n) at (word_small (positions w 0 n))) h
     (λ i l. position_first (positions w 0 n) i (omega (arith, positions-length w 0 n, l))
     ∙ ap bit_of (positions-at w 0 n i l) ∙ bit-back w (0 + i) ∙ ap (bit w) (zero-add i))
 
@@ -109,32 +109,32 @@ row_back n w h = rw (eq-eqb (length (positions w 0 n)) n (positions-length w 0 n
 -- ---- the rows
 
 -- the line of a row or mask without the line feed
-abbrev rowText : ℕ → ℕ → List ℕ
-rowText n w = row ++ 9 ∷ positions w 0 n
+abbrev row_text : ℕ → ℕ → List ℕ
+row_text n w = row ++ 9 ∷ positions w 0 n
 
-abbrev maskText : ℕ → ℕ → List ℕ
-maskText n w = mask ++ 9 ∷ positions w 0 n
+abbrev mask_text : ℕ → ℕ → List ℕ
+mask_text n w = mask ++ 9 ∷ positions w 0 n
 
 -- the rows' lines, the line end, and nothing after
 abbrev texts : ℕ → List ℕ → List (List ℕ)
 texts n [] = end ∷ [] ∷ []
-texts n (w ∷ ws) = rowText n w ∷ texts n ws
+texts n (w ∷ ws) = row_text n w ∷ texts n ws
 
 module _ (n : ℕ) where
-  row-fields : (w : ℕ) → fields (rowText n w) ≡ row ∷ positions w 0 n ∷ []
+  row-fields : (w : ℕ) → fields (row_text n w) ≡ row ∷ positions w 0 n ∷ []
   row-fields w =
       part-more 9 row (positions w 0 n) (refl, (refl, (refl, tt)))
       ∙ ap (λ (rest : List (List ℕ)). row ∷ rest) (part-one 9 (positions w 0 n) (positions-free 9 (omega arith) w 0 n))
 
-  mask-fields : (w : ℕ) → fields (maskText n w) ≡ mask ∷ positions w 0 n ∷ []
+  mask-fields : (w : ℕ) → fields (mask_text n w) ≡ mask ∷ positions w 0 n ∷ []
   mask-fields w =
       part-more 9 mask (positions w 0 n) (refl, (refl, (refl, (refl, tt))))
       ∙ ap (λ (rest : List (List ℕ)). mask ∷ rest) (part-one 9 (positions w 0 n) (positions-free 9 (omega arith) w 0 n))
 
-  row-line : (w : ℕ) → w < 2 ^ n → line_of n First Nothing (fields (rowText n w)) ≡ L.Row w
-  row-line w h = ap (line_of n First Nothing) (row-fields w) ∙ ap rowIs (row_back n w h)
+  row-line : (w : ℕ) → w < 2 ^ n → line_of n First Nothing (fields (row_text n w)) ≡ L.Row w
+  row-line w h = ap (line_of n First Nothing) (row-fields w) ∙ ap row_is (row_back n w h)
 
-  row-front : (w : ℕ) (ws : List ℕ) → w < 2 ^ n → front n First Nothing (rowText n w ∷ texts n ws) ≡ L.Row w
+  row-front : (w : ℕ) (ws : List ℕ) → w < 2 ^ n → front n First Nothing (row_text n w ∷ texts n ws) ≡ L.Row w
   row-front w [] h = row-line w h
   row-front w (x ∷ ws) h = row-line w h
 
@@ -146,45 +146,45 @@ module _ (n : ℕ) where
   after-rows [] = refl
   after-rows (w ∷ ws) = after-rows ws
 
-  row-feed : (w : ℕ) (s : List ℕ) → row_line n w ++ s ≡ rowText n w ++ 10 ∷ s
+  row-feed : (w : ℕ) (s : List ℕ) → row_line n w ++ s ≡ row_text n w ++ 10 ∷ s
   row-feed w s = simp append_assoc
 
   rows-lines : (ws : List ℕ) → lines (row_lines n ws ++ line end []) ≡ texts n ws
   rows-lines [] = refl
   rows-lines (w ∷ ws) =
       ap lines (append_assoc (row_line n w) (row_lines n ws) (line end []) ∙ row-feed w (row_lines n ws ++ line end []))
-      ∙ part-more 10 (rowText n w) (row_lines n ws ++ line end []) (refl, (refl, (refl, (refl, positions-free 10 (omega arith) w 0 n))))
-      ∙ ap (λ (rest : List (List ℕ)). rowText n w ∷ rest) (rows-lines ws)
+      ∙ part-more 10 (row_text n w) (row_lines n ws ++ line end []) (refl, (refl, (refl, (refl, positions-free 10 (omega arith) w 0 n))))
+      ∙ ap (λ (rest : List (List ℕ)). row_text n w ∷ rest) (rows-lines ws)
 
 -- ---- the mask
 
 -- the lines after the cover, of which the mask's is one or none
 record MaskRead (n word : ℕ) (rows : List ℕ) (ls : List (List ℕ)) : Type 0 where
   found : MaskLine
-  is : maskFront n First ls ≡ found
-  says-word : maskIn found ≡ word
-  left : drop (masksIn found) ls ≡ texts n rows
-  fine : (c : Contents) → endingAfter c (drop (masksIn found) ls) ≡ Fine → badBy found c ls ≡ J.Accepted
-  long : (l : List ℕ) → coverFront (l ∷ ls) ≡ coverOf (fields l)
-  text : lines (maskLines n word ++ (row_lines n rows ++ line end [])) ≡ ls
+  is : mask_front n First ls ≡ found
+  says_word : mask_in found ≡ word
+  left : drop (masks_in found) ls ≡ texts n rows
+  fine : (c : Contents) → ending_after c (drop (masks_in found) ls) ≡ Fine → bad_by found c ls ≡ J.Accepted
+  long : (l : List ℕ) → cover_front (l ∷ ls) ≡ cover_of (fields l)
+  text : lines (mask_lines n word ++ (row_lines n rows ++ line end [])) ≡ ls
 
 module _ (n : ℕ) (rows : List ℕ) where
   -- no mask line
-  none-front : (ws : List ℕ) → maskFront n First (texts n ws) ≡ M.NoMask
+  none-front : (ws : List ℕ) → mask_front n First (texts n ws) ≡ M.NoMask
   none-front [] = refl
   none-front (w ∷ []) = ap (mask_of n First) (row-fields n w)
   none-front (w ∷ x ∷ ws) = ap (mask_of n First) (row-fields n w)
 
-  none-long : (ws l : List ℕ) → coverFront (l ∷ texts n ws) ≡ coverOf (fields l)
+  none-long : (ws l : List ℕ) → cover_front (l ∷ texts n ws) ≡ cover_of (fields l)
   none-long [] l = refl
   none-long (w ∷ ws) l = refl
 
   unmasked : MaskRead n 0 rows (texts n rows)
-  unfolding maskLines
+  unfolding mask_lines
   unmasked = record {
     found = M.NoMask;
     is = none-front rows;
-    says-word = refl;
+    says_word = refl;
     left = refl;
     fine = λ c e. rw e;
     long = none-long rows;
@@ -192,25 +192,25 @@ module _ (n : ℕ) (rows : List ℕ) where
   }
 
   module _ (word : ℕ) (h : word < 2 ^ n) (some : word ≡ 0 → ⊥) where
-    mask_is : (ws : List ℕ) → maskFront n First (maskText n word ∷ texts n ws) ≡ M.Is word
-    mask_is [] = ap (mask_of n First) (mask-fields n word) ∙ ap (λ r. maskIs (rowIs r)) (row_back n word h)
-    mask_is (w ∷ ws) = ap (mask_of n First) (mask-fields n word) ∙ ap (λ r. maskIs (rowIs r)) (row_back n word h)
+    mask_is_lem : (ws : List ℕ) → mask_front n First (mask_text n word ∷ texts n ws) ≡ M.Is word
+    mask_is_lem [] = ap (mask_of n First) (mask-fields n word) ∙ ap (λ r. mask_is (row_is r)) (row_back n word h)
+    mask_is_lem (w ∷ ws) = ap (mask_of n First) (mask-fields n word) ∙ ap (λ r. mask_is (row_is r)) (row_back n word h)
 
-    mask-feed : (s : List ℕ) → line mask (positions word 0 n ∷ []) ++ s ≡ maskText n word ++ 10 ∷ s
+    mask-feed : (s : List ℕ) → line mask (positions word 0 n ∷ []) ++ s ≡ mask_text n word ++ 10 ∷ s
     mask-feed s = simp append_assoc
 
-    masked : MaskRead n word rows (maskText n word ∷ texts n rows)
-    unfolding maskLines
+    masked : MaskRead n word rows (mask_text n word ∷ texts n rows)
+    unfolding mask_lines
     masked = record {
       found = M.Is word;
-      is = mask_is rows;
-      says-word = refl;
+      is = mask_is_lem rows;
+      says_word = refl;
       left = refl;
       fine = λ c e. rw e;
       long = λ l. refl;
       text = rw (ne_eqb word 0 some) (ap lines (mask-feed (row_lines n rows ++ line end []))
-          ∙ part-more 10 (maskText n word) (row_lines n rows ++ line end []) (refl, (refl, (refl, (refl, (refl, positions-free 10 (omega arith) word 0 n)))))
-          ∙ ap (λ (rest : List (List ℕ)). maskText n word ∷ rest) (rows-lines n rows));
+          ∙ part-more 10 (mask_text n word) (row_lines n rows ++ line end []) (refl, (refl, (refl, (refl, (refl, positions-free 10 (omega arith) word 0 n)))))
+          ∙ ap (λ (rest : List (List ℕ)). mask_text n word ∷ rest) (rows-lines n rows));
     }
 
   -- with it or without
@@ -219,7 +219,7 @@ module _ (n : ℕ) (rows : List ℕ) where
     where
       by : Dec (word ≡ 0) → (ls : List (List ℕ)) × MaskRead n word rows ls
       by (yes e) = subst (λ (w : ℕ). (ls : List (List ℕ)) × MaskRead n w rows ls) (sym e) (texts n rows, unmasked)
-      by (no e) = (maskText n word ∷ texts n rows, masked word h e)
+      by (no e) = (mask_text n word ∷ texts n rows, masked word h e)
 
 -- ---- the cover
 
@@ -243,35 +243,35 @@ number-back n h = by (dec_lt n 10)
         )
 
 -- its line without the line feed
-abbrev coverText : Kind → ℕ → List ℕ
-coverText kind n = cover ++ 9 ∷ (decimal n ++ 9 ∷ letterOf kind ∷ 9 ∷ first)
+abbrev cover_text : Kind → ℕ → List ℕ
+cover_text kind n = cover ++ 9 ∷ (decimal n ++ 9 ∷ letter_of kind ∷ 9 ∷ first)
 
-abbrev coverSays : Kind → ℕ → Cover
-coverSays kind n = record { n = n; kind = kind; order = First }
+abbrev cover_says : Kind → ℕ → Cover
+cover_says kind n = record { n = n; kind = kind; order = First }
 
 module _ (n : ℕ) (h : n < 100) where
   -- what follows n
-  after-n : (kind : Kind) → fields (letterOf kind ∷ 9 ∷ first) ≡ (letterOf kind ∷ []) ∷ first ∷ []
+  after-n : (kind : Kind) → fields (letter_of kind ∷ 9 ∷ first) ≡ (letter_of kind ∷ []) ∷ first ∷ []
   after-n G = refl
   after-n H = refl
 
-  letter-free : (kind : Kind) → Free 10 (9 ∷ letterOf kind ∷ 9 ∷ first)
+  letter-free : (kind : Kind) → Free 10 (9 ∷ letter_of kind ∷ 9 ∷ first)
   letter-free G = (refl, (refl, (refl, (refl, (refl, (refl, (refl, (refl, tt))))))))
   letter-free H = (refl, (refl, (refl, (refl, (refl, (refl, (refl, (refl, tt))))))))
 
-  cover-fields : (kind : Kind) → fields (coverText kind n) ≡ cover ∷ decimal n ∷ (letterOf kind ∷ []) ∷ first ∷ []
+  cover-fields : (kind : Kind) → fields (cover_text kind n) ≡ cover ∷ decimal n ∷ (letter_of kind ∷ []) ∷ first ∷ []
   cover-fields kind =
-      part-more 9 cover (decimal n ++ 9 ∷ letterOf kind ∷ 9 ∷ first) (refl, (refl, (refl, (refl, (refl, tt)))))
-      ∙ ap (λ (rest : List (List ℕ)). cover ∷ rest) (part-more 9 (decimal n) (letterOf kind ∷ 9 ∷ first) (decimal-free 9 (omega arith) n h)
+      part-more 9 cover (decimal n ++ 9 ∷ letter_of kind ∷ 9 ∷ first) (refl, (refl, (refl, (refl, (refl, tt)))))
+      ∙ ap (λ (rest : List (List ℕ)). cover ∷ rest) (part-more 9 (decimal n) (letter_of kind ∷ 9 ∷ first) (decimal-free 9 (omega arith) n h)
       ∙ ap (λ (rest : List (List ℕ)). decimal n ∷ rest) (after-n kind))
 
-  cover-is : (kind : Kind) → coverOf (fields (coverText kind n)) ≡ C.Is (coverSays kind n)
-  unfolding coverFields
-  cover-is G = ap coverOf (cover-fields G) ∙ ap (λ (m : Number). coverIs m (K.Is G) (O.Is First)) (number-back n h)
-  cover-is H = ap coverOf (cover-fields H) ∙ ap (λ (m : Number). coverIs m (K.Is H) (O.Is First)) (number-back n h)
+  cover-is : (kind : Kind) → cover_of (fields (cover_text kind n)) ≡ C.Is (cover_says kind n)
+  unfolding cover_fields
+  cover-is G = ap cover_of (cover-fields G) ∙ ap (λ (m : Number). cover_is m (K.Is G) (O.Is First)) (number-back n h)
+  cover-is H = ap cover_of (cover-fields H) ∙ ap (λ (m : Number). cover_is m (K.Is H) (O.Is First)) (number-back n h)
 
-  cover-feed : (kind : Kind) (s : List ℕ) → coverLine kind n ++ s ≡ coverText kind n ++ 10 ∷ s
-  unfolding coverLine
+  cover-feed : (kind : Kind) (s : List ℕ) → cover_line kind n ++ s ≡ cover_text kind n ++ 10 ∷ s
+  unfolding cover_line
   cover-feed kind s = simp append_assoc
 
 -- ---- a sheet
@@ -283,7 +283,7 @@ canonical kind n word rows = record { n = n; kind = kind; order = First; mask = 
 module _ (kind : Kind) (n word : ℕ) (rows : List ℕ) (some : 1 ≤ n) (short : n ≤ 64) (few : length rows ≤ 64) (reach : word < 2 ^ n)
     (below : (j : ℕ) → j < length rows → get_or rows j 0 < 2 ^ n) where
   abbrev text : List ℕ
-  text = sheetText kind n word rows
+  text = sheet_text kind n word rows
 
   small : n < 100
   small = omega arith
@@ -295,11 +295,11 @@ module _ (kind : Kind) (n word : ℕ) (rows : List ℕ) (some : 1 ≤ n) (short 
   m : MaskRead n word rows ls
   m = (mask-read n rows word reach).1
 
-  sheet-lines : lines text ≡ coverText kind n ∷ ls
-  unfolding sheetText
+  sheet-lines : lines text ≡ cover_text kind n ∷ ls
+  unfolding sheet_text
   sheet-lines =
-      ap lines (cover-feed n small kind (maskLines n word ++ (row_lines n rows ++ line end [])))
-      ∙ part-more 10 (coverText kind n) (maskLines n word ++ (row_lines n rows ++ line end [])) (
+      ap lines (cover-feed n small kind (mask_lines n word ++ (row_lines n rows ++ line end [])))
+      ∙ part-more 10 (cover_text kind n) (mask_lines n word ++ (row_lines n rows ++ line end [])) (
         refl,
         (
           refl,
@@ -311,7 +311,7 @@ module _ (kind : Kind) (n word : ℕ) (rows : List ℕ) (some : 1 ≤ n) (short 
                 refl,
                 (
                   refl,
-                  free-append 10 (decimal n) (9 ∷ letterOf kind ∷ 9 ∷ first) (decimal-free 10 (omega arith) n small)
+                  free-append 10 (decimal n) (9 ∷ letter_of kind ∷ 9 ∷ first) (decimal-free 10 (omega arith) n small)
                       (letter-free n small kind),
                 ),
               ),
@@ -319,16 +319,16 @@ module _ (kind : Kind) (n word : ℕ) (rows : List ℕ) (some : 1 ≤ n) (short 
           ),
         ),
       )
-      ∙ ap (λ (rest : List (List ℕ)). coverText kind n ∷ rest) m.text
+      ∙ ap (λ (rest : List (List ℕ)). cover_text kind n ∷ rest) m.text
 
-  cover-back : coverFront (coverText kind n ∷ ls) ≡ C.Is (coverSays kind n)
-  cover-back = m.long (coverText kind n) ∙ cover-is n small kind
+  cover-back : cover_front (cover_text kind n ∷ ls) ≡ C.Is (cover_says kind n)
+  cover-back = m.long (cover_text kind n) ∙ cover-is n small kind
 
   says-it : contents text ≡ canonical kind n word rows
   unfolding contents
-  says-it = rw (sheet-lines, cover-back, m.is, m.says-word, m.left, rows_back n rows below, after-rows n rows)
+  says-it = rw (sheet-lines, cover-back, m.is, m.says_word, m.left, rows_back n rows below, after-rows n rows)
 
-  ends : endingAfter (canonical kind n word rows) (drop (masksIn m.found) ls) ≡ Fine
+  ends : ending_after (canonical kind n word rows) (drop (masks_in m.found) ls) ≡ Fine
   ends = rw (m.left, after-rows n rows)
 
   accepted : verdict text ≡ J.Accepted
@@ -348,4 +348,4 @@ module _ (kind : Kind) (n word : ℕ) (rows : List ℕ) (some : 1 ≤ n) (short 
 
   -- the theorem
   pub read_back : reading text ≡ says (canonical kind n word rows)
-  read_back = ap (λ (v : Verdict). readingBy v (contents text)) accepted ∙ ap says says-it
+  read_back = ap (λ (v : Verdict). reading_by v (contents text)) accepted ∙ ap says says-it

@@ -7,9 +7,9 @@ use Rattle.listings.specs.declared.Written.{Written}
 use Rattle.listings.specs.declared.Written.TheVariants.{Refused}
 use Rattle.listings.specs.Writing.{WritesLine}
 use Rattle.outlines.specs.declared.opening.Which.{Which}
-use Rattle.outlines.specs.Opening.{Opened, OpenedAs, kindAs, maskAs}
+use Rattle.outlines.specs.Opening.{Opened, OpenedAs, kind_as, mask_as}
 use Rattle.outlines.specs.Outline.{WritesBy, WritesPlateSheet}
-use Rattle.outlines.specs.SheetText.{sheetOf}
+use Rattle.outlines.specs.SheetText.{sheet_of}
 use Rattle.plates.specs.declared.Prepared.{Prepared}
 use Rattle.plates.specs.declared.Refusal.{Refusal}
 use Rattle.plates.specs.declared.Verdict.{Verdict}
@@ -25,18 +25,18 @@ module _ {which : Which} {input : List ℕ} {prepared : Prepared} (o : Opened wh
     where
       by : (found : Reading) → OpenedAs which found prepared → IsPrepared prepared.plate
       by (refused q) f = let s : J.Refused q ≡ J.Accepted = cc in let z : ◌≡◌ {A = ℕ} 0 1 = cc in absurd (omega arith)
-      by (says sheet) f = accepted-prepared sheet.n (kindAs which sheet.kind) sheet.rows (maskAs which sheet.mask) prepared f e
+      by (says sheet) f = accepted-prepared sheet.n (kind_as which sheet.kind) sheet.rows (mask_as which sheet.mask) prepared f e
 
   module _ {room : List ℕ} where
     -- a refusal changes nothing
     pub sheet-refused : {q : Refusal} → prepared.verdict ≡ J.Refused q → WritesPlateSheet which input room (Refused q) room
     sheet-refused {q} e =
-        let text = sheetOf prepared.plate in
+        let text = sheet_of prepared.plate in
         record { prepared = prepared; opened = o; is = subst (λ (v : Verdict). WritesBy v text room (Refused q) room) (sym e) (refl, refl) }
 
     -- else the sheet is written
-    pub sheet-given : {r : Written} {room' : List ℕ} → prepared.verdict ≡ J.Accepted → WritesLine (sheetOf prepared.plate) room r room'
+    pub sheet-given : {r : Written} {room' : List ℕ} → prepared.verdict ≡ J.Accepted → WritesLine (sheet_of prepared.plate) room r room'
         → WritesPlateSheet which input room r room'
     sheet-given {r} {room'} e w =
-        let text = sheetOf prepared.plate in
+        let text = sheet_of prepared.plate in
         record { prepared = prepared; opened = o; is = subst (λ (v : Verdict). WritesBy v text room r room') (sym e) w }

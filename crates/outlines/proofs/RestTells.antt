@@ -7,7 +7,7 @@ use native.Mathlib.Omega.{arith}
 use Prim.Native.Nat.{◌<◌, ◌^◌, ℕ}
 use Rattle.decoding.proofs.MaskedWords.{code-word, off-clear, rest_of, word-code}
 use Rattle.decoding.proofs.RestOfWords.{off-below, off-sum, xor-through}
-use Rattle.decoding.specs.Cosets.{takenOff}
+use Rattle.decoding.specs.Cosets.{taken_off}
 use Rattle.outlines.proofs.Fitting.{rows-used}
 use Rattle.plates.proofs.SoundIsPrepared.{prepared, sound, used-row}
 use Rattle.plates.specs.declared.Plate.{Plate}
@@ -31,15 +31,15 @@ module _ (plate : Plate) (p : IsPrepared plate) where
       let k : j < plate.k = omega (arith, h, rows-used p) in
       subst (λ (x : ℕ). x < 2 ^ plate.n) (sym (used-row plate j k)) ((sound p).below j k)
 
-  pub rest_below : (a : ℕ) → a < 2 ^ plate.n → takenOff (rows_of plate) a < 2 ^ plate.n
+  pub rest_below : (a : ℕ) → a < 2 ^ plate.n → taken_off (rows_of plate) a < 2 ^ plate.n
   rest_below a h = off-below plate.n (rows_of plate) a rows-below h
 
   -- the difference of what is left is a codeword with 0 at every head, so it is zero
   pub rest-same : (a b : ℕ) → a < 2 ^ plate.n → b < 2 ^ plate.n → IsSum (rows_of plate) (bit_xor a b)
-      → takenOff (rows_of plate) a ≡ takenOff (rows_of plate) b
-  rest-same a b h k c = by (takenOff (rows_of plate) a) (takenOff (rows_of plate) b) refl refl
+      → taken_off (rows_of plate) a ≡ taken_off (rows_of plate) b
+  rest-same a b h k c = by (taken_off (rows_of plate) a) (taken_off (rows_of plate) b) refl refl
     where
-      by : (x y : ℕ) → x ≡ takenOff (rows_of plate) a → y ≡ takenOff (rows_of plate) b → x ≡ y
+      by : (x y : ℕ) → x ≡ taken_off (rows_of plate) a → y ≡ taken_off (rows_of plate) b → x ≡ y
       by x y e f = go (ℕ_discrete (bit_xor x y) 0)
         where
           -- x + a, a + b and b + y are codewords
@@ -63,11 +63,11 @@ module _ (plate : Plate) (p : IsPrepared plate) where
               absurd (zero_one (clear _ g) g.one)
 
   -- the plate with what is left of its mask
-  abbrev pub restedPlate : Plate
-  restedPlate = record { n = plate.n; k = plate.k; mask = rest_of plate; rows = plate.rows; profile = plate.profile }
+  abbrev pub rested_plate : Plate
+  rested_plate = record { n = plate.n; k = plate.k; mask = rest_of plate; rows = plate.rows; profile = plate.profile }
 
   -- is prepared too
-  pub rested-prepared : IsPrepared restedPlate
+  pub rested-prepared : IsPrepared rested_plate
   rested-prepared =
       let s = sound p in
       prepared (record {
@@ -78,15 +78,15 @@ module _ (plate : Plate) (p : IsPrepared plate) where
         table = s.table;
         below = s.below;
         reduced = s.reduced;
-        unused-rows = s.unused-rows;
+        unused_rows = s.unused_rows;
         entries = s.entries;
         profile = s.profile;
-        unused-entries = s.unused-entries;
+        unused_entries = s.unused_entries;
         narrow = s.narrow;
       })
 
   -- and has the same words
-  pub rested-words : (w : ℕ) → (IsWord plate w → IsWord restedPlate w) × (IsWord restedPlate w → IsWord plate w)
+  pub rested-words : (w : ℕ) → (IsWord plate w → IsWord rested_plate w) × (IsWord rested_plate w → IsWord plate w)
   rested-words w = (
     word-code plate w,
     λ g. subst (IsWord plate) (xor_assoc w (rest_of plate) (rest_of plate) ∙ ap (bit_xor w) (xor_self (rest_of plate)) ∙ xor_zero_r w)

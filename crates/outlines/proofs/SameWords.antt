@@ -9,16 +9,16 @@ use native.Mathlib.Omega.{arith}
 use Prim.Native.Nat.{◌<◌, ◌^◌, ℕ}
 use Rattle.decoding.proofs.MaskedWords.{code-word, mask_word, rest_of, word-code}
 use Rattle.decoding.proofs.RestOfWords.{xor-through}
-use Rattle.decoding.specs.Cosets.{takenOff}
+use Rattle.decoding.specs.Cosets.{taken_off}
 use Rattle.outlines.proofs.Fitting.{rows_few}
 use Rattle.outlines.proofs.ReadBack.{canonical, read_back}
 use Rattle.outlines.proofs.Replying.{opened-prepared}
-use Rattle.outlines.proofs.RestTells.{rest_below, rest-same, rested-prepared, rested-words, restedPlate, rows-below}
+use Rattle.outlines.proofs.RestTells.{rest_below, rest-same, rested-prepared, rested-words, rested_plate, rows-below}
 use Rattle.outlines.specs.declared.opening.Which.{Which}
 use Rattle.outlines.specs.declared.opening.Which.TheVariants.{Own}
-use Rattle.outlines.specs.Opening.{kindAs, maskAs}
-use Rattle.outlines.specs.SheetText.{sheetOf}
-use Rattle.outlines.specs.Words.{PrintsSheet, SameWords, WordOf, asSheet}
+use Rattle.outlines.specs.Opening.{kind_as, mask_as}
+use Rattle.outlines.specs.SheetText.{sheet_of}
+use Rattle.outlines.specs.Words.{PrintsSheet, SameWords, WordOf, as_sheet}
 use Rattle.plates.proofs.OnePlate.{one-plate}
 use Rattle.plates.proofs.SoundIsPrepared.{sound}
 use Rattle.plates.specs.declared.Kind.TheVariants.{G}
@@ -34,7 +34,7 @@ use Rattle.words.specs.Sum.{IsSum}
 -- ---- a plate and its sheet
 
 -- it is read as the plate's rows as G and what is left of its mask
-pub sheet-read : (plate : Plate) → IsPrepared plate → reading (sheetOf plate) ≡ says (canonical G plate.n (rest_of plate) (rows_of plate))
+pub sheet-read : (plate : Plate) → IsPrepared plate → reading (sheet_of plate) ≡ says (canonical G plate.n (rest_of plate) (rows_of plate))
 sheet-read plate p =
     let s = sound p in
     read_back G plate.n (rest_of plate) (rows_of plate) s.positive s.short (rows_few p) (rest_below plate p plate.mask s.masked)
@@ -42,7 +42,7 @@ sheet-read plate p =
 
 -- whose preparing gives the plate again, with that mask
 pub sheet-prepares : (plate : Plate) (p : IsPrepared plate)
-    → Prepares plate.n G (rows_of plate) (rest_of plate) (record { verdict = Accepted; plate = restedPlate plate p })
+    → Prepares plate.n G (rows_of plate) (rest_of plate) (record { verdict = Accepted; plate = rested_plate plate p })
 sheet-prepares plate p = (rested-prepared plate p).same
 
 -- ---- two plates
@@ -73,21 +73,21 @@ module _ (a b : Plate) (p : IsPrepared a) (q : IsPrepared b) where
   same_rest n e =
       rest-same a p a.mask b.mask (sound p).masked (subst (λ (x : ℕ). b.mask < 2 ^ x) (sym n) (sound q).masked)
       (subst (λ (rows : List ℕ). IsSum rows (bit_xor a.mask b.mask)) (sym (same_rows e)) ((e a.mask).0 (mask_word a)))
-      ∙ ap (λ (rows : List ℕ). takenOff rows b.mask) (same_rows e)
+      ∙ ap (λ (rows : List ℕ). taken_off rows b.mask) (same_rows e)
 
-  pub to-bytes : a.n ≡ b.n → ((w : ℕ) → IsWord a w ↔ IsWord b w) → sheetOf a ≡ sheetOf b
+  pub to-bytes : a.n ≡ b.n → ((w : ℕ) → IsWord a w ↔ IsWord b w) → sheet_of a ≡ sheet_of b
   to-bytes n e = rw (n, same_rest n e, same_rows e)
 
   same-contents : {c d : Contents} → says c ≡ says d → c ≡ d
   same-contents e = cc
 
-  read_same : sheetOf a ≡ sheetOf b → canonical G a.n (rest_of a) (rows_of a) ≡ canonical G b.n (rest_of b) (rows_of b)
+  read_same : sheet_of a ≡ sheet_of b → canonical G a.n (rest_of a) (rows_of a) ≡ canonical G b.n (rest_of b) (rows_of b)
   read_same e = same-contents (sym (sheet-read a p) ∙ ap reading e ∙ sheet-read b q)
 
-  pub from-bytes-length : sheetOf a ≡ sheetOf b → a.n ≡ b.n
+  pub from-bytes-length : sheet_of a ≡ sheet_of b → a.n ≡ b.n
   from-bytes-length e = ap (λ (z : Contents). z.n) (read_same e)
 
-  pub from_bytes : sheetOf a ≡ sheetOf b → (w : ℕ) → IsWord a w → IsWord b w
+  pub from_bytes : sheet_of a ≡ sheet_of b → (w : ℕ) → IsWord a w → IsWord b w
   from_bytes e w g =
       let rows : rows_of a ≡ rows_of b = ap (λ (z : Contents). z.rows) (read_same e) in
       let rest : rest_of a ≡ rest_of b = ap (λ (z : Contents). z.mask) (read_same e) in
@@ -102,31 +102,31 @@ module _ {which : Which} {input text : List ℕ} (s : PrintsSheet which input te
   pub is-prepared : IsPrepared s.prepared.plate
   is-prepared = opened-prepared s.opened s.accepted
 
-  pub prepares : Prepares c.n (kindAs which c.kind) c.rows (maskAs which c.mask) s.prepared
+  pub prepares : Prepares c.n (kind_as which c.kind) c.rows (mask_as which c.mask) s.prepared
   prepares = rw r at s.opened.is
 
-  pub length-is : s.prepared.plate.n ≡ c.n
-  length-is = accepted-length c.n (kindAs which c.kind) c.rows (maskAs which c.mask) s.prepared prepares s.accepted
+  pub length_is : s.prepared.plate.n ≡ c.n
+  length_is = accepted-length c.n (kind_as which c.kind) c.rows (mask_as which c.mask) s.prepared prepares s.accepted
 
-  pub words_are : (w : ℕ) → WordOf (asSheet which c) w ↔ IsWord s.prepared.plate w
+  pub words_are : (w : ℕ) → WordOf (as_sheet which c) w ↔ IsWord s.prepared.plate w
   words_are w =
-      subst (λ (m : ℕ). WordOf (asSheet which c) w ↔ IsSum (rows_of s.prepared.plate) (bit_xor w m))
-      (sym (accepted-mask c.n (kindAs which c.kind) c.rows (maskAs which c.mask) s.prepared prepares s.accepted))
-      (accepted-code c.n (kindAs which c.kind) c.rows (maskAs which c.mask) s.prepared prepares s.accepted
-      (bit_xor w (maskAs which c.mask)))
+      subst (λ (m : ℕ). WordOf (as_sheet which c) w ↔ IsSum (rows_of s.prepared.plate) (bit_xor w m))
+      (sym (accepted-mask c.n (kind_as which c.kind) c.rows (mask_as which c.mask) s.prepared prepares s.accepted))
+      (accepted-code c.n (kind_as which c.kind) c.rows (mask_as which c.mask) s.prepared prepares s.accepted
+      (bit_xor w (mask_as which c.mask)))
 
 pub iff-then : {A B C : Type 0} → A ↔ B → B ↔ C → A ↔ C
 iff-then f g = ((λ a. g.0 (f.0 a)), λ c. f.1 (g.1 c))
 
 -- what is printed is read back as a sheet with the same words
 pub printed-words : {which : Which} {input text : List ℕ} (s : PrintsSheet which input text) (c : Contents) → reading input ≡ says c
-    → (d : Contents) × (reading text ≡ says d) × SameWords (asSheet which c) d
+    → (d : Contents) × (reading text ≡ says d) × SameWords (as_sheet which c) d
 printed-words s c r =
     let plate = s.prepared.plate in
     let p = is-prepared s c r in (
       canonical G plate.n (rest_of plate) (rows_of plate),
       ap reading s.is ∙ sheet-read plate p,
-      (sym (length-is s c r), λ w. iff-then (words_are s c r w) (rested-words plate p w)),
+      (sym (length_is s c r), λ w. iff-then (words_are s c r w) (rested-words plate p w)),
     )
 
 -- two inputs have the same words exactly if the same bytes are printed for both
@@ -137,10 +137,10 @@ same-words s t c d r q =
     let b = t.prepared.plate in
     let p = is-prepared s c r in
     let o = is-prepared t d q in (
-      (λ e. s.is ∙ to-bytes a b p o (length-is s c r ∙ e.0 ∙ sym (length-is t d q))
+      (λ e. s.is ∙ to-bytes a b p o (length_is s c r ∙ e.0 ∙ sym (length_is t d q))
           (λ w. iff-then (Iff.symm (words_are s c r w)) (iff-then (e.1 w) (words_are t d q w))) ∙ sym t.is),
-      (λ e. (let f : sheetOf a ≡ sheetOf b = sym s.is ∙ e ∙ t.is in (
-        sym (length-is s c r) ∙ from-bytes-length a b p o f ∙ length-is t d q,
+      (λ e. (let f : sheet_of a ≡ sheet_of b = sym s.is ∙ e ∙ t.is in (
+        sym (length_is s c r) ∙ from-bytes-length a b p o f ∙ length_is t d q,
         λ w. iff-then (words_are s c r w) (iff-then (from_bytes a b p o f w, from_bytes b a o p (sym f) w) (Iff.symm (words_are t d q w))),
       ))),
     )

@@ -5,7 +5,7 @@ use Rattle.listings.specs.declared.Written.TheVariants.{Refused}
 use Rattle.listings.specs.Writing.{WritesLine}
 use Rattle.outlines.specs.declared.opening.Which.{Which}
 use Rattle.outlines.specs.Opening.{Opened}
-use Rattle.outlines.specs.SheetText.{sheetOf}
+use Rattle.outlines.specs.SheetText.{sheet_of}
 use Rattle.plates.specs.declared.Prepared.{Prepared}
 use Rattle.plates.specs.declared.Verdict.{Verdict}
 use Rattle.plates.specs.declared.Verdict.TheVariants as J
@@ -19,4 +19,4 @@ WritesBy J.Accepted text room r room' = WritesLine text room r room'
 pub record WritesPlateSheet (which : Which) (input room : List ℕ) (r : Written) (room' : List ℕ) : Type 0 where
   pub prepared : Prepared
   pub opened : Opened which input prepared
-  pub is : WritesBy prepared.verdict (sheetOf prepared.plate) room r room'
+  pub is : WritesBy prepared.verdict (sheet_of prepared.plate) room r room'

@@ -1,8 +1,8 @@
 -- The words of a sheet, and what is printed for an input that is not refused.
 use Rattle.std.specs.Prelude.{List, ◌↔◌, ◌≡◌, ◌<◌, ◌^◌, ℕ}
 use Rattle.outlines.specs.declared.opening.Which.{Which}
-use Rattle.outlines.specs.Opening.{Opened, kindAs, maskAs}
-use Rattle.outlines.specs.SheetText.{sheetOf}
+use Rattle.outlines.specs.Opening.{Opened, kind_as, mask_as}
+use Rattle.outlines.specs.SheetText.{sheet_of}
 use Rattle.plates.specs.Code.{InCode, Masked}
 use Rattle.plates.specs.declared.Prepared.{Prepared}
 use Rattle.plates.specs.declared.Verdict.TheVariants.{Accepted}
@@ -18,12 +18,12 @@ abbrev pub SameWords : Contents → Contents → Type 0
 SameWords c d = (c.n ≡ d.n) × ((w : ℕ) → WordOf c w ↔ WordOf d w)
 
 -- the sheet whose plate is printed: the input's own, or one of the dual
-abbrev pub asSheet : Which → Contents → Contents
-asSheet which c = record {
+abbrev pub as_sheet : Which → Contents → Contents
+as_sheet which c = record {
   n = c.n;
-  kind = kindAs which c.kind;
+  kind = kind_as which c.kind;
   order = c.order;
-  mask = maskAs which c.mask;
+  mask = mask_as which c.mask;
   rows = c.rows;
   heard = c.heard;
   blocks = c.blocks;
@@ -39,4 +39,4 @@ pub record PrintsSheet (which : Which) (input text : List ℕ) : Type 0 where
   pub prepared : Prepared
   pub opened : Opened which input prepared
   pub accepted : prepared.verdict ≡ Accepted
-  pub is : text ≡ sheetOf prepared.plate
+  pub is : text ≡ sheet_of prepared.plate

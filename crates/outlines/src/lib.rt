@@ -3,7 +3,7 @@ ghost use Rattle.std.specs.Prelude.{length, ◌≤◌};
 ghost use Rattle.listings.specs.Writing.{WritesLine};
 ghost use Rattle.outlines.specs.declared.opening.Which.TheVariants.{Dual, Own};
 ghost use Rattle.outlines.specs.Outline.{WritesPlateSheet};
-ghost use Rattle.outlines.specs.SheetText.{sheetOf, sheetText};
+ghost use Rattle.outlines.specs.SheetText.{sheet_of, sheet_text};
 ghost use Rattle.plates.specs.Prepare.{IsPrepared};
 
 mod opening;
@@ -17,7 +17,7 @@ use plates::{Kind, Plate, Refusal, Verdict};
 fn put_sheet(kind: Kind, n: usize, mask: u64, rows: &[u64], room: &mut [u8]) -> Written
     requires n_bound { n ≤ 64 }
     requires rows_len_bound { length rows.now ≤ 64 }
-    ensures { WritesLine (sheetText kind n mask rows.now) room.old result room.new }
+    ensures { WritesLine (sheet_text kind n mask rows.now) room.old result room.new }
 {
     let mut scratch = [0u8; 1];
     let size = pieces::put_text(kind, n, mask, rows, &mut scratch);
@@ -31,7 +31,7 @@ fn put_sheet(kind: Kind, n: usize, mask: u64, rows: &[u64], room: &mut [u8]) -> 
 // The sheet of a plate into the room, or refusal 11: its rows as G, and what is left of its mask once they are taken off.
 fn put_plate(plate: Plate, room: &mut [u8]) -> Written
     requires { IsPrepared plate }
-    ensures { WritesLine (sheetOf plate) room.old result room.new }
+    ensures { WritesLine (sheet_of plate) room.old result room.new }
 {
     let table = plate.rows;
     let k = plate.k;

@@ -1,9 +1,9 @@
 // The plate of an input, of its own code or of the dual.
 ghost use Rattle.std.specs.Prelude.{length, take, ◌≡◌, ◌≤◌};
 ghost use Rattle.outlines.specs.declared.opening.Which.TheVariants.{Dual};
-ghost use Rattle.outlines.specs.Opening.{Opened, kindAs, maskAs};
+ghost use Rattle.outlines.specs.Opening.{Opened, kind_as, mask_as};
 ghost use Rattle.plates.specs.Prepare.{Prepares};
-ghost use Rattle.plates.specs.Replying.{refusedWith};
+ghost use Rattle.plates.specs.Replying.{refused_with};
 
 use plates::{Kind, Plate, Prepared, Refusal, Verdict};
 use sheets::{Sheet, SheetReply};
@@ -17,7 +17,7 @@ pub enum Which {
 
 // As what a matrix is prepared: the dual has the same matrix under the other letter.
 fn kind_as(which: Which, kind: Kind) -> Kind
-    ensures { result ≡ kindAs which kind }
+    ensures { result ≡ kind_as which kind }
 {
     match which {
         Which::Own => kind,
@@ -27,7 +27,7 @@ fn kind_as(which: Which, kind: Kind) -> Kind
 
 // The other letter.
 fn other(kind: Kind) -> Kind
-    ensures { result ≡ kindAs Dual kind }
+    ensures { result ≡ kind_as Dual kind }
 {
     match kind {
         Kind::G => Kind::H,
@@ -37,7 +37,7 @@ fn other(kind: Kind) -> Kind
 
 // With which mask: the dual has none.
 fn mask_as(which: Which, mask: u64) -> u64
-    ensures { result ≡ maskAs which mask }
+    ensures { result ≡ mask_as which mask }
 {
     match which {
         Which::Own => mask,
@@ -47,7 +47,7 @@ fn mask_as(which: Which, mask: u64) -> u64
 
 // A refusal, with the zero plate beside it.
 fn refused(refusal: Refusal) -> Prepared
-    ensures { result ≡ refusedWith refusal }
+    ensures { result ≡ refused_with refusal }
 {
     Prepared {
         verdict: Verdict::Refused(refusal),
@@ -64,7 +64,7 @@ fn refused(refusal: Refusal) -> Prepared
 // What preparing replies to a sheet, whose rows stand at the start of the table.
 fn prepared_of(which: Which, sheet: Sheet, table: &[u64; 64]) -> Prepared
     requires { sheet.rows ≤ length table.now }
-    ensures { Prepares sheet.n (kindAs which sheet.kind) (take sheet.rows table.now) (maskAs which sheet.mask) result }
+    ensures { Prepares sheet.n (kind_as which sheet.kind) (take sheet.rows table.now) (mask_as which sheet.mask) result }
 {
     let rows = &table[..];
     let count = sheet.rows;

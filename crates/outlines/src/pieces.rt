@@ -4,7 +4,7 @@ ghost use Rattle.std.specs.Prelude.{length, ◌∷◌, [], ◌≡◌, ◌+◌, �
 ghost use Rattle.listings.specs.Decimal.{decimal};
 ghost use Rattle.listings.specs.Lines.{line, positions};
 ghost use Rattle.outlines.specs.Putting.{Puts};
-ghost use Rattle.outlines.specs.SheetText.{coverLine, letterOf, maskLines, row_line, row_lines, sheetText};
+ghost use Rattle.outlines.specs.SheetText.{cover_line, letter_of, mask_lines, row_line, row_lines, sheet_text};
 ghost use Rattle.words.specs.Word.{bit};
 
 use plates::Kind;
@@ -88,7 +88,7 @@ fn put_line(room: &mut [u8], at: usize, name: &[u8], word: u64, n: usize) -> usi
 
 // The letter of a kind of matrix.
 fn letter_of(kind: Kind) -> u8
-    ensures { result ≡ letterOf kind }
+    ensures { result ≡ letter_of kind }
 {
     match kind {
         Kind::G => 71,
@@ -99,7 +99,7 @@ fn letter_of(kind: Kind) -> u8
 // The cover of a matrix by position.
 fn put_cover(room: &mut [u8], at: usize, kind: Kind, n: usize) -> usize
     requires { n < 100 }
-    ensures { Puts room.old at (coverLine kind n) room.new result }
+    ensures { Puts room.old at (cover_line kind n) room.new result }
 {
     let long = put(room, at, b"cover\t");
     let tab = put_number(room, long, n);
@@ -110,7 +110,7 @@ fn put_cover(room: &mut [u8], at: usize, kind: Kind, n: usize) -> usize
 
 // The line of a mask, where it is not zero.
 fn put_mask(room: &mut [u8], at: usize, mask: u64, n: usize) -> usize
-    ensures { Puts room.old at (maskLines n mask) room.new result }
+    ensures { Puts room.old at (mask_lines n mask) room.new result }
 {
     if mask == 0 {
         return at;
@@ -141,7 +141,7 @@ fn put_rows(room: &mut [u8], at: usize, rows: &[u64], n: usize) -> usize
 // The sheet of a matrix of length n and a mask, at the start of the room; its length.
 pub fn put_text(kind: Kind, n: usize, mask: u64, rows: &[u64], room: &mut [u8]) -> usize
     requires { n < 100 }
-    ensures { Puts room.old 0 (sheetText kind n mask rows.now) room.new result }
+    ensures { Puts room.old 0 (sheet_text kind n mask rows.now) room.new result }
 {
     let head = put_cover(room, 0, kind, n);
     let first = put_mask(room, head, mask, n);

@@ -7,22 +7,22 @@ use Prim.Native.Nat.{ℕ}
 use Rattle.plates.specs.Tested.{Decides}
 
 pub holds : {P : Type 0} → P → Decides P true
-holds p = record { yes-is = λ e. p; no-is = λ e. absurd (true≢false e) }
+holds p = record { yes_is = λ e. p; no_is = λ e. absurd (true≢false e) }
 
 pub fails : {P : Type 0} → (P → ⊥) → Decides P false
-fails n = record { yes-is = λ e. absurd (false≢true e); no-is = λ e. n }
+fails n = record { yes_is = λ e. absurd (false≢true e); no_is = λ e. n }
 
 -- a fact that holds where another does, and only there
 pub alike : {P Q : Type 0} {r : Bool} → (P → Q) → (Q → P) → Decides P r → Decides Q r
-alike f g d = record { yes-is = λ e. f (d.yes-is e); no-is = λ e q. d.no-is e (g q) }
+alike f g d = record { yes_is = λ e. f (d.yes_is e); no_is = λ e q. d.no_is e (g q) }
 
 -- two numbers compared
 pub equal : (a b : ℕ) → Decides (a ≡ b) (eqb a b)
-equal a b = record { yes-is = eqb-true a b; no-is = eqb-false a b }
+equal a b = record { yes_is = eqb-true a b; no_is = eqb-false a b }
 
 -- what a reply says where its test was taken, or not
 pub failed : {P : Type 0} {r : Bool} → Decides P r → not r ≡ true → P → ⊥
-failed {r = r} d e = d.no-is (not-true r e)
+failed {r = r} d e = d.no_is (not-true r e)
 
 pub held : {P : Type 0} {r : Bool} → Decides P r → not r ≡ false → P
-held {r = r} d e = d.yes-is (not-false r e)
+held {r = r} d e = d.yes_is (not-false r e)

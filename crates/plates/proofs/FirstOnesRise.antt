@@ -19,12 +19,12 @@ use Rattle.words.proofs.Word.{bit-xor, bit-zero, bits_below, bits-zero}
 use Rattle.words.specs.Ends.{first, firsts}
 use Rattle.words.specs.Parity.{parity}
 use Rattle.words.specs.Span.{First}
-use Rattle.words.specs.Sum.{swapRows}
+use Rattle.words.specs.Sum.{swap_rows}
 use Rattle.words.specs.Word.{bit}
 
 -- the parity with a unit word is the bit there
-one-there : {m w : ℕ} (c : ℕ) → m ≡ 2 ^ c → Odd m w → bit w c ≡ 1
-one-there {m} {w} c e o = sym (parity-power c w) ∙ ap (λ (x : ℕ). parity x w) (sym e) ∙ o.odd
+one_there : {m w : ℕ} (c : ℕ) → m ≡ 2 ^ c → Odd m w → bit w c ≡ 1
+one_there {m} {w} c e o = sym (parity-power c w) ∙ ap (λ (x : ℕ). parity x w) (sym e) ∙ o.odd
 
 none-there : {m w : ℕ} (c : ℕ) → m ≡ 2 ^ c → (Odd m w → ⊥) → bit w c ≡ 0
 none-there {m} {w} c e n = sym (parity-power c w) ∙ ap (λ (x : ℕ). parity x w) (sym e) ∙ not-odd n
@@ -57,7 +57,7 @@ column-none {t} {used} {k} {c} {m} e s f h = record {
 
 -- row p has one: it becomes row k, and the later rows lose theirs
 module _ {t v : List ℕ} {used k c m p : ℕ} (e : m ≡ 2 ^ c) (s : Echelon t used k c) (f : FirstWhere t (Odd m) k used p) (h : p < used)
-    (ev : v ≡ swapRows t k p) where
+    (ev : v ≡ swap_rows t k p) where
   in-k : k < length t
   in-k = omega (arith, f.past, s.table.size, s.table.few)
 
@@ -92,7 +92,7 @@ module _ {t v : List ℕ} {used k c m p : ℕ} (e : m ≡ 2 ^ c) (s : Echelon t 
     narrow = narrow-same 64 s.table.narrow same
 
     new-first : First (get_or u k 0) c
-    new-first = subst (λ (x : ℕ). First x c) (sym (g.others k (inl (omega arith)) ∙ swapped-k)) (record { one = one-there c e (f.here h); zeros = λ q b. s.rest p q f.past b })
+    new-first = subst (λ (x : ℕ). First x c) (sym (g.others k (inl (omega arith)) ∙ swapped-k)) (record { one = one_there c e (f.here h); zeros = λ q b. s.rest p q f.past b })
 
     first-k : firsts u k ≡ c
     first-k = first-at (narrow k) new-first
@@ -108,7 +108,7 @@ module _ {t v : List ℕ} {used k c m p : ℕ} (e : m ≡ 2 ^ c) (s : Echelon t 
             one_more (get_or u i 0) c
             (λ q b. ap (λ (x : ℕ). bit x q) w.1 ∙ bit-xor q (get_or v i 0) (get_or v k 0) ∙ ap₂ differ (low q b) (swapped-rest k (omega arith) q b))
             (ap (λ (x : ℕ). bit x c) w.1 ∙ bit-xor c (get_or v i 0) (get_or v k 0)
-            ∙ ap₂ differ (one-there c e w.0) (ap (λ (x : ℕ). bit x c) swapped-k ∙ one-there c e (f.here h)))
+            ∙ ap₂ differ (one_there c e w.0) (ap (λ (x : ℕ). bit x c) swapped-k ∙ one_there c e (f.here h)))
         go (inr w) = one_more (get_or u i 0) c (λ q b. ap (λ (x : ℕ). bit x q) w.1 ∙ low q b) (ap (λ (x : ℕ). bit x c) w.1 ∙ none-there c e w.0)
     at i l (no d) = λ q b.
         ap (λ (x : ℕ). bit x q) (g.others i (inr (omega arith)) ∙ swapped_other i (λ z. omega arith) (λ z. omega arith) ∙ s.table.unused i (omega arith)) ∙ bit-zero q

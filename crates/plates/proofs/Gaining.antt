@@ -8,12 +8,12 @@ use mathlib.Core.Path.{ap, refl, subst, sym, ◌∙◌, ◌≡◌}
 use native.Mathlib.Decide.{dec_lt, ℕ_discrete}
 use native.Mathlib.Omega.{arith}
 use Prim.Native.Nat.{◌+◌, ◌<◌, ◌^◌, suc, zero, ℕ, ◌≤◌}
-use Rattle.plates.specs.Working.{Gained, GainedRow, Odd, SameSums, Tells, gainRow}
+use Rattle.plates.specs.Working.{Gained, GainedRow, Odd, SameSums, Tells, gain_row}
 use Rattle.words.proofs.Rows.{same_code}
 use Rattle.words.proofs.Sums.{all-zero, in_row}
 use Rattle.words.proofs.Word.{below-bits, bits_below, digit}
 use Rattle.words.specs.Parity.{parity}
-use Rattle.words.specs.Sum.{IsSum, addRow, sum_of, taken}
+use Rattle.words.specs.Sum.{IsSum, add_row, sum_of, taken}
 
 -- ---- lists with the same sums
 
@@ -35,10 +35,10 @@ taken-some (suc d) w n = refl
 -- ---- one row
 
 -- nothing is gained
-stays : (t : List ℕ) (i p d : ℕ) → d ≡ 0 → gainRow t i p d ≡ t
+stays : (t : List ℕ) (i p d : ℕ) → d ≡ 0 → gain_row t i p d ≡ t
 stays t i p d e = ap (λ (x : ℕ). set t i (bit_xor (get_or t i 0) (taken x (get_or t p 0)))) e ∙ ap (set t i) (xor_zero_r (get_or t i 0)) ∙ set-get_or t i 0
 
-gains : (t : List ℕ) (i p d : ℕ) → d ≡ 1 → gainRow t i p d ≡ addRow t i p
+gains : (t : List ℕ) (i p d : ℕ) → d ≡ 1 → gain_row t i p d ≡ add_row t i p
 gains t i p d e = ap (λ (x : ℕ). set t i (bit_xor (get_or t i 0) (taken x (get_or t p 0)))) e
 
 -- the row i is the only one from i on before i + 1
@@ -49,17 +49,17 @@ apart : (i m : ℕ) → (m < i) ⊎ (i + 1 ≤ m) → m ≢ i
 apart i m (inl h) e = omega arith
 apart i m (inr h) e = omega arith
 
-pub gained-row : {P : ℕ → Type 0} (t : List ℕ) (i p d : ℕ) → i < length t → i ≢ p → Tells (P (get_or t i 0)) d → Gained t (gainRow t i p d) P i (i + 1) p
+pub gained-row : {P : ℕ → Type 0} (t : List ℕ) (i p d : ℕ) → i < length t → i ≢ p → Tells (P (get_or t i 0)) d → Gained t (gain_row t i p d) P i (i + 1) p
 gained-row {P} t i p d hi ne tells = go tells.digit
   where
-    go : (d ≡ 0) ⊎ (d ≡ 1) → Gained t (gainRow t i p d) P i (i + 1) p
+    go : (d ≡ 0) ⊎ (d ≡ 1) → Gained t (gain_row t i p d) P i (i + 1) p
     go (inl e) =
         subst (λ (x : List ℕ). Gained t x P i (i + 1) p) (sym (stays t i p d e))
         (record {
           size = refl;
           same = same_refl;
           others = λ m h. refl;
-          rows = only (λ m. GainedRow P (get_or t m 0) (get_or t p 0) (get_or t m 0)) i (inr (tells.no-is e, refl));
+          rows = only (λ m. GainedRow P (get_or t m 0) (get_or t p 0) (get_or t m 0)) i (inr (tells.no_is e, refl));
         })
     go (inr e) =
         subst (λ (x : List ℕ). Gained t x P i (i + 1) p) (sym (gains t i p d e))
@@ -67,8 +67,8 @@ gained-row {P} t i p d hi ne tells = go tells.digit
           size = length-set t i (bit_xor (get_or t i 0) (get_or t p 0));
           same = same_of (same_code t i p ne);
           others = λ m h. get_or-set_other t i m (bit_xor (get_or t i 0) (get_or t p 0)) 0 (apart i m h);
-          rows = only (λ m. GainedRow P (get_or t m 0) (get_or t p 0) (get_or (addRow t i p) m 0))
-              i (inl (tells.yes-is e, get_or-set_same t i (bit_xor (get_or t i 0) (get_or t p 0)) 0 hi));
+          rows = only (λ m. GainedRow P (get_or t m 0) (get_or t p 0) (get_or (add_row t i p) m 0))
+              i (inl (tells.yes_is e, get_or-set_same t i (bit_xor (get_or t i 0) (get_or t p 0)) 0 hi));
         })
 
 -- ---- row after row
@@ -109,14 +109,14 @@ gained-end {t} {u} {P} {a} {b} {i} {p} h k g = let e : i ≡ b = omega arith in 
 -- a parity tells whether it is odd
 pub odd-tells : {check w d : ℕ} → d ≡ parity check w → Tells (Odd check w) d
 odd-tells {check} {w} {d} e =
-    record { digit = digit d (omega arith); yes-is = λ q. record { odd = sym e ∙ q }; no-is = λ q o. omega (arith, o.odd) }
+    record { digit = digit d (omega arith); yes_is = λ q. record { odd = sym e ∙ q }; no_is = λ q o. omega (arith, o.odd) }
 
 -- a digit that is not 1 tells no
 pub tells-not : {P : Type 0} {d : ℕ} → Tells P d → (d ≡ 1 → ⊥) → P → ⊥
 tells-not {P} {d} t n = go t.digit
   where
     go : (d ≡ 0) ⊎ (d ≡ 1) → P → ⊥
-    go (inl e) = t.no-is e
+    go (inl e) = t.no_is e
     go (inr e) = absurd (n e)
 
 -- a parity that is not odd is even

@@ -23,13 +23,13 @@ use Rattle.words.specs.Word.{bit}
 -- ---- what `last_one` and `bit_at` tell
 
 pub covers-yes : {f l w r d : ℕ} → w < 2 ^ 64 → LastOne w r → l < r → d ≡ bit w f → Tells (Covers f l w) d
-covers-yes {f} {l} {w} {r} {d} h o b e = record { digit = digit d (omega (arith, bit-lt f w)); yes-is = λ z. there (sym e ∙ z); no-is = λ z c. zero_one (sym e ∙ z) c.one }
+covers-yes {f} {l} {w} {r} {d} h o b e = record { digit = digit d (omega (arith, bit-lt f w)); yes_is = λ z. there (sym e ∙ z); no_is = λ z c. zero_one (sym e ∙ z) c.one }
   where
     there : bit w f ≡ 1 → Covers f l w
     there z = record { ends = omega (arith, last-one-is (some-pos w f z) h o); one = z }
 
 pub covers-no : {f l w r : ℕ} → w < 2 ^ 64 → LastOne w r → r ≤ l → Tells (Covers f l w) 0
-covers-no {f} {l} {w} {r} h o b = record { digit = inl refl; yes-is = λ z. absurd (omega arith); no-is = λ z c. omega (arith, c.ends, last-one-is (some-pos w f c.one) h o) }
+covers-no {f} {l} {w} {r} h o b = record { digit = inl refl; yes_is = λ z. absurd (omega arith); no_is = λ z c. omega (arith, c.ends, last-one-is (some-pos w f c.one) h o) }
 
 pub gained-covers : {t u : List ℕ} {f l g m a b p : ℕ} → f ≡ g → l ≡ m → Gained t u (Covers f l) a b p → Gained t u (Covers g m) a b p
 gained-covers {t} {u} {f} {l} {g} {m} {a} {b} {p} e q s = subst (λ (x : ℕ). Gained t u (Covers x m) a b p) e (subst (λ (x : ℕ). Gained t u (Covers f x) a b p) q s)

@@ -65,8 +65,8 @@ module _ (C : ℕ → Type 0) (closed : (a b : ℕ) → C a → C b → C (bit_x
       cleared = clears (get_or rows i 0) (get_or rows j 0) (f j) (p.row j k).begins one
 
       at : (e : Earlier (get_or rows i 0) w) → (e.place < f j) ⊎ ((e.place ≡ f j) ⊎ (f j < e.place)) → ⊥
-      at e (inl b) = zero_one e.zero-here (sym (keeps_below (get_or rows i 0) (get_or rows j 0) (f j) e.place (p.row j k).begins b) ∙ e.one-there)
-      at e (inr (inl q)) = zero_one (subst (λ (x : ℕ). bit (get_or rows i 0) x ≡ 0) q e.zero-here) one
+      at e (inl b) = zero_one e.zero_here (sym (keeps_below (get_or rows i 0) (get_or rows j 0) (f j) e.place (p.row j k).begins b) ∙ e.one_there)
+      at e (inr (inl q)) = zero_one (subst (λ (x : ℕ). bit (get_or rows i 0) x ≡ 0) q e.zero_here) one
       at e (inr (inr b)) = zero_one (e.same (f j) b ∙ cleared) one
 
       go : (get_or rows i 0 ≡ w) ⊎ Earlier (get_or rows i 0) w → ⊥

@@ -125,11 +125,11 @@ parts-end h p = record { same = p.same; basis = p.basis; parted = λ i j l m e. 
 -- ---- what `last_one` tells
 
 pub ends-yes : {w r c : ℕ} → c < 64 → LastOne w r → r ≡ c → Tells (EndsAt c w) 1
-ends-yes {w} {r} {c} h f e = record { digit = inr refl; yes-is = λ z. go (eq-zero-or-pos w); no-is = λ z. absurd (omega arith) }
+ends-yes {w} {r} {c} h f e = record { digit = inr refl; yes_is = λ z. go (eq-zero-or-pos w); no_is = λ z. absurd (omega arith) }
   where
     go : (w ≡ 0) ⊎ (0 < w) → Last w c
     go (inl z) = absurd (omega (arith, f.none z))
     go (inr z) = subst (Last w) e (f.some z)
 
 pub ends-no : {w r c : ℕ} → LastOne w r → (r ≡ c → ⊥) → Tells (EndsAt c w) 0
-ends-no {w} {r} {c} f n = record { digit = inl refl; yes-is = λ z. absurd (omega arith); no-is = λ z l. n (last-unique (f.some (some-pos w c l.one)) l) }
+ends-no {w} {r} {c} f n = record { digit = inl refl; yes_is = λ z. absurd (omega arith); no_is = λ z l. n (last-unique (f.some (some-pos w c l.one)) l) }

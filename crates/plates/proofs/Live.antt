@@ -20,5 +20,5 @@ module _ (f l : ℕ → ℕ) where
   pub is_live : (t j : ℕ) → f j < t → t ≤ l j → T (live f l t j)
   is_live t j a b = and-true (ltb (f j) t) (leb t (l j)) (lt→ltb (f j) t a) (le→leb t (l j) b)
 
-  pub live-is : (t j : ℕ) → T (live f l t j) → (f j < t) × (t ≤ l j)
-  live-is t j a = (ltb→lt (f j) t (and_left (ltb (f j) t) (leb t (l j)) a), leb→le t (l j) (and_right (ltb (f j) t) (leb t (l j)) a))
+  pub live_is : (t j : ℕ) → T (live f l t j) → (f j < t) × (t ≤ l j)
+  live_is t j a = (ltb→lt (f j) t (and_left (ltb (f j) t) (leb t (l j)) a), leb→le t (l j) (and_right (ltb (f j) t) (leb t (l j)) a))

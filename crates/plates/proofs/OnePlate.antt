@@ -15,9 +15,9 @@ pub not-both : (a b : ℕ) → Earlier a b → Earlier b a → ⊥
 not-both a b s t = go (lt-tri s.place t.place)
   where
     go : (s.place < t.place) ⊎ ((s.place ≡ t.place) ⊎ (t.place < s.place)) → ⊥
-    go (inl h) = zero_one s.zero-here (sym (t.same s.place h) ∙ s.one-there)
-    go (inr (inl e)) = zero_one s.zero-here (subst (λ (x : ℕ). bit a x ≡ 1) (sym e) t.one-there)
-    go (inr (inr h)) = zero_one t.zero-here (sym (s.same t.place h) ∙ t.one-there)
+    go (inl h) = zero_one s.zero_here (sym (t.same s.place h) ∙ s.one_there)
+    go (inr (inl e)) = zero_one s.zero_here (subst (λ (x : ℕ). bit a x ≡ 1) (sym e) t.one_there)
+    go (inr (inr h)) = zero_one t.zero_here (sym (s.same t.place h) ∙ t.one_there)
 
 row-unique : (C : ℕ → Type 0) (a b p m n : ℕ) → RowFor C p a m → RowFor C p b n → a ≡ b
 row-unique C a b p m n x y =

@@ -19,8 +19,8 @@ use Rattle.plates.specs.declared.Refusal.{Refusal}
 use Rattle.plates.specs.declared.Refusal.TheVariants.{RowBeyond, TooWide}
 use Rattle.plates.specs.declared.Verdict.{Verdict}
 use Rattle.plates.specs.declared.Verdict.TheVariants.{Accepted, Refused}
-use Rattle.plates.specs.Prepare.{PlateOf, Prepares, PreparesAs, RowOver, Tests, Wide, prepareConditions, rows_of}
-use Rattle.plates.specs.Profile.{liveAt}
+use Rattle.plates.specs.Prepare.{PlateOf, Prepares, PreparesAs, RowOver, Tests, Wide, prepare_conditions, rows_of}
+use Rattle.plates.specs.Profile.{live_at}
 use Rattle.words.proofs.Span.{lt-tri}
 
 plate-same : (a b : Plate) → a.n ≡ b.n → a.k ≡ b.k → a.mask ≡ b.mask → a.rows ≡ b.rows → a.profile ≡ b.profile → a ≡ b
@@ -32,7 +32,7 @@ plate-same a b n k m r p =
 -- a code of a length has one plate with a mask
 pub plate-determined : (C : ℕ → Type 0) (n mask : ℕ) (a b : Plate) → PlateOf C n mask a → PlateOf C n mask b → a ≡ b
 plate-determined C n mask a b x y =
-    plate-same a b (x.length-n ∙ sym y.length-n) count (x.mask_is ∙ sym y.mask_is)
+    plate-same a b (x.length_n ∙ sym y.length_n) count (x.mask_is ∙ sym y.mask_is)
     (ext_get_or 0 a.rows b.rows (x.table ∙ sym y.table) (λ j h. row j (dec_lt j a.k)))
     (ext_get_or 0 a.profile b.profile (x.entries ∙ sym y.entries) (λ t h. entry t (dec_lt n t)))
   where
@@ -44,11 +44,11 @@ plate-determined C n mask a b x y =
 
     row : (j : ℕ) → Dec (j < a.k) → get_or a.rows j 0 ≡ get_or b.rows j 0
     row j (yes h) = sym (used-row a j h) ∙ ap (λ (l : List ℕ). get_or l j 0) used ∙ used-row b j (omega (arith, count))
-    row j (no h) = x.unused-rows j (omega arith) ∙ sym (y.unused-rows j (omega (arith, count)))
+    row j (no h) = x.unused_rows j (omega arith) ∙ sym (y.unused_rows j (omega (arith, count)))
 
     entry : (t : ℕ) → Dec (n < t) → get_or a.profile t 0 ≡ get_or b.profile t 0
-    entry t (yes h) = x.unused-entries t h ∙ sym (y.unused-entries t h)
-    entry t (no h) = x.profile t (omega arith) ∙ ap (λ (l : List ℕ). liveAt l t) used ∙ sym (y.profile t (omega arith))
+    entry t (yes h) = x.unused_entries t h ∙ sym (y.unused_entries t h)
+    entry t (no h) = x.profile t (omega arith) ∙ ap (λ (l : List ℕ). live_at l t) used ∙ sym (y.profile t (omega arith))
 
 -- the first row that is over is one
 row-over-once : (n : ℕ) (rows : List ℕ) (p q : Refusal) → RowOver n rows p → RowOver n rows q → p ≡ q
@@ -66,8 +66,8 @@ wide-once C n p q x y = x.is ∙ ap TooWide (go (lt-tri x.depth y.depth)) ∙ sy
     same : x.rows ≡ y.rows
     same = one-plate C x.rows y.rows _ _ _ _ x.plate y.plate
 
-    live : (t : ℕ) → liveAt x.rows t ≡ liveAt y.rows t
-    live t = ap (λ (l : List ℕ). liveAt l t) same
+    live : (t : ℕ) → live_at x.rows t ≡ live_at y.rows t
+    live t = ap (λ (l : List ℕ). live_at l t) same
 
     go : (x.depth < y.depth) ⊎ ((x.depth ≡ y.depth) ⊎ (y.depth < x.depth)) → x.depth ≡ y.depth
     go (inl h) = absurd (omega (arith, y.first x.depth h, x.over, live x.depth))
@@ -75,7 +75,7 @@ wide-once C n p q x y = x.is ∙ ap TooWide (go (lt-tri x.depth y.depth)) ∙ sy
     go (inr (inr h)) = absurd (omega (arith, x.first y.depth h, y.over, live y.depth))
 
 -- each condition gives one refusal
-prepare-single : (n : ℕ) (kind : Kind) (rows : List ℕ) (mask : ℕ) → Single (prepareConditions n kind rows mask)
+prepare-single : (n : ℕ) (kind : Kind) (rows : List ℕ) (mask : ℕ) → Single (prepare_conditions n kind rows mask)
 prepare-single n kind rows mask = (alike, (alike, (row-over-once n rows, (alike, (wide-once (InCode kind n rows) n, tt)))))
   where
     -- a condition that names its refusal
@@ -84,22 +84,22 @@ prepare-single n kind rows mask = (alike, (alike, (row-over-once n rows, (alike,
 
 module _ (n : ℕ) (kind : Kind) (rows : List ℕ) (mask : ℕ) where
   same-reply : (a b : Plate) (v w : Verdict)
-      → PreparesAs (prepareConditions n kind rows mask) (InCode kind n rows) n mask a v
-      → PreparesAs (prepareConditions n kind rows mask) (InCode kind n rows) n mask b w
+      → PreparesAs (prepare_conditions n kind rows mask) (InCode kind n rows) n mask a v
+      → PreparesAs (prepare_conditions n kind rows mask) (InCode kind n rows) n mask b w
       → ◌≡◌ {A = Prepared} (record { verdict = v; plate = a }) (record { verdict = w; plate = b })
   same-reply a b Accepted Accepted x y =
       ap (λ (p : Plate). record { verdict = Accepted; plate = p }) (plate-determined (InCode kind n rows) n mask a b x.1 y.1)
-  same-reply a b Accepted (Refused q) x y = absurd (never_both (prepareConditions n kind rows mask) x.0 q y.0)
-  same-reply a b (Refused p) Accepted x y = absurd (never_both (prepareConditions n kind rows mask) y.0 p x.0)
+  same-reply a b Accepted (Refused q) x y = absurd (never_both (prepare_conditions n kind rows mask) x.0 q y.0)
+  same-reply a b (Refused p) Accepted x y = absurd (never_both (prepare_conditions n kind rows mask) y.0 p x.0)
   same-reply a b (Refused p) (Refused q) x y =
       ap₂ (λ (r : Refusal) (z : Plate). record { verdict = Refused r; plate = z })
-      (refuses-once (prepareConditions n kind rows mask) (prepare-single n kind rows mask) p q x.0 y.0) (x.1 ∙ sym y.1)
+      (refuses-once (prepare_conditions n kind rows mask) (prepare-single n kind rows mask) p q x.0 y.0) (x.1 ∙ sym y.1)
 
   pub prepare-determined : (r s : Prepared) → Prepares n kind rows mask r → Prepares n kind rows mask s → r ≡ s
   prepare-determined r s x y = same-reply r.plate s.plate r.verdict s.verdict x.reply y.reply
 
 pub is-prepared-determined : (plate : Plate) (r s : Bool) → Tests plate r → Tests plate s → r ≡ s
 is-prepared-determined plate true true x y = refl
-is-prepared-determined plate true false x y = absurd (y.no-is refl (x.yes-is refl))
-is-prepared-determined plate false true x y = absurd (x.no-is refl (y.yes-is refl))
+is-prepared-determined plate true false x y = absurd (y.no_is refl (x.yes_is refl))
+is-prepared-determined plate false true x y = absurd (x.no_is refl (y.yes_is refl))
 is-prepared-determined plate false false x y = refl

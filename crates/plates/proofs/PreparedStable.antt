@@ -59,10 +59,10 @@ sound-stable h = record {
   table = same (λ n. h (λ s. n s.table));
   below = λ j b. below (λ n. h (λ s. n (s.below j b)));
   reduced = reduced (λ n. h (λ s. n s.reduced));
-  unused-rows = λ j b. same (λ n. h (λ s. n (s.unused-rows j b)));
+  unused_rows = λ j b. same (λ n. h (λ s. n (s.unused_rows j b)));
   entries = same (λ n. h (λ s. n s.entries));
   profile = λ t b. same (λ n. h (λ s. n (s.profile t b)));
-  unused-entries = λ t b. same (λ n. h (λ s. n (s.unused-entries t b)));
+  unused_entries = λ t b. same (λ n. h (λ s. n (s.unused_entries t b)));
   narrow = λ t b. within (λ n. h (λ s. n (s.narrow t b)));
 }
 

@@ -13,7 +13,7 @@ use Rattle.plates.proofs.FirstOnesRise.{widen}
 use Rattle.plates.proofs.LastOnesParted.{one_below}
 use Rattle.plates.proofs.LiveCounted.{count-le, count_same, live-none, live-step}
 use Rattle.plates.proofs.TableFilled.{zeros-at}
-use Rattle.plates.specs.Profile.{live, liveAt}
+use Rattle.plates.specs.Profile.{live, live_at}
 use Rattle.plates.specs.Profiling.{Balanced, Marks, Tallied, runs}
 use Rattle.plates.specs.Reducing.{PlateRows}
 use Rattle.words.proofs.Ends.{first-one-is, last-one-is, some-pos}
@@ -73,7 +73,7 @@ module _ {t : List ℕ} {n k : ℕ} (s : PlateRows t n k) where
       go (no b) = omega arith
 
   -- the live rows counted in the table are those of the plate rows
-  pub live-rows : (d : ℕ) → liveAt (take k t) d ≡ count k (live (firsts t) (lasts t) d)
+  pub live-rows : (d : ℕ) → live_at (take k t) d ≡ count k (live (firsts t) (lasts t) d)
   live-rows d =
       ap (λ (x : ℕ). count x (live (firsts (take k t)) (lasts (take k t)) d)) taken-length
       ∙ count_same k (live (firsts (take k t)) (lasts (take k t)) d) (live (firsts t) (lasts t) d) (λ j h. ap (λ (x : ℕ). ltb (first x) d && leb d (last x)) (taken-row j h))
@@ -97,7 +97,7 @@ module _ {t : List ℕ} {n k : ℕ} (s : PlateRows t n k) where
   }
 
   -- and the entries are those of the profile
-  pub live-tallied : {h e : ℕ} {p : List ℕ} → Marks (firsts t) k h → Marks (lasts t) k e → Tallied h e n p → (d : ℕ) → d ≤ n → get_or p d 0 ≡ liveAt (take k t) d
+  pub live-tallied : {h e : ℕ} {p : List ℕ} → Marks (firsts t) k h → Marks (lasts t) k e → Tallied h e n p → (d : ℕ) → d ≤ n → get_or p d 0 ≡ live_at (take k t) d
   live-tallied mh me q d l = q.here d l ∙ runs-live mh me d ∙ sym (live-rows d)
 
 -- ---- the pass: the entries up to depth d are counted, and `now` rows are live

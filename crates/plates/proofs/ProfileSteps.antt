@@ -9,12 +9,12 @@ use mathlib.Core.Path.{ap, refl, subst, sym, ◌∙◌, ◌≡◌}
 use native.Mathlib.Decide.{dec_lt}
 use native.Mathlib.Omega.{arith}
 use Prim.Native.Nat.{◌+◌, ◌<◌, ◌^◌, suc, suc-le-suc, zero, zero-le, ℕ, ◌≤◌}
-use Rattle.plates.proofs.Live.{live-is}
+use Rattle.plates.proofs.Live.{live_is}
 use Rattle.plates.proofs.SoundIsPrepared.{used-row, used-rows}
 use Rattle.plates.specs.Counts.{before, here}
 use Rattle.plates.specs.declared.Plate.{Plate}
 use Rattle.plates.specs.Prepare.{rows_of}
-use Rattle.plates.specs.Profile.{live, liveAt}
+use Rattle.plates.specs.Profile.{live, live_at}
 use Rattle.plates.specs.Sound.{Sound}
 use Rattle.words.proofs.Choice.{count_none}
 use Rattle.words.proofs.Ends.{one-before}
@@ -97,7 +97,7 @@ module _ (k : ℕ) (f l : ℕ → ℕ) (le : (j : ℕ) → j < k → f j ≤ l j
 
   -- no row is live where all have ended
   pub live_end : (t : ℕ) → ((j : ℕ) → j < k → l j < t) → count k (live f l t) ≡ 0
-  live_end t h = count_none k (live f l t) (λ j m q. omega (arith, h j m, (live-is f l t j q).1))
+  live_end t h = count_none k (live f l t) (λ j m q. omega (arith, h j m, (live_is f l t j q).1))
 
 -- ---- the same of a plate for which all that can be tested holds
 
@@ -107,19 +107,19 @@ module _ (plate : Plate) (s : Sound plate) where
 
   -- s(t) is the number of heads before t less the number of last ones before t
   pub profile-before : (t : ℕ)
-      → liveAt (rows_of plate) t + before (length (rows_of plate)) (lasts (rows_of plate)) t ≡ before (length (rows_of plate)) (firsts (rows_of plate)) t
+      → live_at (rows_of plate) t + before (length (rows_of plate)) (lasts (rows_of plate)) t ≡ before (length (rows_of plate)) (firsts (rows_of plate)) t
   profile-before = live-before (length (rows_of plate)) (firsts (rows_of plate)) (lasts (rows_of plate)) le
 
   -- from depth to depth it gains 1 where a row begins, and loses 1 where one ends
-  pub profile-suc : (t : ℕ) → liveAt (rows_of plate) (suc t) + here (length (rows_of plate)) (lasts (rows_of plate)) t
-      ≡ liveAt (rows_of plate) t + here (length (rows_of plate)) (firsts (rows_of plate)) t
+  pub profile-suc : (t : ℕ) → live_at (rows_of plate) (suc t) + here (length (rows_of plate)) (lasts (rows_of plate)) t
+      ≡ live_at (rows_of plate) t + here (length (rows_of plate)) (firsts (rows_of plate)) t
   profile-suc = live-suc (length (rows_of plate)) (firsts (rows_of plate)) (lasts (rows_of plate)) le
 
   -- it begins and ends with 0
-  pub profile-start : liveAt (rows_of plate) 0 ≡ 0
+  pub profile-start : live_at (rows_of plate) 0 ≡ 0
   profile-start = live-start (length (rows_of plate)) (firsts (rows_of plate)) (lasts (rows_of plate)) le
 
-  pub profile-end : liveAt (rows_of plate) plate.n ≡ 0
+  pub profile-end : live_at (rows_of plate) plate.n ≡ 0
   profile-end = live_end (length (rows_of plate)) (firsts (rows_of plate)) (lasts (rows_of plate)) le plate.n ends
     where
       below : (j : ℕ) → j < length (rows_of plate) → get_or (rows_of plate) j 0 < 2 ^ plate.n

@@ -87,8 +87,8 @@ module _ (rows : List ℕ) (f l : ℕ → ℕ) (p : Reduced rows f l) where
           let z : bit r (f m) ≡ 0 = p.reduced j m after t.1 inside in
           inr (record {
             place = f m;
-            zero-here = z;
-            one-there = sym (differ-zero (bit w (f m))) ∙ ap (differ (bit w (f m))) (sym z) ∙ sym (bit-xor (f m) w r) ∙ s.one;
+            zero_here = z;
+            one_there = sym (differ-zero (bit w (f m))) ∙ ap (differ (bit w (f m))) (sym z) ∙ sym (bit-xor (f m) w r) ∙ s.one;
             same = λ i b. sym (bit-same w r i (s.zeros i b));
           })
         where

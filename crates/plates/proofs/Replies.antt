@@ -20,12 +20,12 @@ use Rattle.plates.specs.declared.Refusal.TheVariants.{Length, MaskBeyond, RowBey
 use Rattle.plates.specs.declared.Verdict.TheVariants.{Accepted}
 use Rattle.plates.specs.Filling.{Filled}
 use Rattle.plates.specs.Heads.{RowsOf}
-use Rattle.plates.specs.Prepare.{PlateOf, Prepares, RowOver, Wide, badLength, maskBeyond, prepareConditions, rows_of}
-use Rattle.plates.specs.Profile.{liveAt}
+use Rattle.plates.specs.Prepare.{PlateOf, Prepares, RowOver, Wide, bad_length, mask_beyond, prepare_conditions, rows_of}
+use Rattle.plates.specs.Profile.{live_at}
 use Rattle.plates.specs.Profiling.{Marks, Tallied}
 use Rattle.plates.specs.Reducing.{ReducedFrom}
 use Rattle.plates.specs.Refusals.{Refuses}
-use Rattle.plates.specs.Replying.{refusedWith}
+use Rattle.plates.specs.Replying.{refused_with}
 use Rattle.plates.specs.Working.{Beyond, FirstWhere, OverTwelve, SameSums, Tells}
 use Rattle.words.proofs.Span.{zero_one}
 use Rattle.words.proofs.Word.{below-bits, bits_below}
@@ -35,7 +35,7 @@ use Rattle.words.specs.Sum.{IsSum}
 -- ---- what `last_one` tells of a row
 
 reaches-not : {w n : ℕ} → (Beyond n w → ⊥) → Tells (Beyond n w) 0
-reaches-not h = record { digit = inl refl; yes-is = λ z. absurd (omega arith); no-is = λ z. h }
+reaches-not h = record { digit = inl refl; yes_is = λ z. absurd (omega arith); no_is = λ z. h }
 
 pub zero-short : {w n : ℕ} → w ≡ 0 → Tells (Beyond n w) 0
 zero-short {w} {n} e = reaches-not (λ b. omega (arith, pow_pos n, b.over))
@@ -47,7 +47,7 @@ last-short {w} {n} {r} d f h =
     reaches-not (λ b. omega (arith, b.over))
 
 pub last-beyond : {w n r : ℕ} → (w ≡ 0 → ⊥) → LastOne w r → n ≤ r → Tells (Beyond n w) 1
-last-beyond {w} {n} {r} d f h = record { digit = inr refl; yes-is = λ z. go (dec_lt w (2 ^ n)); no-is = λ z. absurd (omega arith) }
+last-beyond {w} {n} {r} d f h = record { digit = inr refl; yes_is = λ z. go (dec_lt w (2 ^ n)); no_is = λ z. absurd (omega arith) }
   where
     go : Dec (w < 2 ^ n) → Beyond n w
     go (no b) = record { over = omega arith }
@@ -67,13 +67,13 @@ none-beyond f h j l = not_beyond (f.none j zero-le (omega arith))
 -- ---- refusals 1 to 3, and 23
 
 module _ {n mask : ℕ} {kind : Kind} {rows : List ℕ} {r : Prepared} where
-  refuse : {q : Refusal} → Refuses (prepareConditions n kind rows mask) q → r ≡ refusedWith q → Prepares n kind rows mask r
+  refuse : {q : Refusal} → Refuses (prepare_conditions n kind rows mask) q → r ≡ refused_with q → Prepares n kind rows mask r
   refuse h e = subst (Prepares n kind rows mask) (sym e) (record { reply = (h, refl) })
 
-  pub refuse-length : (n ≡ 0) ⊎ (64 < n) → r ≡ refusedWith Length → Prepares n kind rows mask r
+  pub refuse-length : (n ≡ 0) ⊎ (64 < n) → r ≡ refused_with Length → Prepares n kind rows mask r
   refuse-length bad = refuse (inl (bad, refl))
 
-good_length : {n : ℕ} → 0 < n → n ≤ 64 → (p : Refusal) → badLength n p → ⊥
+good_length : {n : ℕ} → 0 < n → n ≤ 64 → (p : Refusal) → bad_length n p → ⊥
 good_length {n} some short p c = go c.0
   where
     go : (n ≡ 0) ⊎ (64 < n) → ⊥
@@ -84,10 +84,10 @@ good-rows : {n : ℕ} {rows : List ℕ} → ((j : ℕ) → j < length rows → g
 good-rows small c o = omega (arith, o.over, small o.row o.there)
 
 module _ {n mask : ℕ} {kind : Kind} {rows : List ℕ} {r : Prepared} (some : 0 < n) (short : n ≤ 64) where
-  pub refuse-rows : 64 < length rows → r ≡ refusedWith TooManyRows → Prepares n kind rows mask r
+  pub refuse-rows : 64 < length rows → r ≡ refused_with TooManyRows → Prepares n kind rows mask r
   refuse-rows many = refuse (inr (good_length some short, inl (many, refl)))
 
-  pub refuse-beyond : {i : ℕ} → length rows ≤ 64 → FirstWhere rows (Beyond n) 0 (length rows) i → i < length rows → r ≡ refusedWith (RowBeyond i)
+  pub refuse-beyond : {i : ℕ} → length rows ≤ 64 → FirstWhere rows (Beyond n) 0 (length rows) i → i < length rows → r ≡ refused_with (RowBeyond i)
       → Prepares n kind rows mask r
   refuse-beyond {i} few f h =
       refuse (inr (
@@ -105,11 +105,11 @@ module _ {n mask : ℕ} {kind : Kind} {rows : List ℕ} {r : Prepared} (some : 0
       ))
 
   pub refuse-mask : {d : ℕ} → length rows ≤ 64 → ((j : ℕ) → j < length rows → get_or rows j 0 < 2 ^ n) → Tells (Beyond n mask) d → d ≡ 1
-      → r ≡ refusedWith MaskBeyond → Prepares n kind rows mask r
+      → r ≡ refused_with MaskBeyond → Prepares n kind rows mask r
   refuse-mask few small t one =
       refuse (inr (
         good_length some short,
-        inr ((λ p c. omega (arith, c.0)), inr (good-rows small, inl ((t.yes-is one).over, refl))),
+        inr ((λ p c. omega (arith, c.0)), inr (good-rows small, inl ((t.yes_is one).over, refl))),
       ))
 
 -- a mask that is not told to reach beyond does not
@@ -117,7 +117,7 @@ pub mask-short : {n mask d : ℕ} → Tells (Beyond n mask) d → (d ≡ 1 → �
 mask-short {n} {mask} {d} t h = go t.digit
   where
     go : (d ≡ 0) ⊎ (d ≡ 1) → mask < 2 ^ n
-    go (inl e) = not_beyond (t.no-is e)
+    go (inl e) = not_beyond (t.no_is e)
     go (inr e) = absurd (h e)
 
 -- ---- the plate
@@ -141,15 +141,15 @@ pub plate-done : {n used k mask heads ends : ℕ} {kind : Kind} {rows t u p : Li
     → Marks (firsts u) k heads → Marks (lasts u) k ends → Tallied heads ends n p
     → PlateOf (InCode kind n rows) n mask (record { n = n; k = k; mask = mask; rows = u; profile = p })
 plate-done {n} {used} {k} {mask} {heads} {ends} {kind} {rows} {t} {u} {p} f s mh me q = record {
-  length-n = refl;
+  length_n = refl;
   mask_is = refl;
   few = s.rows.table.few;
   table = s.rows.table.size;
   rows = rows_same code (plate-of (take k u) (firsts (take k u)) (lasts (take k u)) s.rows.reduced);
-  unused-rows = s.rows.table.unused;
+  unused_rows = s.rows.table.unused;
   entries = q.entries;
   profile = live-tallied s.rows mh me q;
-  unused-entries = q.unused;
+  unused_entries = q.unused;
 }
   where
     used-rows : SameSums (take k u) u
@@ -160,13 +160,13 @@ plate-done {n} {used} {k} {mask} {heads} {ends} {kind} {rows} {t} {u} {p} f s mh
 
 -- ---- refusal 4, and the answer
 
-good-mask : (n : ℕ) {mask : ℕ} → mask < 2 ^ n → (c : Refusal) → maskBeyond n mask c → ⊥
+good-mask : (n : ℕ) {mask : ℕ} → mask < 2 ^ n → (c : Refusal) → mask_beyond n mask c → ⊥
 good-mask n masked c o = omega (arith, o.0, masked)
 
 module _ {n mask d : ℕ} {kind : Kind} {rows : List ℕ} {plate : Plate} (some : 0 < n) (short : n ≤ 64) (few : length rows ≤ 64)
     (small : (j : ℕ) → j < length rows → get_or rows j 0 < 2 ^ n) (masked : mask < 2 ^ n) (p : PlateOf (InCode kind n rows) n mask plate)
     (w : FirstWhere plate.profile OverTwelve 0 (n + 1) d) where
-  pub refuse-wide : {r : Prepared} → d ≤ n → r ≡ refusedWith (TooWide d) → Prepares n kind rows mask r
+  pub refuse-wide : {r : Prepared} → d ≤ n → r ≡ refused_with (TooWide d) → Prepares n kind rows mask r
   refuse-wide h =
       refuse (inr (
         good_length some short,
@@ -202,4 +202,4 @@ module _ {n mask d : ℕ} {kind : Kind} {rows : List ℕ} {plate : Plate} (some 
           let e : o.rows ≡ rows_of plate =
           one-plate (InCode kind n rows) o.rows (rows_of plate) (firsts o.rows) (lasts o.rows) (firsts (rows_of plate)) (lasts (rows_of plate)) o.plate p.rows in
           w.none o.depth zero-le (omega (arith, o.within))
-          (subst (λ (x : ℕ). 12 < x) (sym (p.profile o.depth o.within)) (subst (λ (x : List ℕ). 12 < liveAt x o.depth) e o.over))
+          (subst (λ (x : ℕ). 12 < x) (sym (p.profile o.depth o.within)) (subst (λ (x : List ℕ). 12 < live_at x o.depth) e o.over))

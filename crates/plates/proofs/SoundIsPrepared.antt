@@ -17,8 +17,8 @@ use Rattle.plates.specs.declared.Plate.{Plate}
 use Rattle.plates.specs.declared.Refusal.{Refusal}
 use Rattle.plates.specs.declared.Refusal.TheVariants.{Length, MaskBeyond, RowBeyond, TooWide}
 use Rattle.plates.specs.Heads.{RowsOf}
-use Rattle.plates.specs.Prepare.{IsPrepared, PlateOf, RowOver, Tests, Wide, ofParts, prepareConditions, rows_of}
-use Rattle.plates.specs.Profile.{liveAt}
+use Rattle.plates.specs.Prepare.{IsPrepared, PlateOf, RowOver, Tests, Wide, of_parts, prepare_conditions, rows_of}
+use Rattle.plates.specs.Profile.{live_at}
 use Rattle.plates.specs.Refusals.{Passes}
 use Rattle.plates.specs.Sound.{Sound}
 use Rattle.plates.specs.Tested.{Decides}
@@ -45,11 +45,11 @@ rows-below n rows h (suc m) b j k = go (rows-below n rows h m (omega arith)) (lt
     go before (inr (inr a)) = absurd (omega arith)
 
 -- where a code's plate is not too wide, none of its profile exceeds 12
-depths-narrow : (C : ℕ → Type 0) (n : ℕ) (rows : List ℕ) → RowsOf C rows (firsts rows) (lasts rows) → ((q : Refusal) → Wide C n q → ⊥) → (m : ℕ) → (t : ℕ) → t < m → t ≤ n → liveAt rows t ≤ 12
+depths-narrow : (C : ℕ → Type 0) (n : ℕ) (rows : List ℕ) → RowsOf C rows (firsts rows) (lasts rows) → ((q : Refusal) → Wide C n q → ⊥) → (m : ℕ) → (t : ℕ) → t < m → t ≤ n → live_at rows t ≤ 12
 depths-narrow C n rows p h zero t l b = absurd (omega arith)
-depths-narrow C n rows p h (suc m) t l b = here (dec_lt 12 (liveAt rows t)) (depths-narrow C n rows p h m)
+depths-narrow C n rows p h (suc m) t l b = here (dec_lt 12 (live_at rows t)) (depths-narrow C n rows p h m)
   where
-    here : Dec (12 < liveAt rows t) → ((i : ℕ) → i < m → i ≤ n → liveAt rows i ≤ 12) → liveAt rows t ≤ 12
+    here : Dec (12 < live_at rows t) → ((i : ℕ) → i < m → i ≤ n → live_at rows i ≤ 12) → live_at rows t ≤ 12
     here (no o) before = omega arith
     here (yes o) before = absurd (h (TooWide t) (record {
       rows = rows;
@@ -77,14 +77,14 @@ sound {plate} p = record {
   table = answer.table;
   below = λ j k. subst (λ (x : ℕ). x < 2 ^ plate.n) (used-row plate j k) (rows-below plate.n (rows_of plate) pass.1.1.0 (length (rows_of plate)) (le_refl _) j (omega (arith, size)));
   reduced = rows-reduced (IsSum (rows_of plate)) (λ a b. in-xor) (rows_of plate) _ _ answer.rows;
-  unused-rows = answer.unused-rows;
+  unused_rows = answer.unused_rows;
   entries = answer.entries;
   profile = answer.profile;
-  unused-entries = answer.unused-entries;
+  unused_entries = answer.unused_entries;
   narrow = λ t h. depths-narrow (IsSum (rows_of plate)) plate.n (rows_of plate) answer.rows pass.1.1.1.1.0 (suc t) t (omega arith) h;
 }
   where
-    pass : Passes (prepareConditions plate.n G (rows_of plate) plate.mask)
+    pass : Passes (prepare_conditions plate.n G (rows_of plate) plate.mask)
     pass = p.same.reply.0
 
     answer : PlateOf (IsSum (rows_of plate)) plate.n plate.mask plate
@@ -117,7 +117,7 @@ prepared {plate} s = record { few = s.few; same = record { reply = (pass, answer
     wide : (q : Refusal) → Wide (IsSum (rows_of plate)) plate.n q → ⊥
     wide q w =
         let e : w.rows ≡ rows_of plate = one-plate (IsSum (rows_of plate)) w.rows (rows_of plate) _ _ _ _ w.plate rows in
-        let o : 12 < liveAt (rows_of plate) w.depth = subst (λ (x : List ℕ). 12 < liveAt x w.depth) e w.over in
+        let o : 12 < live_at (rows_of plate) w.depth = subst (λ (x : List ℕ). 12 < live_at x w.depth) e w.over in
         omega (arith, s.narrow w.depth w.within)
 
     over : (q : Refusal) → RowOver plate.n (rows_of plate) q → ⊥
@@ -125,7 +125,7 @@ prepared {plate} s = record { few = s.few; same = record { reply = (pass, answer
         let k : w.row < plate.k = omega (arith, w.there, size) in
         omega (arith, s.below w.row k, subst (λ (x : ℕ). 2 ^ plate.n ≤ x) (used-row plate w.row k) w.over)
 
-    pass : Passes (prepareConditions plate.n G (rows_of plate) plate.mask)
+    pass : Passes (prepare_conditions plate.n G (rows_of plate) plate.mask)
     pass = ((λ q b. bad b.0), ((λ q b. omega (arith, b.0, size, s.few)), (over, ((λ q b. omega (arith, b.0, s.masked)), (wide, tt)))))
       where
         bad : (plate.n ≡ 0) ⊎ (64 < plate.n) → ⊥
@@ -134,20 +134,20 @@ prepared {plate} s = record { few = s.few; same = record { reply = (pass, answer
 
     answer : PlateOf (IsSum (rows_of plate)) plate.n plate.mask plate
     answer = record {
-      length-n = refl;
+      length_n = refl;
       mask_is = refl;
       few = s.few;
       table = s.table;
       rows = rows;
-      unused-rows = s.unused-rows;
+      unused_rows = s.unused_rows;
       entries = s.entries;
       profile = s.profile;
-      unused-entries = s.unused-entries;
+      unused_entries = s.unused_entries;
     }
 
 -- what the test of a plate's parts says of the plate
 pub sound-tested : (plate : Plate) {profile : List ℕ} {r : Bool} → profile ≡ plate.profile
-    → Decides (Sound (ofParts plate.n plate.k plate.mask plate.rows profile)) r → Tests plate r
+    → Decides (Sound (of_parts plate.n plate.k plate.mask plate.rows profile)) r → Tests plate r
 sound-tested plate {r = r} same d =
-    let s = subst (λ (p : List ℕ). Decides (Sound (ofParts plate.n plate.k plate.mask plate.rows p)) r) same d in
-    record { yes-is = λ e. prepared (s.yes-is e); no-is = λ e p. s.no-is e (sound p) }
+    let s = subst (λ (p : List ℕ). Decides (Sound (of_parts plate.n plate.k plate.mask plate.rows p)) r) same d in
+    record { yes_is = λ e. prepared (s.yes_is e); no_is = λ e p. s.no_is e (sound p) }

@@ -8,5 +8,5 @@ abbrev pub live : (ℕ → ℕ) → (ℕ → ℕ) → ℕ → ℕ → Bool
 live f l t j = ltb (f j) t && leb t (l j)
 
 -- the profile entry s(t): the number of live rows
-abbrev pub liveAt : List ℕ → ℕ → ℕ
-liveAt rows t = count (length rows) (live (firsts rows) (lasts rows) t)
+abbrev pub live_at : List ℕ → ℕ → ℕ
+live_at rows t = count (length rows) (live (firsts rows) (lasts rows) t)

@@ -2,8 +2,8 @@
 use Rattle.plates.specs.declared.Prepared.{Prepared}
 use Rattle.plates.specs.declared.Refusal.{Refusal}
 use Rattle.plates.specs.declared.Verdict.TheVariants.{Refused}
-use Rattle.plates.specs.Prepare.{zeroPlate}
+use Rattle.plates.specs.Prepare.{zero_plate}
 
 -- a refusal, with the zero plate beside it
-abbrev pub refusedWith : Refusal → Prepared
-refusedWith q = record { verdict = Refused q; plate = zeroPlate }
+abbrev pub refused_with : Refusal → Prepared
+refused_with q = record { verdict = Refused q; plate = zero_plate }

@@ -4,12 +4,12 @@ use Rattle.words.specs.Choice.{more}
 use Rattle.words.specs.Ends.{first, last, firsts, lasts}
 use Rattle.words.specs.Span.{Spans}
 use Rattle.words.specs.Word.{bit}
-use Rattle.plates.specs.Profile.{liveAt}
+use Rattle.plates.specs.Profile.{live_at}
 
 -- r says whether P holds
 pub record Decides (P : Type 0) (r : Bool) : Type 0 where
-  pub yes-is : r ≡ true → P
-  pub no-is : r ≡ false → P → ⊥
+  pub yes_is : r ≡ true → P
+  pub no_is : r ≡ false → P → ⊥
 
 -- ---- rows by their last ones
 
@@ -58,13 +58,13 @@ pub record Cleared (rows : List ℕ) : Type 0 where
 -- ---- the profile, and zeros
 
 -- 1 where the table says that a row ends at t, and 0 where not
-abbrev pub endingAt : List ℕ → ℕ → ℕ
-endingAt table t = more (ltb (get_or table t 0) 64) 0
+abbrev pub ending_at : List ℕ → ℕ → ℕ
+ending_at table t = more (ltb (get_or table t 0) 64) 0
 
 -- the entries at depths 0 to n are the rows' own, and at most 12
 pub record Profiled (n : ℕ) (rows profile : List ℕ) : Type 0 where
-  pub entry : (t : ℕ) → t ≤ n → get_or profile t 0 ≡ liveAt rows t
-  pub narrow : (t : ℕ) → t ≤ n → liveAt rows t ≤ 12
+  pub entry : (t : ℕ) → t ≤ n → get_or profile t 0 ≡ live_at rows t
+  pub narrow : (t : ℕ) → t ≤ n → live_at rows t ≤ 12
 
 -- the rows in use, and their profile, are those of a plate
 pub record UsedSound (n : ℕ) (rows profile : List ℕ) : Type 0 where

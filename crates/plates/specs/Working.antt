@@ -55,12 +55,12 @@ OverTwelve s = 12 < s
 -- the digit is 1 where P holds, and 0 where not
 pub record Tells (P : Type 0) (d : ℕ) : Type 0 where
   pub digit : (d ≡ 0) ⊎ (d ≡ 1)
-  pub yes-is : d ≡ 1 → P
-  pub no-is : d ≡ 0 → P → ⊥
+  pub yes_is : d ≡ 1 → P
+  pub no_is : d ≡ 0 → P → ⊥
 
 -- row i gains row j where the digit is not 0
-abbrev pub gainRow : List ℕ → ℕ → ℕ → ℕ → List ℕ
-gainRow rows i j d = set rows i (bit_xor (get_or rows i 0) (taken d (get_or rows j 0)))
+abbrev pub gain_row : List ℕ → ℕ → ℕ → ℕ → List ℕ
+gain_row rows i j d = set rows i (bit_xor (get_or rows i 0) (taken d (get_or rows j 0)))
 
 -- a row that was x is z: if x has P it has gained y, and else it is as it was
 abbrev pub GainedRow : (ℕ → Type 0) → ℕ → ℕ → ℕ → Type 0

@@ -1,9 +1,9 @@
 // Code plates: what a plate is, how a matrix becomes one, and how a prepared plate is known.
 ghost use Rattle.std.specs.Prelude.{◌≡◌, ℕ, ◌^◌, ◌<◌, ◌≤◌, get_or, length};
 ghost use Rattle.plates.specs.Code.{InCode};
-ghost use Rattle.plates.specs.Prepare.{PlateOf, Prepares, Tests, ofParts};
+ghost use Rattle.plates.specs.Prepare.{PlateOf, Prepares, Tests, of_parts};
 ghost use Rattle.plates.specs.Refusals.{entry_of, field, number, place, told};
-ghost use Rattle.plates.specs.Replying.{refusedWith};
+ghost use Rattle.plates.specs.Replying.{refused_with};
 
 mod matrix;
 mod profile;
@@ -159,7 +159,7 @@ pub fn refusal_field(refusal: Refusal) -> usize
 
 // A refusal, with the zero plate beside it.
 fn refused(refusal: Refusal) -> Prepared
-    ensures { result ≡ refusedWith refusal }
+    ensures { result ≡ refused_with refusal }
 {
     Prepared {
         verdict: Verdict::Refused(refusal),
@@ -249,7 +249,7 @@ pub fn parts_prepared<'a>(
     rows: &'a [u64],
     profile: &'a [u64],
 ) -> bool
-    ensures { Tests (ofParts n k mask rows.now profile.now) result }
+    ensures { Tests (of_parts n k mask rows.now profile.now) result }
 {
     if rows.len() != 64 {
         return false;

@@ -1,13 +1,13 @@
 // Row operations on the working table of 64 words.
 ghost use Rattle.std.specs.Prelude.{◌≡◌, ◌+◌, ◌<◌, ◌≤◌, length};
-ghost use Rattle.words.specs.Sum.{swapRows, taken};
-ghost use Rattle.plates.specs.Working.{FirstWhere, Gained, Odd, gainRow};
+ghost use Rattle.words.specs.Sum.{swap_rows, taken};
+ghost use Rattle.plates.specs.Working.{FirstWhere, Gained, Odd, gain_row};
 
 // Rows i and j are exchanged.
 pub fn swap_rows(table: &mut [u64; 64], i: usize, j: usize)
     requires i_bound { i < 64 }
     requires j_bound { j < 64 }
-    ensures { table.new ≡ swapRows table.old i j }
+    ensures { table.new ≡ swap_rows table.old i j }
 {
     let a = table[i];
     let b = table[j];
@@ -29,7 +29,7 @@ fn word_taken(digit: u64, word: u64) -> u64
 pub fn gain_row(table: &mut [u64; 64], i: usize, j: usize, digit: u64)
     requires i_bound { i < 64 }
     requires j_bound { j < 64 }
-    ensures { table.new ≡ gainRow table.old i j digit }
+    ensures { table.new ≡ gain_row table.old i j digit }
 {
     let row = word_taken(digit, table[j]);
     table[i] = table[i] ^ row;

@@ -2,9 +2,9 @@
 ghost use Rattle.std.specs.Prelude.{◌≡◌, ◌≤◌, ◌<◌, length};
 ghost use Rattle.words.specs.Ends.{firsts, lasts};
 ghost use Rattle.words.specs.Span.{Spans};
-ghost use Rattle.plates.specs.Prepare.{ofParts};
+ghost use Rattle.plates.specs.Prepare.{of_parts};
 ghost use Rattle.plates.specs.Sound.{Sound};
-ghost use Rattle.plates.specs.Tested.{Decides, ByLast, MayFollow, Standing, Placed, RowEnding, HeadsOf, HeadWord, Cleared, endingAt, Profiled, UsedSound, ZeroFrom};
+ghost use Rattle.plates.specs.Tested.{Decides, ByLast, MayFollow, Standing, Placed, RowEnding, HeadsOf, HeadWord, Cleared, ending_at, Profiled, UsedSound, ZeroFrom};
 
 use crate::matrix::reaches;
 use words::{bit_at, first_one, last_one};
@@ -112,7 +112,7 @@ fn all_heads(rows: &[u64]) -> u64
 // 1 where a row ends at a position, and 0 where none does.
 fn ending_at(by_last: &[u8; 64], t: usize) -> usize
     requires { t < 64 }
-    ensures { result ≡ endingAt by_last.now t }
+    ensures { result ≡ ending_at by_last.now t }
 {
     if by_last[t] < 64 {
         return 1;
@@ -184,7 +184,7 @@ fn zero_from(words: &[u64], from: usize) -> bool
 pub fn sound<'a>(n: usize, k: usize, mask: u64, rows: &'a [u64], profile: &'a [u64]) -> bool
     requires rows_len { length rows.now ≡ 64 }
     requires profile_len { length profile.now ≡ 65 }
-    ensures { Decides (Sound (ofParts n k mask rows.now profile.now)) result }
+    ensures { Decides (Sound (of_parts n k mask rows.now profile.now)) result }
 {
     if n == 0 {
         return false;

@@ -11,7 +11,7 @@ use Rattle.plates.specs.declared.Verdict.{Verdict}
 use Rattle.plates.specs.declared.Verdict.TheVariants as J
 use Rattle.programs.specs.declared.streams.Got.{Got}
 use Rattle.programs.specs.Input.{StandsFor, Stopped, Whole}
-use Rattle.sheets.specs.Sheet.{contents, reading, readingBy, refused, verdict}
+use Rattle.sheets.specs.Sheet.{contents, reading, reading_by, refused, verdict}
 
 pub not-both : {A : Type 0} (b : Bool) → not b ≡ false → b ≡ false → A
 not-both true e f = let z : ◌≡◌ {A = ℕ} 0 1 = cc in absurd (omega arith)
@@ -34,7 +34,7 @@ unfolding verdict
 verdict-long s h = rw (lt-ltb 32768 (length s) h)
 
 reads-long : (s : List ℕ) → 32768 < length s → reading s ≡ refused InputTooLong
-reads-long s h = ap (λ (v : Verdict). readingBy v (contents s)) (verdict-long s h)
+reads-long s h = ap (λ (v : Verdict). reading_by v (contents s)) (verdict-long s h)
 
 reads-by : (ended : Bool) (read whole : List ℕ) → StandsFor ended read → Whole ended read whole → reading whole ≡ reading read
 reads-by true read whole s w = ap reading (w.is ∙ ap (λ (r : List ℕ). read ++ r) (w.none refl) ∙ append-nil read)

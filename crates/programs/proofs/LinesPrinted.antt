@@ -174,17 +174,17 @@ pub going_before : {input : List ℕ} {report : Report} {sent : Sent} {goes-on w
 going_before g h = g.more h
 
 -- how many turns may still come
-abbrev pub turnsLeft : Bool → ℕ → ℕ
-turnsLeft goes-on lines = cond goes-on (suc (2 ^ 64 - lines)) 0
+abbrev pub turns_left : Bool → ℕ → ℕ
+turns_left goes-on lines = cond goes-on (suc (2 ^ 64 - lines)) 0
 
-fewer-by : (sent after : Sent) (goes-on : Bool) → (goes-on ≡ true → OneMore sent after) → turnsLeft goes-on after.lines < suc (2 ^ 64 - sent.lines)
+fewer-by : (sent after : Sent) (goes-on : Bool) → (goes-on ≡ true → OneMore sent after) → turns_left goes-on after.lines < suc (2 ^ 64 - sent.lines)
 fewer-by sent after true m = let h = m refl in omega (arith, h.is, h.below)
 fewer-by sent after false m = omega arith
 
 pub turns-fewer : {input : List ℕ} {sent : Sent} {r : Turn} {goes-on : Bool} → goes-on ≡ true → Prints input sent r
-    → turnsLeft r.goes_on r.sent.lines < turnsLeft goes-on sent.lines
+    → turns_left r.goes_on r.sent.lines < turns_left goes-on sent.lines
 turns-fewer {input} {sent} {r} h p =
-    subst (λ (b : Bool). turnsLeft r.goes_on r.sent.lines < turnsLeft b sent.lines) (sym h) (fewer-by sent r.sent r.goes_on p.one_more)
+    subst (λ (b : Bool). turns_left r.goes_on r.sent.lines < turns_left b sent.lines) (sym h) (fewer-by sent r.sent r.goes_on p.one_more)
 
 pub going_on : {input : List ℕ} {sent : Sent} {r : Turn} → Prints input sent r → Going input r.next r.sent r.goes_on r.whole
 going_on p = p.going

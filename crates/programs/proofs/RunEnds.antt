@@ -15,7 +15,7 @@ use Rattle.programs.specs.declared.endings.Ending.{Ending}
 use Rattle.programs.specs.declared.endings.Ending.TheVariants.{Listed, Refused, Unwritten}
 use Rattle.programs.specs.declared.listing.Printed.{Printed}
 use Rattle.programs.specs.declared.writer.Sent.{Sent}
-use Rattle.programs.specs.Ending.{Accepts, Ends, EndsAs, IsStatus, PrintsAll, endingOf, statusOf}
+use Rattle.programs.specs.Ending.{Accepts, Ends, EndsAs, IsStatus, PrintsAll, ending_of, status_of}
 use Rattle.programs.specs.Input.{StandsFor}
 use Rattle.programs.specs.Printing.{AllLines, Going}
 use Rattle.programs.proofs.Inputs.{reads_same}
@@ -23,19 +23,19 @@ use Rattle.reports.proofs.ReportDetermined.{report-determined}
 use Rattle.reports.specs.declared.Report.{Report}
 use Rattle.reports.specs.declared.Stage.{Stage}
 use Rattle.reports.specs.declared.Stage.TheVariants as S
-use Rattle.reports.specs.Report.{Reports, ReportsAs, lineOfRefusal}
-use Rattle.reports.specs.Steps.{Opens, OpensAs, OpensSheet, reportBy}
+use Rattle.reports.specs.Report.{Reports, ReportsAs, line_of_refusal}
+use Rattle.reports.specs.Steps.{Opens, OpensAs, OpensSheet, report_by}
 use Rattle.sheets.specs.Sheet.{Contents, Reading, reading, refused, says, start_of}
 
 -- ---- the exit status
 
-pub status-listed : {e : Ending} {sent : Sent} → e ≡ Listed sent → pos 0 ≡ statusOf e
+pub status-listed : {e : Ending} {sent : Sent} → e ≡ Listed sent → pos 0 ≡ status_of e
 status-listed h = rw h
 
-pub status-refused : {e : Ending} {q : Refusal} {sent : Sent} → e ≡ Refused q sent → pos 1 ≡ statusOf e
+pub status-refused : {e : Ending} {q : Refusal} {sent : Sent} → e ≡ Refused q sent → pos 1 ≡ status_of e
 status-refused h = rw h
 
-pub status-unwritten : {e : Ending} → e ≡ Unwritten → pos 2 ≡ statusOf e
+pub status-unwritten : {e : Ending} → e ≡ Unwritten → pos 2 ≡ status_of e
 status-unwritten h = rw h
 
 pub status-fault : {r : ℤ} → r ≡ pos 2 → IsStatus (to_z w32 (of_z w32 r))
@@ -52,26 +52,26 @@ module _ (read whole : List ℕ) (same : reading whole ≡ reading read) (sent :
   all-over = record { lines = a.lines; counted = a.counted; reports = over a.reports; in_place = a.in_place; only = a.only }
 
   -- the one line of a refusal
-  refused-ends : (q : Refusal) → Reports read (lineOfRefusal q ∷ []) → EndsAs read whole (Refused q sent)
+  refused-ends : (q : Refusal) → Reports read (line_of_refusal q ∷ []) → EndsAs read whole (Refused q sent)
   refused-ends q r =
-      let e = ap length (report-determined read a.lines (lineOfRefusal q ∷ []) a.reports r) in
+      let e = ap length (report-determined read a.lines (line_of_refusal q ∷ []) a.reports r) in
       (all-over, omega (arith, e, a.counted), over r)
 
   sheet-ends : (c : Contents) → reading read ≡ says c → (report : Report)
       (x : OpensSheet c.n c.kind c.rows c.mask c.order (start_of read c) c.heard (length c.blocks) report) (v : Verdict)
       → x.prepared.verdict ≡ v
-      → EndsAs read whole (endingOf (reportBy v x.prepared.plate c.order (start_of read c) c.heard (length c.blocks)).stage sent)
+      → EndsAs read whole (ending_of (report_by v x.prepared.plate c.order (start_of read c) c.heard (length c.blocks)).stage sent)
   sheet-ends c e report x (J.Refused q) f =
-      refused-ends q (record { is = subst (λ (y : Reading). ReportsAs y (lineOfRefusal q ∷ [])) (sym e) (record { prepared = x.prepared; prepares = x.prepares; is = rw f refl }) })
+      refused-ends q (record { is = subst (λ (y : Reading). ReportsAs y (line_of_refusal q ∷ [])) (sym e) (record { prepared = x.prepared; prepares = x.prepares; is = rw f refl }) })
   sheet-ends c e report x J.Accepted f =
       (all-over, record { sheet = c; reads = same ∙ e; prepared = x.prepared; prepares = x.prepares; accepted = f })
 
-  opened-ends : (found : Reading) → reading read ≡ found → (report : Report) → OpensAs read found report → EndsAs read whole (endingOf report.stage sent)
+  opened-ends : (found : Reading) → reading read ≡ found → (report : Report) → OpensAs read found report → EndsAs read whole (ending_of report.stage sent)
   opened-ends (refused q) e report x =
-      subst (λ (r : Report). EndsAs read whole (endingOf r.stage sent)) (sym x)
-      (refused-ends q (record { is = subst (λ (y : Reading). ReportsAs y (lineOfRefusal q ∷ [])) (sym e) refl }))
+      subst (λ (r : Report). EndsAs read whole (ending_of r.stage sent)) (sym x)
+      (refused-ends q (record { is = subst (λ (y : Reading). ReportsAs y (line_of_refusal q ∷ [])) (sym e) refl }))
   opened-ends (says c) e report x =
-      subst (λ (r : Report). EndsAs read whole (endingOf r.stage sent)) (sym x.is) (sheet-ends c e report x x.prepared.verdict refl)
+      subst (λ (r : Report). EndsAs read whole (ending_of r.stage sent)) (sym x.is) (sheet-ends c e report x x.prepared.verdict refl)
 
 pub printed-all : {input : List ℕ} {report : Report} {sent : Sent} {goes_on whole : Bool} → Going input report sent goes_on whole
     → PrintsAll input (record { whole = whole; sent = sent })
@@ -79,7 +79,7 @@ printed-all g = record { all = g.all }
 
 -- what printing said and the first stage tell the ending
 pub all-taken : {ended : Bool} {read : List ℕ} {report : Report} {r : Printed} {e : Ending} → StandsFor ended read → Opens read report → PrintsAll read r
-    → r.whole ≡ true → e ≡ endingOf report.stage r.sent → Ends ended read e
+    → r.whole ≡ true → e ≡ ending_of report.stage r.sent → Ends ended read e
 all-taken {ended} {read} {report} {r} {e} s o p h k = record {
   is = λ whole w. subst (EndsAs read whole) (sym k) (opened-ends read whole (reads_same s w) r.sent (p.all h) (reading read) refl report o.is);
 }

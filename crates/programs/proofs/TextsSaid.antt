@@ -9,14 +9,14 @@ use native.Mathlib.Omega.{arith}
 use Prim.Native.Nat.{◌+◌, ℕ}
 use Rattle.listings.specs.declared.Written.{Written}
 use Rattle.listings.specs.declared.Written.TheVariants as W
-use Rattle.listings.specs.Lines.{refusedLine}
-use Rattle.listings.specs.Writing.{WritesAs, WritesLine, lineRoom}
+use Rattle.listings.specs.Lines.{refused_line}
+use Rattle.listings.specs.Writing.{WritesAs, WritesLine, line_room}
 use Rattle.outlines.proofs.Enough.{plate-sheet-length}
 use Rattle.outlines.proofs.Replying.{opened-prepared}
 use Rattle.outlines.specs.declared.opening.Which.TheVariants as O
 use Rattle.outlines.specs.declared.opening.Which.TheVariants.{Own}
 use Rattle.outlines.specs.Outline.{WritesBy, WritesPlateSheet}
-use Rattle.outlines.specs.SheetText.{sheetOf}
+use Rattle.outlines.specs.SheetText.{sheet_of}
 use Rattle.plates.specs.declared.Refusal.{Refusal}
 use Rattle.plates.specs.declared.Verdict.{Verdict}
 use Rattle.plates.specs.declared.Verdict.TheVariants as J
@@ -28,20 +28,20 @@ use Rattle.programs.specs.declared.writer.Sent.{Sent}
 use Rattle.programs.specs.declared.writer.Text.{Text}
 use Rattle.programs.specs.declared.writer.Text.TheVariants.{Dual, Sheet}
 use Rattle.programs.specs.Printing.{Hands}
-use Rattle.programs.specs.Verbs.{IsRefused, IsText, RefusedAs, RefusedEnding, Says, SaysAs, WritesText, whichOf}
+use Rattle.programs.specs.Verbs.{IsRefused, IsText, RefusedAs, RefusedEnding, Says, SaysAs, WritesText, which_of}
 
 -- ---- the line of a refusal
 
 -- its numbers by other names
-pub refused-made : {n p f n' p' f' : ℕ} {room room' : List ℕ} {r : Written} → n ≡ n' → p ≡ p' → f ≡ f' → WritesLine (refusedLine n p f) room r room'
-    → WritesLine (refusedLine n' p' f') room r room'
+pub refused-made : {n p f n' p' f' : ℕ} {room room' : List ℕ} {r : Written} → n ≡ n' → p ≡ p' → f ≡ f' → WritesLine (refused_line n p f) room r room'
+    → WritesLine (refused_line n' p' f') room r room'
 refused-made e g h w = rw (← e, ← g, ← h) w
 
 -- a line that was written stands at the start of the room
 pub line-there : {line room room' : List ℕ} {w : Written} {size : ℕ} → WritesLine line room w room' → w ≡ W.Bytes size → take size room' ≡ line
-line-there {line} {room} {room'} {w} {size} x e = by (subst (WritesAs (lineRoom line room ∷ []) line room room') e x.reply)
+line-there {line} {room} {room'} {w} {size} x e = by (subst (WritesAs (line_room line room ∷ []) line room room') e x.reply)
   where
-    by : WritesAs (lineRoom line room ∷ []) line room room' (W.Bytes size) → take size room' ≡ line
+    by : WritesAs (line_room line room ∷ []) line room room' (W.Bytes size) → take size room' ≡ line
     by y = rw (y.1, y.2) (take-append_seam line (drop (length line) room))
 
 -- one line was taken
@@ -67,12 +67,12 @@ text-untaken = record { is = tt }
 pub sheet-text : {what : Text} {input room room' : List ℕ} {w : Written} → what ≡ Sheet → WritesPlateSheet Own input room w room'
     → WritesText what input room w room'
 sheet-text {input = input} {room} {room'} {w} e x =
-    record { is = subst (λ (t : Text). WritesPlateSheet (whichOf t) input room w room') (sym e) x }
+    record { is = subst (λ (t : Text). WritesPlateSheet (which_of t) input room w room') (sym e) x }
 
 pub dual-text : {what : Text} {input room room' : List ℕ} {w : Written} → what ≡ Dual → WritesPlateSheet O.Dual input room w room'
     → WritesText what input room w room'
 dual-text {input = input} {room} {room'} {w} e x =
-    record { is = subst (λ (t : Text). WritesPlateSheet (whichOf t) input room w room') (sym e) x }
+    record { is = subst (λ (t : Text). WritesPlateSheet (which_of t) input room w room') (sym e) x }
 
 -- the room before writing
 abbrev zeros : List ℕ
@@ -83,7 +83,7 @@ module _ {what : Text} {input room' : List ℕ} {w : Written} (t : WritesText wh
   pub text-there : {size : ℕ} → w ≡ W.Bytes size → IsText what input (take size room')
   text-there {size} e = by t.is.prepared.verdict refl t.is.is
     where
-      by : (v : Verdict) → t.is.prepared.verdict ≡ v → WritesBy v (sheetOf t.is.prepared.plate) zeros w room' → IsText what input (take size room')
+      by : (v : Verdict) → t.is.prepared.verdict ≡ v → WritesBy v (sheet_of t.is.prepared.plate) zeros w room' → IsText what input (take size room')
       by (J.Refused q) f y = let g : W.Refused q ≡ W.Bytes size = sym y.0 ∙ e in let z : ◌≡◌ {A = ℕ} 0 1 = cc in absurd (omega arith)
       by J.Accepted f y = record { is = record { prepared = t.is.prepared; opened = t.is.opened; accepted = f; is = line-there y e } }
 
@@ -91,7 +91,7 @@ module _ {what : Text} {input room' : List ℕ} {w : Written} (t : WritesText wh
   refused-there : {q : Refusal} → w ≡ W.Refused q → IsRefused what input q
   refused-there {q} e = by t.is.prepared.verdict refl t.is.is
     where
-      short : t.is.prepared.verdict ≡ J.Accepted → Refuses (lineRoom (sheetOf t.is.prepared.plate) zeros ∷ []) q → IsRefused what input q
+      short : t.is.prepared.verdict ≡ J.Accepted → Refuses (line_room (sheet_of t.is.prepared.plate) zeros ∷ []) q → IsRefused what input q
       short f (inl h) =
           absurd (omega (
             arith,
@@ -101,14 +101,14 @@ module _ {what : Text} {input room' : List ℕ} {w : Written} (t : WritesText wh
           ))
       short f (inr h) = absurd h.1
 
-      by : (v : Verdict) → t.is.prepared.verdict ≡ v → WritesBy v (sheetOf t.is.prepared.plate) zeros w room' → IsRefused what input q
+      by : (v : Verdict) → t.is.prepared.verdict ≡ v → WritesBy v (sheet_of t.is.prepared.plate) zeros w room' → IsRefused what input q
       by (J.Refused p) f y =
           let g : W.Refused p ≡ W.Refused q = sym y.0 ∙ e in
           let k : p ≡ q = cc in
           record { prepared = t.is.prepared; opened = t.is.opened; refused = f ∙ ap J.Refused k }
       by J.Accepted f y =
-          let text = sheetOf t.is.prepared.plate in
-          short f (subst (WritesAs (lineRoom text zeros ∷ []) text zeros room') e y.reply).0
+          let text = sheet_of t.is.prepared.plate in
+          short f (subst (WritesAs (line_room text zeros ∷ []) text zeros room') e y.reply).0
 
   pub refused-said : {q : Refusal} {r : Ending} → w ≡ W.Refused q → RefusedEnding q r → Says what input r
   refused-said {q} {r} e z = record { is = by r z.is }

@@ -11,28 +11,28 @@ use Rattle.programs.specs.Input.{Whole}
 use Rattle.programs.specs.Printing.{AllLines}
 use Rattle.reports.specs.declared.Stage.{Stage}
 use Rattle.reports.specs.declared.Stage.TheVariants as S
-use Rattle.reports.specs.Report.{Reports, lineOfRefusal}
+use Rattle.reports.specs.Report.{Reports, line_of_refusal}
 use Rattle.sheets.specs.Sheet.{Contents, reading, says}
 
 -- 0 for a listing, 1 for a refused sheet, 2 where not all was taken
-abbrev pub statusOf : Ending → ℤ
-statusOf (Listed sent) = pos 0
-statusOf (Refused q sent) = pos 1
-statusOf Unwritten = pos 2
+abbrev pub status_of : Ending → ℤ
+status_of (Listed sent) = pos 0
+status_of (Refused q sent) = pos 1
+status_of Unwritten = pos 2
 
 -- the exit status of some ending
 pub record IsStatus (r : ℤ) : Type 0 where
   pub ending : Ending
-  pub is : r ≡ statusOf ending
+  pub is : r ≡ status_of ending
 
 -- where all of a report was taken, the stage at which it began tells how the run ends
-abbrev pub endingOf : Stage → Sent → Ending
-endingOf (S.Refused q) sent = Refused q sent
-endingOf S.PlateLine sent = Listed sent
-endingOf S.ProfileLine sent = Listed sent
-endingOf S.BlockLines sent = Listed sent
-endingOf S.EndLine sent = Listed sent
-endingOf S.Done sent = Listed sent
+abbrev pub ending_of : Stage → Sent → Ending
+ending_of (S.Refused q) sent = Refused q sent
+ending_of S.PlateLine sent = Listed sent
+ending_of S.ProfileLine sent = Listed sent
+ending_of S.BlockLines sent = Listed sent
+ending_of S.EndLine sent = Listed sent
+ending_of S.Done sent = Listed sent
 
 -- what printing says: all lines of what was read were taken, or not
 pub record PrintsAll (read : List ℕ) (r : Printed) : Type 0 where
@@ -49,7 +49,7 @@ pub record Accepts (whole : List ℕ) : Type 0 where
 -- the lines that were taken of what was read are all lines of the whole input's listing, or its one line where the sheet is refused
 abbrev pub EndsAs : List ℕ → List ℕ → Ending → Type 0
 EndsAs read whole (Listed sent) = AllLines read whole sent.lines × Accepts whole
-EndsAs read whole (Refused q sent) = AllLines read whole sent.lines × (sent.lines ≡ 1) × Reports whole (lineOfRefusal q ∷ [])
+EndsAs read whole (Refused q sent) = AllLines read whole sent.lines × (sent.lines ≡ 1) × Reports whole (line_of_refusal q ∷ [])
 EndsAs read whole Unwritten = Unit {0}
 
 -- so for every input of which this was read

@@ -15,22 +15,22 @@ use Rattle.programs.specs.declared.writer.Text.{Text}
 use Rattle.programs.specs.declared.writer.Text.TheVariants.{Dual, Sheet}
 
 -- whose plate a text is of
-abbrev pub whichOf : Text → Which
-whichOf Sheet = W.Own
-whichOf Dual = W.Dual
+abbrev pub which_of : Text → Which
+which_of Sheet = W.Own
+which_of Dual = W.Dual
 
 -- the text that an input is to print
 pub record IsText (what : Text) (input text : List ℕ) : Type 0 where
-  pub is : PrintsSheet (whichOf what) input text
+  pub is : PrintsSheet (which_of what) input text
 
 -- the promise of the call that writes it
 pub record WritesText (what : Text) (input room : List ℕ) (r : Written) (room' : List ℕ) : Type 0 where
-  pub is : WritesPlateSheet (whichOf what) input room r room'
+  pub is : WritesPlateSheet (which_of what) input room r room'
 
 -- the input or its matrix is refused
 pub record IsRefused (what : Text) (input : List ℕ) (q : Refusal) : Type 0 where
   pub prepared : Prepared
-  pub opened : Opened (whichOf what) input prepared
+  pub opened : Opened (which_of what) input prepared
   pub refused : prepared.verdict ≡ J.Refused q
 
 -- all of the text was taken at once; or the line of the input's refusal was; or not all was taken

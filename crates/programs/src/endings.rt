@@ -1,6 +1,6 @@
 // How a run ends: its exit status, and one line of words on standard error.
 ghost use Rattle.std.specs.Prelude.{◌≡◌, pos};
-ghost use Rattle.programs.specs.Ending.{statusOf};
+ghost use Rattle.programs.specs.Ending.{status_of};
 
 use crate::writer::Sent;
 use libc::STDERR_FILENO;
@@ -80,7 +80,7 @@ fn say_refusal(name: &[u8], refusal: Refusal) {
 
 // The exit status of a run, once its words are said.
 pub fn close(ending: Ending, name: &[u8], output: &[u8]) -> i32
-    ensures { result ≡ statusOf ending }
+    ensures { result ≡ status_of ending }
 {
     match ending {
         Ending::Listed(_) => 0,

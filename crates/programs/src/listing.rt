@@ -2,7 +2,7 @@
 ghost use Rattle.std.specs.Prelude.{◌≡◌, ◌+◌, take};
 ghost use Rattle.reports.specs.Steps.{Opens, lends};
 ghost use Rattle.reports.specs.Turns.{Enough};
-ghost use Rattle.programs.specs.Ending.{Ends, PrintsAll, endingOf};
+ghost use Rattle.programs.specs.Ending.{Ends, PrintsAll, ending_of};
 ghost use Rattle.programs.specs.Input.{StandsFor};
 ghost use Rattle.programs.specs.Printing.{Before, IsLine, Prints};
 
@@ -111,7 +111,7 @@ fn print_lines(
 
 // How a run ends whose report begins at this stage, and of which all lines were taken.
 fn ending_of(stage: Stage, sent: Sent) -> Ending
-    ensures { result ≡ endingOf stage sent }
+    ensures { result ≡ ending_of stage sent }
 {
     match stage {
         Stage::Refused(refusal) => Ending::Refused(refusal, sent),

@@ -1,7 +1,7 @@
 // The line of a refusal, to standard output.
 ghost use Rattle.listings.specs.Writing.{WritesLine};
 ghost use Rattle.programs.specs.Verbs.{RefusedEnding};
-ghost use Rattle.reports.specs.Report.{lineOfRefusal};
+ghost use Rattle.reports.specs.Report.{line_of_refusal};
 
 use crate::endings::Ending;
 use crate::writer;
@@ -10,7 +10,7 @@ use plates::Refusal;
 
 // Makes the line of a refusal.
 pub fn make_refused(refusal: Refusal, room: &mut [u8]) -> Written
-    ensures { WritesLine (lineOfRefusal refusal) room.old result room.new }
+    ensures { WritesLine (line_of_refusal refusal) room.old result room.new }
 {
     let number = plates::refusal_number(refusal);
     let place = plates::refusal_place(refusal) as u64;

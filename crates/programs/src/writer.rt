@@ -2,7 +2,7 @@
 ghost use Rattle.std.specs.Prelude.{take, ◌≡◌};
 ghost use Rattle.programs.specs.Printing.{Hands, IsLine};
 ghost use Rattle.programs.specs.Verbs.{IsText};
-ghost use Rattle.reports.specs.Report.{lineOfRefusal};
+ghost use Rattle.reports.specs.Report.{line_of_refusal};
 
 use libc::STDOUT_FILENO;
 use plates::Refusal;
@@ -79,7 +79,7 @@ pub fn hand_text(sent: Sent, what: Text, input: &[u8], room: &[u8], size: usize)
 
 // Hands over the line of a refusal.
 pub fn hand_refusal(sent: Sent, refusal: Refusal, room: &[u8], size: usize) -> Handed
-    requires { take size room.now ≡ lineOfRefusal refusal }
+    requires { take size room.now ≡ line_of_refusal refusal }
     ensures { Hands sent result }
 {
     hand(sent, room, size)

@@ -6,27 +6,27 @@ use Rattle.decoding.specs.declared.Decoded.TheVariants as D
 use Rattle.decoding.specs.Decode.{Decodes}
 use Rattle.listings.specs.declared.Tally.{Tally}
 use Rattle.sheets.specs.Room.{laid}
-use Rattle.sheets.specs.Turning.{inOrder}
+use Rattle.sheets.specs.Turning.{in_order}
 use Rattle.sheets.specs.declared.Order.{Order}
-use Rattle.sheets.specs.Blocks.{BlockFound, block, no_block, blockReply, placed, roomAfter}
+use Rattle.sheets.specs.Blocks.{BlockFound, block, no_block, block_reply, placed, room_after}
 use Rattle.sheets.specs.declared.BlockReply.TheVariants.{Read, NoBlock}
 use Rattle.reports.specs.declared.Report.{Report}
 use Rattle.reports.specs.declared.Step.{Step}
 use Rattle.reports.specs.declared.Stage.TheVariants as S
 use Rattle.reports.specs.declared.tally.Kept.{Kept}
-use Rattle.reports.specs.Tally.{foundShare, raisedBy, referenceOf, share, standing}
-use Rattle.reports.specs.Steps.{BlocksStep, Closes, DecodedStep, Lent, LineStep, RoomStep, afterLine, closed, decodable, enough, keptAfter, lends, refusedStep, short}
+use Rattle.reports.specs.Tally.{found_share, raised_by, reference_of, share, standing}
+use Rattle.reports.specs.Steps.{BlocksStep, Closes, DecodedStep, Lent, LineStep, RoomStep, after_line, closed, decodable, enough, kept_after, lends, refused_step, short}
 use Rattle.reports.proofs.LongBlocks.{laid-length, places-decoded, places-found}
 
 module _ {counter : ℕ} {samples : List ℤ} {before : Report} {next : ℕ} {step : Step} {metrics : List ℤ} {decisions room : List ℕ} where
   -- a line room that is too short
-  pub short-room : length room < 256 → step ≡ refusedStep LineRoom before
+  pub short-room : length room < 256 → step ≡ refused_step LineRoom before
       → RoomStep counter samples before next (lends metrics decisions room) step (lends metrics decisions room)
   short-room h e = short h (record { is = e; same = refl })
 
   -- a block decoded, and its line
   pub long-room : {metrics' : List ℤ} {decisions' room' : List ℕ} {after : Report} (decoded : Decoded) → 256 ≤ length room
-      → after ≡ afterLine next before counter samples decoded → Decodes before.plate samples metrics decisions metrics' decisions' decoded
+      → after ≡ after_line next before counter samples decoded → Decodes before.plate samples metrics decisions metrics' decisions' decoded
       → DecodedStep counter decoded before after room step room' → RoomStep counter samples before next (lends metrics decisions room) step (lends metrics' decisions' room')
   long-room {room' = room'} decoded h e d s = enough h (record {
     decoded = decoded;
@@ -42,7 +42,7 @@ module _ (zeros : List ℤ) (size : length zeros ≡ 64) (report : Report) (lent
   -- the samples that were decoded are the block's, so that the same is kept of them
   same_after : (next counter : ℕ) (vs : List ℤ) (d : Decoded) (metrics' : List ℤ) (decisions' : List ℕ)
       → Decodes report.plate (take (decodable (length vs)) (placed report.order vs zeros)) lent.metrics lent.decisions metrics' decisions' d
-      → afterLine next report counter (take (decodable (length vs)) (placed report.order vs zeros)) d ≡ afterLine next report counter (inOrder report.order vs) d
+      → after_line next report counter (take (decodable (length vs)) (placed report.order vs zeros)) d ≡ after_line next report counter (in_order report.order vs) d
   same_after next counter vs d metrics' decisions' x =
       ap (λ (kept : Kept). record { stage = S.BlockLines; plate = report.plate; order = report.order; at = next; heard = report.heard; blocks = report.blocks; kept = kept })
       (by report.heard d x)
@@ -50,24 +50,24 @@ module _ (zeros : List ℤ) (size : length zeros ≡ 64) (report : Report) (lent
       tally-same : (d : Decoded)
           → Decodes report.plate (take (decodable (length vs)) (placed report.order vs zeros)) lent.metrics lent.decisions metrics' decisions' d
           → share report.kept.reference counter (take (decodable (length vs)) (placed report.order vs zeros)) d
-          ≡ share report.kept.reference counter (inOrder report.order vs) d
+          ≡ share report.kept.reference counter (in_order report.order vs) d
       tally-same (D.Refused q) y = refl
       tally-same (D.Found a) y =
-          ap (λ (samples : List ℤ). foundShare (standing report.kept.reference counter) samples a)
+          ap (λ (samples : List ℤ). found_share (standing report.kept.reference counter) samples a)
           (places-found report.plate report.order vs zeros lent.metrics lent.decisions size metrics' decisions' a y)
 
       by : (heard : Bool) (d : Decoded)
           → Decodes report.plate (take (decodable (length vs)) (placed report.order vs zeros)) lent.metrics lent.decisions metrics' decisions' d
-          → keptAfter heard report.kept counter (take (decodable (length vs)) (placed report.order vs zeros)) d ≡ keptAfter heard report.kept counter (inOrder report.order vs) d
+          → kept_after heard report.kept counter (take (decodable (length vs)) (placed report.order vs zeros)) d ≡ kept_after heard report.kept counter (in_order report.order vs) d
       by false d y = refl
       by true d y =
-          ap (λ (t : Tally). record { reference = referenceOf report.kept.reference counter d; tally = raisedBy report.kept.tally t }) (tally-same d y)
+          ap (λ (t : Tally). record { reference = reference_of report.kept.reference counter d; tally = raised_by report.kept.tally t }) (tally-same d y)
 
 module _ (zeros : List ℤ) (size : length zeros ≡ 64) {report : Report} {lent left : Lent} {step : Step} where
-  samples-are : (counter next : ℕ) (vs : List ℤ) → RoomStep counter (take (decodable (length vs)) (placed report.order vs zeros)) report next lent step left
-      → RoomStep counter (inOrder report.order vs) report next lent step left
-  samples-are counter next vs (short h s) = short h s
-  samples-are counter next vs (enough h s) = enough h (record {
+  samples_are : (counter next : ℕ) (vs : List ℤ) → RoomStep counter (take (decodable (length vs)) (placed report.order vs zeros)) report next lent step left
+      → RoomStep counter (in_order report.order vs) report next lent step left
+  samples_are counter next vs (short h s) = short h s
+  samples_are counter next vs (enough h s) = enough h (record {
     decoded = s.decoded;
     decodes = places-decoded report.plate report.order vs zeros lent.metrics lent.decisions size left.metrics left.decisions s.decoded s.decodes;
     line = subst (λ (after : Report). DecodedStep counter s.decoded report after lent.room step left.room)
@@ -75,25 +75,25 @@ module _ (zeros : List ℤ) (size : length zeros ≡ 64) {report : Report} {lent
   })
 
   -- a block line was read
-  pub block-step : (found : BlockFound) (counter place count next : ℕ) (places : List ℤ) → Read count next ≡ blockReply place found → places ≡ roomAfter report.order zeros found
+  pub block-step : (found : BlockFound) (counter place count next : ℕ) (places : List ℤ) → Read count next ≡ block_reply place found → places ≡ room_after report.order zeros found
       → RoomStep counter (take (decodable count) places) report next lent step left → BlocksStep found counter place report lent step left
   block-step (block vs) counter place count next places e p s =
       let c : count ≡ length vs = cc in
       let n : next ≡ place = cc in
-      samples-are counter place vs (rw (c, n, p) at s)
+      samples_are counter place vs (rw (c, n, p) at s)
   block-step no_block counter place count next places e p s = no_read e
 
   -- none was
-  pub end_step : (found : BlockFound) (counter place : ℕ) → NoBlock ≡ blockReply place found
+  pub end_step : (found : BlockFound) (counter place : ℕ) → NoBlock ≡ block_reply place found
       → LineStep (Closes report.heard report lent.room) report (closed report.heard report) lent step left → BlocksStep found counter place report lent step left
   end_step (block vs) counter place e s = no_read (sym e)
   end_step no_block counter place e s = s
 
 -- the places keep their number
-pub places-size : (order : Order) (zeros : List ℤ) → length zeros ≡ 64 → (found : BlockFound) → length (roomAfter order zeros found) ≡ 64
+pub places-size : (order : Order) (zeros : List ℤ) → length zeros ≡ 64 → (found : BlockFound) → length (room_after order zeros found) ≡ 64
 places-size order zeros size (block vs) = by (ltb 64 (length vs))
   where
-    by : (t : Bool) → length (cond t zeros (laid (inOrder order vs) zeros)) ≡ 64
+    by : (t : Bool) → length (cond t zeros (laid (in_order order vs) zeros)) ≡ 64
     by true = size
-    by false = laid-length (inOrder order vs) zeros ∙ size
+    by false = laid-length (in_order order vs) zeros ∙ size
 places-size order zeros size no_block = size

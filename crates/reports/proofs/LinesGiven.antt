@@ -4,25 +4,25 @@ use lib.Seq.{take-append_seam}
 use Rattle.plates.proofs.Refusing.{never_both}
 use Rattle.plates.specs.declared.Plate.{Plate}
 use Rattle.plates.specs.declared.Refusal.{Refusal}
-use Rattle.plates.specs.Prepare.{IsPrepared, notPrepared}
+use Rattle.plates.specs.Prepare.{IsPrepared, not_prepared}
 use Rattle.plates.proofs.SoundIsPrepared.{sound}
 use Rattle.plates.specs.Refusals.{Passes, Refuses, field, number, place}
 use Rattle.decoding.proofs.PlateSizes.{decision-need-small, plate-sizes-fit}
 use Rattle.decoding.specs.declared.Answer.{Answer}
 use Rattle.decoding.specs.declared.Decoded.{Decoded}
 use Rattle.decoding.specs.declared.Decoded.TheVariants as D
-use Rattle.decoding.specs.Decode.{Decodes, decodeConditions, metricNeed}
+use Rattle.decoding.specs.Decode.{Decodes, decode_conditions, metric_need}
 use Rattle.listings.proofs.Fits256.{refused-fits-256, word-fits-256}
 use Rattle.listings.specs.declared.Written.{Written}
 use Rattle.listings.specs.declared.Written.TheVariants as W
-use Rattle.listings.specs.Writing.{Writes, WritesAs, lineRoom}
+use Rattle.listings.specs.Writing.{Writes, WritesAs, line_room}
 use Rattle.reports.specs.declared.Outcome.TheVariants as O
 use Rattle.reports.specs.declared.Report.{Report}
 use Rattle.reports.specs.declared.Step.{Step}
-use Rattle.reports.specs.Remaining.{BlockLeaves, rooms, untouched, workingOf, zeroed}
-use Rattle.reports.specs.Printed.{printedAs}
-use Rattle.reports.specs.Report.{BlockAnswer, blockConditions, lineOfAnswer, lineOfRefusal}
-use Rattle.reports.specs.Steps.{DecodedStep, FoundStep, Lent, RefusedStep, RoomStep, WritesStep, afterLine, enough, isSilent, ofBlock, short, stepBy}
+use Rattle.reports.specs.Remaining.{BlockLeaves, rooms, untouched, working_of, zeroed}
+use Rattle.reports.specs.Printed.{printed_as}
+use Rattle.reports.specs.Report.{BlockAnswer, block_conditions, line_of_answer, line_of_refusal}
+use Rattle.reports.specs.Steps.{DecodedStep, FoundStep, Lent, RefusedStep, RoomStep, WritesStep, after_line, enough, is_silent, of_block, short, step_by}
 use Rattle.reports.specs.Turns.{Enough}
 
 -- a line stands at the start of the room, with the bytes after it as they were, and this report comes after it
@@ -31,19 +31,19 @@ pub record Given (line : List ℕ) (after : Report) (step : Step) (room room' : 
   pub outcome : step.outcome ≡ O.Line (length line)
   pub next : step.next ≡ after
   pub bytes : line ≡ take (length line) room'
-  pub room-is : room' ≡ line ++ drop (length line) room
+  pub room_is : room' ≡ line ++ drop (length line) room
 
 -- ---- a line that is written
 
 module _ (cs : List (Refusal → Type 0)) (line room room' : List ℕ) (before after : Report) (step : Step) (l : length line ≤ 256) (pass : Passes cs) where
-  by_written : (w : Written) → WritesAs cs line room room' w → step ≡ stepBy w before after → Given line after step room room'
+  by_written : (w : Written) → WritesAs cs line room room' w → step ≡ step_by w before after → Given line after step room room'
   by_written (W.Refused q) x e = absurd (never_both cs pass q x.0)
   by_written (W.Bytes size) x e = record {
     short = l;
     outcome = ap (λ (s : Step). s.outcome) e ∙ ap O.Line x.1;
     next = ap (λ (s : Step). s.next) e;
     bytes = sym (ap (take (length line)) x.2 ∙ take-append_seam line (drop (length line) room));
-    room-is = x.2;
+    room_is = x.2;
   }
 
   -- no condition refuses it
@@ -51,71 +51,71 @@ module _ (cs : List (Refusal → Type 0)) (line room room' : List ℕ) (before a
   line-given x = by_written x.written x.writes.reply x.is
 
 -- a line of at most 256 bytes fits a room of so many
-pub fits : (line room : List ℕ) → length line ≤ 256 → 256 ≤ length room → Passes (lineRoom line room ∷ [])
+pub fits : (line room : List ℕ) → length line ≤ 256 → 256 ≤ length room → Passes (line_room line room ∷ [])
 fits line room l r = ((λ p x. omega (arith, x.0)), tt)
 
 -- also where it takes a prepared plate
-pub plate-fits : (plate : Plate) → IsPrepared plate → (line room : List ℕ) → length line ≤ 256 → 256 ≤ length room → Passes (notPrepared plate ∷ lineRoom line room ∷ [])
+pub plate-fits : (plate : Plate) → IsPrepared plate → (line room : List ℕ) → length line ≤ 256 → 256 ≤ length room → Passes (not_prepared plate ∷ line_room line room ∷ [])
 plate-fits plate prepared line room l r = ((λ p x. x.0 prepared), fits line room l r)
 
 -- ---- the line of a block
 
 -- the line that is given for a line of this counter: a repeat has no bytes
 abbrev pub line_here : Report → ℕ → Decoded → List ℕ
-line_here before counter (D.Found a) = cond (isSilent before counter) [] (lineOfAnswer before.order before.plate a)
-line_here before counter (D.Refused q) = lineOfRefusal q
+line_here before counter (D.Found a) = cond (is_silent before counter) [] (line_of_answer before.order before.plate a)
+line_here before counter (D.Refused q) = line_of_refusal q
 
 pub record BlockGiven (counter : ℕ) (samples : List ℤ) (before : Report) (next : ℕ) (step : Step) (lent left : Lent) : Type 0 where
   pub reply : Decoded
   pub answer : BlockAnswer before.plate samples reply
-  pub given : Given (line_here before counter reply) (afterLine next before counter samples reply) step lent.room left.room
-  pub leaves : BlockLeaves before.plate samples (workingOf lent) (workingOf left)
+  pub given : Given (line_here before counter reply) (after_line next before counter samples reply) step lent.room left.room
+  pub leaves : BlockLeaves before.plate samples (working_of lent) (working_of left)
 
 module _ (counter : ℕ) (samples : List ℤ) (before : Report) (next : ℕ) (step : Step) (lent left : Lent) (prepared : IsPrepared before.plate) (enough-room : Enough lent) where
   abbrev Gives : Type 0
   Gives = BlockGiven counter samples before next step lent left
 
   abbrev after : Decoded → Report
-  after d = afterLine next before counter samples d
+  after d = after_line next before counter samples d
 
-  metric-need-small : metricNeed before.plate ≤ 8192
-  metric-need-small = omega (arith, (plate-sizes-fit before.plate prepared).half-small)
+  metric-need-small : metric_need before.plate ≤ 8192
+  metric-need-small = omega (arith, (plate-sizes-fit before.plate prepared).half_small)
 
   -- a refusal that is printed
-  printed : (q : Refusal) → ofBlock q ≡ true → Refuses (blockConditions before.plate samples) q → workingOf left ≡ workingOf lent
-      → RefusedStep (ofBlock q) q before (after (D.Refused q)) lent.room step left.room → Gives
+  printed : (q : Refusal) → of_block q ≡ true → Refuses (block_conditions before.plate samples) q → working_of left ≡ working_of lent
+      → RefusedStep (of_block q) q before (after (D.Refused q)) lent.room step left.room → Gives
   printed q e r same x = record {
     reply = D.Refused q;
     answer = r;
-    given = line-given _ (lineOfRefusal q) lent.room left.room before (after (D.Refused q)) step (refused-fits-256 (number q) (place q) (field q))
-        (fits (lineOfRefusal q) lent.room (refused-fits-256 (number q) (place q) (field q)) enough-room.room)
+    given = line-given _ (line_of_refusal q) lent.room left.room before (after (D.Refused q)) step (refused-fits-256 (number q) (place q) (field q))
+        (fits (line_of_refusal q) lent.room (refused-fits-256 (number q) (place q) (field q)) enough-room.room)
         (subst (λ (b : Bool). RefusedStep b q before (after (D.Refused q)) lent.room step left.room) e x);
     leaves = untouched q r same;
   }
 
-  by-refusal : (q : Refusal) → workingOf left ≡ workingOf lent → Refuses (decodeConditions before.plate samples lent.metrics lent.decisions) q
-      → RefusedStep (ofBlock q) q before (after (D.Refused q)) lent.room step left.room → Gives
+  by-refusal : (q : Refusal) → working_of left ≡ working_of lent → Refuses (decode_conditions before.plate samples lent.metrics lent.decisions) q
+      → RefusedStep (of_block q) q before (after (D.Refused q)) lent.room step left.room → Gives
   by-refusal q same (inl n) x = absurd (n.0 prepared)
-  by-refusal q same (inr (n, inl c)) x = printed q (ap ofBlock c.1) (inl c) same x
-  by-refusal q same (inr (n, inr (c, inl o))) x = printed q (ap ofBlock o.is) (inr (c, inl o)) same x
+  by-refusal q same (inr (n, inl c)) x = printed q (ap of_block c.1) (inl c) same x
+  by-refusal q same (inr (n, inr (c, inl o))) x = printed q (ap of_block o.is) (inr (c, inl o)) same x
   by-refusal q same (inr (n, inr (c, inr (o, inl m)))) x = absurd (omega (arith, m.0, metric-need-small, enough-room.metrics))
   by-refusal q same (inr (n, inr (c, inr (o, inr (m, inl d))))) x = absurd (omega (arith, d.0, decision-need-small before.plate prepared, enough-room.decisions))
   by-refusal q same (inr (n, inr (c, inr (o, inr (m, inr z))))) x = absurd z.1
 
   -- an answer: its line, or none for a repeat
   by_answer : (a : Answer) (silent : Bool) → FoundStep silent a before (after (D.Found a)) lent.room step left.room
-      → Given (cond silent [] (lineOfAnswer before.order before.plate a)) (after (D.Found a)) step lent.room left.room
+      → Given (cond silent [] (line_of_answer before.order before.plate a)) (after (D.Found a)) step lent.room left.room
   by_answer a true x = record {
     short = omega arith;
     outcome = ap (λ (s : Step). s.outcome) x.0;
     next = ap (λ (s : Step). s.next) x.0;
     bytes = refl;
-    room-is = x.1;
+    room_is = x.1;
   }
   by_answer a false x =
-      let l = word-fits-256 before.plate.n (printedAs before.order before.plate.n a.word) a.metric a.counts.additions a.counts.comparisons (sound prepared).short in
-      line-given _ (lineOfAnswer before.order before.plate a) lent.room left.room before (after (D.Found a)) step l
-      (plate-fits before.plate prepared (lineOfAnswer before.order before.plate a) lent.room l enough-room.room) x
+      let l = word-fits-256 before.plate.n (printed_as before.order before.plate.n a.word) a.metric a.counts.additions a.counts.comparisons (sound prepared).short in
+      line-given _ (line_of_answer before.order before.plate a) lent.room left.room before (after (D.Found a)) step l
+      (plate-fits before.plate prepared (line_of_answer before.order before.plate a) lent.room l enough-room.room) x
 
   by-decoded : (d : Decoded) → Decodes before.plate samples lent.metrics lent.decisions left.metrics left.decisions d
       → DecodedStep counter d before (after d) lent.room step left.room → Gives
@@ -123,7 +123,7 @@ module _ (counter : ℕ) (samples : List ℤ) (before : Report) (next : ℕ) (st
   by-decoded (D.Found a) p x = record {
     reply = D.Found a;
     answer = ((p.0.1.0, (p.0.1.1.0, tt)), p.1);
-    given = by_answer a (isSilent before counter) x;
+    given = by_answer a (is_silent before counter) x;
     leaves = zeroed (p.0.1.0, (p.0.1.1.0, tt)) p.2;
   }
 

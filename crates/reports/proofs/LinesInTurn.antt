@@ -8,7 +8,7 @@ use Rattle.reports.specs.declared.Outcome.{Outcome}
 use Rattle.reports.specs.declared.Outcome.TheVariants as O
 use Rattle.reports.specs.declared.Report.{Report}
 use Rattle.reports.specs.declared.Step.{Step}
-use Rattle.reports.specs.Remaining.{Left, Ready, linesLeft}
+use Rattle.reports.specs.Remaining.{Left, Ready, lines_left}
 use Rattle.reports.specs.Report.{Reports}
 use Rattle.reports.specs.Steps.{Lent, Opens, Steps}
 use Rattle.reports.specs.Turns.{Enough, Turns}
@@ -29,7 +29,7 @@ same_size e = cc
 record Shown (input : List ℕ) (report : Report) (line : List ℕ) (after : Report) : Type 0 where
   ready : Ready input after
   before : (lines : List (List ℕ)) → Left input after lines → Left input report (line ∷ lines)
-  fewer : linesLeft input report ≡ suc (linesLeft input after)
+  fewer : lines_left input report ≡ suc (lines_left input after)
   comes : Comes input report line after
 
 module _ (input : List ℕ) where
@@ -47,7 +47,7 @@ module _ (input : List ℕ) where
   record Came (report : Report) (lines : List (List ℕ)) (last : Report) : Type 0 where
     ready : Ready input last
     whole : Left input last [] → Left input report lines
-    count : length lines + linesLeft input last ≡ linesLeft input report
+    count : length lines + lines_left input last ≡ lines_left input report
 
   -- the first of them
   first-shown : (report : Report) (line : List ℕ) (lines : List (List ℕ)) (last : Report) → Ready input report → (t : Turns input report (line ∷ lines) last)
@@ -124,7 +124,7 @@ module _ (input : List ℕ) (report : Report) (opens : Opens input report) (line
   pub rooms-enough : (q : Refusal) → step.outcome ≡ O.Refused q → ⊥
   rooms-enough q e = refused-never q next-turned e
 
-  at-end : Turned input last lent step left → step.outcome ≡ O.Nothing → (Left input last []) × (linesLeft input last ≡ 0)
+  at-end : Turned input last lent step left → step.outcome ≡ O.Nothing → (Left input last []) × (lines_left input last ≡ 0)
   at-end (nothing o l z) e = (l, z)
   at-end (gives line after g ready f z w c) e = no_line e g.outcome
 
@@ -133,11 +133,11 @@ module _ (input : List ℕ) (report : Report) (opens : Opens input report) (line
   lines-in-turn e = record { is = open-reports input (reading input) refl report lines opens.is (reached.whole (at-end next-turned e).0) }
 
   -- they are as many as were to come
-  pub lines-counted : step.outcome ≡ O.Nothing → length lines ≡ linesLeft input report
+  pub lines-counted : step.outcome ≡ O.Nothing → length lines ≡ lines_left input report
   lines-counted e = omega (arith, (at-end next-turned e).1, reached.count)
 
   -- and nothing is left after as many lines as were to come
-  pub lines_end : length lines ≡ linesLeft input report → step.outcome ≡ O.Nothing
+  pub lines_end : length lines ≡ lines_left input report → step.outcome ≡ O.Nothing
   lines_end h = by next-turned
     where
       by : Turned input last lent step left → step.outcome ≡ O.Nothing

@@ -10,9 +10,9 @@ use Rattle.plates.specs.declared.Verdict.TheVariants as J
 use Rattle.listings.specs.declared.Written.{Written}
 use Rattle.listings.specs.declared.Written.TheVariants as W
 use Rattle.sheets.specs.Sheet.{Contents, Reading, says, refused, reading}
-use Rattle.reports.specs.Listing.{LeavesAs, Listed, PreparedLeaves, WritesListing, listingConditions}
+use Rattle.reports.specs.Listing.{LeavesAs, Listed, PreparedLeaves, WritesListing, listing_conditions}
 use Rattle.reports.specs.Remaining.{BlockLeaves, BlocksLeave, Rooms, rooms, untouched, zeroed}
-use Rattle.reports.specs.Report.{blockConditions}
+use Rattle.reports.specs.Report.{block_conditions}
 use Rattle.reports.proofs.ReportDetermined.{listing-determined}
 
 -- ---- the working rooms
@@ -20,10 +20,10 @@ use Rattle.reports.proofs.ReportDetermined.{listing-determined}
 module _ (plate : Plate) where
   block-leaves-same : (samples : List ℤ) (before a b : Rooms) → BlockLeaves plate samples before a → BlockLeaves plate samples before b → a ≡ b
   block-leaves-same samples before a b (untouched q r x) (untouched p s y) = x ∙ sym y
-  block-leaves-same samples before a b (untouched q r x) (zeroed p y) = absurd (never_both (blockConditions plate samples) p q r)
-  block-leaves-same samples before a b (zeroed p x) (untouched q r y) = absurd (never_both (blockConditions plate samples) p q r)
+  block-leaves-same samples before a b (untouched q r x) (zeroed p y) = absurd (never_both (block_conditions plate samples) p q r)
+  block-leaves-same samples before a b (zeroed p x) (untouched q r y) = absurd (never_both (block_conditions plate samples) p q r)
   block-leaves-same samples before a b (zeroed p x) (zeroed q y) =
-      ap₂ rooms (x.metrics-zero ∙ sym y.metrics-zero) (x.decisions-zero ∙ sym y.decisions-zero)
+      ap₂ rooms (x.metrics_zero ∙ sym y.metrics_zero) (x.decisions_zero ∙ sym y.decisions_zero)
 
   blocks-leave-same : (blocks : List (List ℤ)) (before a b : Rooms) → BlocksLeave plate blocks before a → BlocksLeave plate blocks before b → a ≡ b
   blocks-leave-same [] before a b x y = x ∙ sym y
@@ -45,9 +45,9 @@ leaves-same (says c) before a b x y =
 
 module _ (input : List ℕ) (lent : Rooms) (listing : List ℕ) where
   abbrev conditions : List (Refusal → Type 0)
-  conditions = listingConditions input lent listing
+  conditions = listing_conditions input lent listing
 
-  single : Single (listingConditions input lent listing)
+  single : Single (listing_conditions input lent listing)
   single = ((λ p q x y. x.1 ∙ sym y.1), ((λ p q x y. x.1 ∙ sym y.1), ((λ p q x y. x.is ∙ sym y.is), tt)))
 
   listed_same : (s t : ℕ) (a b : Rooms) (c d : List ℕ) → Listed input lent listing a c s → Listed input lent listing b d t → (W.Bytes s ≡ W.Bytes t) × (a ≡ b) × (c ≡ d)
@@ -55,7 +55,7 @@ module _ (input : List ℕ) (lent : Rooms) (listing : List ℕ) where
       let e = listing-determined input x.bytes y.bytes x.lists y.lists in (
         ap W.Bytes (x.size_is ∙ ap length e ∙ sym y.size_is),
         leaves-same (reading input) lent a b x.working.is y.working.is,
-        x.listing-is ∙ ap (λ (m : List ℕ). m ++ drop (length m) listing) e ∙ sym y.listing-is,
+        x.listing_is ∙ ap (λ (m : List ℕ). m ++ drop (length m) listing) e ∙ sym y.listing_is,
       )
 
   pub write-listing-determined : (r s : Written) (a b : Rooms) (c d : List ℕ) → WritesListing input lent listing a c r → WritesListing input lent listing b d s

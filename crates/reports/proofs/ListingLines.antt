@@ -9,7 +9,7 @@ use Rattle.reports.specs.declared.Stage.{Stage}
 use Rattle.reports.specs.declared.Stage.TheVariants as S
 use Rattle.reports.specs.declared.Step.{Step}
 use Rattle.reports.specs.Listing.{BeforeLine, BeforeLines, LineAdded, LinesAdded}
-use Rattle.reports.specs.Remaining.{Leaves, LeavesAt, Left, LeftAt, Ready, Rooms, blocksAt, countAt, linesLeft}
+use Rattle.reports.specs.Remaining.{Leaves, LeavesAt, Left, LeftAt, Ready, Rooms, blocks_at, count_at, lines_left}
 use Rattle.reports.specs.Report.{joined}
 use Rattle.reports.specs.Steps.{Lent, Steps, lends}
 use Rattle.reports.specs.Turns.{Enough}
@@ -84,10 +84,10 @@ module _ (input : List ℕ) (p : Progress) (lent left : Rooms) (listing room' : 
         size = ap (λ (m : ℕ). p.size + m) (same_size (sym e ∙ g.outcome));
         bytes =
             ap (λ (m : List ℕ). take p.size listing ++ m)
-            (ap₂ ◌++◌ (g.room-is ∙ ap (λ (m : List ℕ). line ++ drop (length line) m) behind-whole) nothing-more ∙ append-nil (line ++ drop (length line) behind));
+            (ap₂ ◌++◌ (g.room_is ∙ ap (λ (m : List ℕ). line ++ drop (length line) m) behind-whole) nothing-more ∙ append-nil (line ++ drop (length line) behind));
         ready = subst (Ready input) (sym g.next) ready;
         next = λ lines l. f lines (subst (λ (r : Report). Left input r lines) g.next l);
-        fewer = z ∙ ap (λ (r : Report). suc (linesLeft input r)) (sym g.next);
+        fewer = z ∙ ap (λ (r : Report). suc (lines_left input r)) (sym g.next);
         working = λ v l. w v (subst (λ (r : Report). Leaves input r left v) g.next l);
       }
 
@@ -98,7 +98,7 @@ joined-more [] line = append-nil line
 joined-more (x ∷ written) line = ap (λ (m : List ℕ). x ++ m) (joined-more written line) ∙ sym (append_assoc x (joined written) line)
 
 -- where no line is left, no line comes, and the working rooms stay
-none_left : (input : List ℕ) (report : Report) (stage : Stage) (v : Rooms) → countAt stage report.heard (length (blocksAt input report)) ≡ 0
+none_left : (input : List ℕ) (report : Report) (stage : Stage) (v : Rooms) → count_at stage report.heard (length (blocks_at input report)) ≡ 0
     → LeftAt stage input report [] × LeavesAt stage input report v v
 none_left input report (S.Refused q) v e = absurd (omega (arith, e))
 none_left input report S.PlateLine v e = absurd (omega (arith, e))
@@ -111,10 +111,10 @@ none_left input report S.Done v e = (refl, refl)
 pub record Stands (input : List ℕ) (report : Report) (lent : Rooms) (listing : List ℕ) (i : ℕ) (lent' : Rooms) (listing' : List ℕ) (p : Progress) : Type 0 where
   pub written : List (List ℕ)
   pub size : p.size ≡ length (joined written)
-  pub listing-is : listing' ≡ joined written ++ drop (length (joined written)) listing
+  pub listing_is : listing' ≡ joined written ++ drop (length (joined written)) listing
   pub small : p.size ≤ 256 * i
   pub ready : Ready input p.report
-  pub count : i + linesLeft input p.report ≡ linesLeft input report
+  pub count : i + lines_left input p.report ≡ lines_left input report
   pub whole : (lines : List (List ℕ)) → Left input p.report lines → Left input report (written ++ lines)
   pub working : (v : Rooms) → Leaves input p.report lent' v → Leaves input report lent v
 
@@ -124,7 +124,7 @@ module _ (input : List ℕ) (report : Report) (lent : Rooms) (listing : List ℕ
   none_yet ready = record {
     written = [];
     size = refl;
-    listing-is = refl;
+    listing_is = refl;
     small = omega arith;
     ready = ready;
     count = omega arith;
@@ -149,7 +149,7 @@ module _ (input : List ℕ) (report : Report) (lent : Rooms) (listing : List ℕ
     one_more left listing'' p' a = record {
       written = s.written ++ (a.line ∷ []);
       size = a.size ∙ ap (λ (m : ℕ). m + length a.line) s.size ∙ sym (length-append (joined s.written) a.line) ∙ ap length (sym joined_is);
-      listing-is =
+      listing_is =
           a.bytes
           ∙ ap₂ ◌++◌ front (ap (λ (m : List ℕ). a.line ++ drop (length a.line) m) rest)
           ∙ sym (append_assoc (joined s.written) a.line (drop (length a.line) (drop (length (joined s.written)) listing)))
@@ -169,10 +169,10 @@ module _ (input : List ℕ) (report : Report) (lent : Rooms) (listing : List ℕ
         size_is = sym (length-append (joined s.written) a.line) ∙ ap length (sym joined_is)
 
         front : take p.size listing' ≡ joined s.written
-        front = ap (take p.size) s.listing-is ∙ take_at (joined s.written) (drop (length (joined s.written)) listing) p.size (sym s.size)
+        front = ap (take p.size) s.listing_is ∙ take_at (joined s.written) (drop (length (joined s.written)) listing) p.size (sym s.size)
 
         rest : drop p.size listing' ≡ drop (length (joined s.written)) listing
-        rest = ap (drop p.size) s.listing-is ∙ drop_at (joined s.written) (drop (length (joined s.written)) listing) p.size (sym s.size)
+        rest = ap (drop p.size) s.listing_is ∙ drop_at (joined s.written) (drop (length (joined s.written)) listing) p.size (sym s.size)
 
     -- after the last
     pub all-added : (before : BeforeLines input report lines lent listing) → i ≡ lines → LinesAdded input report lent listing lent' listing' p.size
@@ -182,6 +182,6 @@ module _ (input : List ℕ) (report : Report) (lent : Rooms) (listing : List ℕ
           lines = s.written;
           are = subst (λ (m : List (List ℕ)). Left input report m) (append-nil s.written) (s.whole [] none.0);
           size_is = s.size;
-          listing-is = s.listing-is;
+          listing_is = s.listing_is;
           working = s.working lent' none.1;
         }

@@ -6,7 +6,7 @@ use Rattle.listings.specs.declared.Written.TheVariants as W
 use Rattle.sheets.specs.Sheet.{reading}
 use Rattle.reports.specs.declared.Report.{Report}
 use Rattle.reports.specs.Listing.{BeforeLines, LinesAdded, ListingShort, WritesListing}
-use Rattle.reports.specs.Remaining.{Rooms, countAt, linesLeft}
+use Rattle.reports.specs.Remaining.{Rooms, count_at, lines_left}
 use Rattle.reports.specs.Steps.{Opens}
 use Rattle.reports.proofs.OpenedReports.{open-count, open-leaves, open-ready, open-reports, open-small}
 use Rattle.reports.proofs.StepDetermined.{open-determined}
@@ -24,9 +24,9 @@ module _ (input : List ℕ) (lent : Rooms) (listing : List ℕ) where
       pub few-blocks : report.blocks ≤ 32769
       few-blocks = open-small input (reading input) refl report opens.is
 
-      module _ (lines : ℕ) (count : lines ≡ countAt report.stage report.heard report.blocks) where
+      module _ (lines : ℕ) (count : lines ≡ count_at report.stage report.heard report.blocks) where
         -- so many lines are left
-        lines_are : linesLeft input report ≡ lines
+        lines_are : lines_left input report ≡ lines
         lines_are = open-count input (reading input) refl report opens.is ∙ sym count
 
         pub refused-11 : length listing / 256 < lines → WritesListing input lent listing lent listing (W.Refused LineRoom)
@@ -48,8 +48,8 @@ module _ (input : List ℕ) (lent : Rooms) (listing : List ℕ) where
 
           long-enough : (q : Refusal) → ListingShort input listing q → ⊥
           long-enough q b =
-              let e : linesLeft input b.report ≡ lines
-              = subst (λ (r : Report). linesLeft input r ≡ lines) (open-determined input report b.report opens b.opens) lines_are in
+              let e : lines_left input b.report ≡ lines
+              = subst (λ (r : Report). lines_left input r ≡ lines) (open-determined input report b.report opens b.opens) lines_are in
               omega (arith, b.short, e)
 
           pub listed : (left : Rooms) (listing' : List ℕ) (size : ℕ) → LinesAdded input report lent listing left listing' size
@@ -64,7 +64,7 @@ module _ (input : List ℕ) (lent : Rooms) (listing : List ℕ) where
                 bytes = refl;
               };
               size_is = a.size_is;
-              listing-is = a.listing-is;
+              listing_is = a.listing_is;
               working = record { is = open-leaves input (reading input) refl report lent left opens.is a.working };
             },
           )

@@ -8,7 +8,7 @@ use Rattle.listings.specs.declared.Tally.{Tally}
 use Rattle.reports.specs.declared.tally.Reference.{Reference}
 use Rattle.reports.specs.declared.tally.Standing.{Standing}
 use Rattle.reports.specs.declared.tally.Standing.TheVariants as S
-use Rattle.reports.specs.Tally.{Heard, foundShare, gained, lost, metricBy, metricShare, metricsFrom, referenceOf, share, standing, tallyFrom}
+use Rattle.reports.specs.Tally.{Heard, found_share, gained, lost, metric_by, metric_share, metrics_from, reference_of, share, standing, tally_from}
 
 -- one metric
 one-summed : (m : ℤ) → m +ℤ pos (lost m) ≡ pos (gained m)
@@ -18,11 +18,11 @@ one-summed (negsuc k) = +ℤ_invl (pos (suc k))
 
 -- one line
 share-summed : (reference : Reference) (counter : ℕ) (samples : List ℤ) (d : Decoded)
-    → metricShare reference counter d +ℤ pos (share reference counter samples d).below ≡ pos (share reference counter samples d).above
+    → metric_share reference counter d +ℤ pos (share reference counter samples d).below ≡ pos (share reference counter samples d).above
 share-summed reference counter samples (D.Refused q) = refl
 share-summed reference counter samples (D.Found a) = by (standing reference counter)
   where
-    by : (at : Standing) → metricBy at a.metric +ℤ pos (foundShare at samples a).below ≡ pos (foundShare at samples a).above
+    by : (at : Standing) → metric_by at a.metric +ℤ pos (found_share at samples a).below ≡ pos (found_share at samples a).above
     by S.First = one-summed a.metric
     by S.Repeat = refl
     by S.OutOfTurn = one-summed a.metric
@@ -34,19 +34,19 @@ exchange a b c d =
     +ℤ_assoc a b (c +ℤ d) ∙ ap (λ (x : ℤ). a +ℤ x) (sym (+ℤ_assoc b c d) ∙ ap (λ (x : ℤ). x +ℤ d) (+ℤ_comm b c) ∙ +ℤ_assoc c b d)
     ∙ sym (+ℤ_assoc a c (b +ℤ d))
 
-pub metrics-summed : (reference : Reference) (hs : List Heard) → metricsFrom reference hs +ℤ pos (tallyFrom reference hs).below ≡ pos (tallyFrom reference hs).above
+pub metrics-summed : (reference : Reference) (hs : List Heard) → metrics_from reference hs +ℤ pos (tally_from reference hs).below ≡ pos (tally_from reference hs).above
 metrics-summed reference [] = refl
 metrics-summed reference (h ∷ hs) =
-    ap (λ (x : ℤ). (m +ℤ metricsFrom next hs) +ℤ x) (sym (pos-+ℤ-pos s.below (tallyFrom next hs).below))
-    ∙ exchange m (metricsFrom next hs) (pos s.below) (pos (tallyFrom next hs).below)
+    ap (λ (x : ℤ). (m +ℤ metrics_from next hs) +ℤ x) (sym (pos-+ℤ-pos s.below (tally_from next hs).below))
+    ∙ exchange m (metrics_from next hs) (pos s.below) (pos (tally_from next hs).below)
     ∙ ap₂ ◌+ℤ◌ (share-summed reference h.counter h.samples h.reply) (metrics-summed next hs)
-    ∙ pos-+ℤ-pos s.above (tallyFrom next hs).above
+    ∙ pos-+ℤ-pos s.above (tally_from next hs).above
   where
     next : Reference
-    next = referenceOf reference h.counter h.reply
+    next = reference_of reference h.counter h.reply
 
     m : ℤ
-    m = metricShare reference h.counter h.reply
+    m = metric_share reference h.counter h.reply
 
     s : Tally
     s = share reference h.counter h.samples h.reply

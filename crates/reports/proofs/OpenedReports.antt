@@ -7,21 +7,21 @@ use Rattle.plates.specs.declared.Verdict.{Verdict}
 use Rattle.plates.specs.declared.Verdict.TheVariants as J
 use Rattle.plates.specs.Prepare.{Prepares}
 use Rattle.trellises.proofs.AcceptedIsPrepared.{accepted-prepared}
-use Rattle.sheets.proofs.Following.{blocks-counted, blocks-from-start, counters-from-start, countersFrom}
+use Rattle.sheets.proofs.Following.{blocks-counted, blocks-from-start, counters-from-start, counters_from}
 use Rattle.sheets.proofs.Ranges.{accepted, all_pass}
-use Rattle.sheets.specs.Blocks.{BlockFound, block, blockFront, blockThen, blocksOf, no_block}
+use Rattle.sheets.specs.Blocks.{BlockFound, block, block_front, block_then, blocks_of, no_block}
 use Rattle.sheets.specs.declared.Order.{Order}
 use Rattle.sheets.specs.Sheet.{Contents, Reading, says, refused, reading, start_of}
-use Rattle.sheets.specs.Text.{lines_from, onto, parts, lineFeed}
+use Rattle.sheets.specs.Text.{lines_from, onto, parts, line_feed}
 use Rattle.reports.specs.declared.Report.{Report}
 use Rattle.reports.specs.declared.Stage.{Stage}
 use Rattle.reports.specs.declared.Stage.TheVariants as S
 use Rattle.reports.specs.Listing.{LeavesAs, PreparedLeaves}
-use Rattle.reports.specs.Remaining.{BlocksLeave, HasRoom, Leaves, Left, LeftAt, Ready, Rooms, blocksAt, countAt, linesLeft}
-use Rattle.reports.specs.Report.{LinesReport, PlateReports, PreparedReports, ReportsAs, atFirst}
-use Rattle.reports.specs.Tally.{noTally}
+use Rattle.reports.specs.Remaining.{BlocksLeave, HasRoom, Leaves, Left, LeftAt, Ready, Rooms, blocks_at, count_at, lines_left}
+use Rattle.reports.specs.Report.{LinesReport, PlateReports, PreparedReports, ReportsAs, at_first}
+use Rattle.reports.specs.Tally.{no_tally}
 use Rattle.reports.proofs.TallyLaws.{room-at-first}
-use Rattle.reports.specs.Steps.{OpensAs, reportBy}
+use Rattle.reports.specs.Steps.{OpensAs, report_by}
 
 -- ---- how many blocks there may be
 
@@ -38,17 +38,17 @@ parts-count : (b : ℕ) (s : List ℕ) → length (parts b s) ≤ suc (length s)
 parts-count b [] = omega arith
 parts-count b (x ∷ s) = omega (arith, parts_more x (parts b s) (eqb x b), parts-count b s)
 
-from-count : (s : List ℕ) (at : ℕ) (t : Bool) → length (cond t (parts lineFeed (drop at s)) []) ≤ suc (length s)
-from-count s at true = omega (arith, parts-count lineFeed (drop at s), length-drop at s)
+from-count : (s : List ℕ) (at : ℕ) (t : Bool) → length (cond t (parts line_feed (drop at s)) []) ≤ suc (length s)
+from-count s at true = omega (arith, parts-count line_feed (drop at s), length-drop at s)
 from-count s at false = omega arith
 
-one_block : (found : BlockFound) (bs : List (List ℤ)) (m : ℕ) → length bs ≤ m → length (blockThen found bs) ≤ suc m
+one_block : (found : BlockFound) (bs : List (List ℤ)) (m : ℕ) → length bs ≤ m → length (block_then found bs) ≤ suc m
 one_block (block samples) bs m h = omega arith
 one_block no_block bs m h = omega arith
 
-blocks-few : (heard : Bool) (ls : List (List ℕ)) → length (blocksOf heard ls) ≤ length ls
+blocks-few : (heard : Bool) (ls : List (List ℕ)) → length (blocks_of heard ls) ≤ length ls
 blocks-few heard [] = omega arith
-blocks-few heard (l ∷ ls) = one_block (blockFront heard (l ∷ ls)) (blocksOf heard ls) (length ls) (blocks-few heard ls)
+blocks-few heard (l ∷ ls) = one_block (block_front heard (l ∷ ls)) (blocks_of heard ls) (length ls) (blocks-few heard ls)
 
 short-case : (k : ℕ) (t : Bool) → ltb 32768 k ≡ t → cond t (J.Refused InputTooLong) J.Accepted ≡ J.Accepted → k ≤ 32768
 short-case k true e f = let z : ◌≡◌ {A = ℕ} 0 1 = cc in absurd (omega arith)
@@ -66,7 +66,7 @@ sheet-small input c e =
       short-case (length input) (ltb 32768 (length input)) refl a.short,
     )
 
-verdict-small : (v : Verdict) (plate : Plate) (order : Order) (at : ℕ) (heard : Bool) (blocks : ℕ) → blocks ≤ 32769 → (reportBy v plate order at heard blocks).blocks ≤ 32769
+verdict-small : (v : Verdict) (plate : Plate) (order : Order) (at : ℕ) (heard : Bool) (blocks : ℕ) → blocks ≤ 32769 → (report_by v plate order at heard blocks).blocks ≤ 32769
 verdict-small (J.Refused q) plate order at heard blocks h = omega arith
 verdict-small J.Accepted plate order at heard blocks h = h
 
@@ -74,30 +74,30 @@ verdict-small J.Accepted plate order at heard blocks h = h
 
 module _ (input : List ℕ) (c : Contents) (e : reading input ≡ says c) (r : Prepared) (p : Prepares c.n c.kind c.rows c.mask r) where
   abbrev opened : Verdict → Report
-  opened v = reportBy v r.plate c.order (start_of input c) c.heard (length c.blocks)
+  opened v = report_by v r.plate c.order (start_of input c) c.heard (length c.blocks)
 
   sheet-ready : (v : Verdict) → r.verdict ≡ v → Ready input (opened v)
   sheet-ready (J.Refused q) a = tt
   sheet-ready J.Accepted a = (
     accepted-prepared c.n c.kind c.rows c.mask r p a,
-    subst (λ (b : List (List ℤ)). HasRoom noTally (length b)) (sym (blocks-from-start input c e)) (room-at-first (length c.blocks) (sheet-small input c e)),
+    subst (λ (b : List (List ℤ)). HasRoom no_tally (length b)) (sym (blocks-from-start input c e)) (room-at-first (length c.blocks) (sheet-small input c e)),
   )
 
   sheet-reports : (v : Verdict) (lines : List (List ℕ)) → Left input (opened v) lines → PreparedReports v r.plate c lines
   sheet-reports (J.Refused q) lines l = l
   sheet-reports J.Accepted lines l =
-      subst (λ (cs : List ℕ). PlateReports r.plate (LinesReport c.heard c.order r.plate (length c.blocks) atFirst cs c.blocks) lines) (counters-from-start input c e)
+      subst (λ (cs : List ℕ). PlateReports r.plate (LinesReport c.heard c.order r.plate (length c.blocks) at_first cs c.blocks) lines) (counters-from-start input c e)
       (subst (λ (b : List (List ℤ)). PlateReports r.plate
-      (LinesReport c.heard c.order r.plate (length c.blocks) atFirst (countersFrom c.heard input (start_of input c)) b) lines) (blocks-from-start input c e) l)
+      (LinesReport c.heard c.order r.plate (length c.blocks) at_first (counters_from c.heard input (start_of input c)) b) lines) (blocks-from-start input c e) l)
 
   sheet-leaves : (v : Verdict) (before after : Rooms) → Leaves input (opened v) before after → PreparedLeaves v r.plate c.blocks before after
   sheet-leaves (J.Refused q) before after l = l
   sheet-leaves J.Accepted before after l =
       subst (λ (b : List (List ℤ)). BlocksLeave r.plate b before after) (blocks-from-start input c e) l
 
-  sheet-count : (v : Verdict) → linesLeft input (opened v) ≡ countAt (opened v).stage (opened v).heard (opened v).blocks
+  sheet-count : (v : Verdict) → lines_left input (opened v) ≡ count_at (opened v).stage (opened v).heard (opened v).blocks
   sheet-count (J.Refused q) = refl
-  sheet-count J.Accepted = ap (λ (b : List (List ℤ)). countAt S.PlateLine c.heard (length b)) (blocks-from-start input c e)
+  sheet-count J.Accepted = ap (λ (b : List (List ℤ)). count_at S.PlateLine c.heard (length b)) (blocks-from-start input c e)
 
 -- ---- by the reading of the input
 
@@ -126,10 +126,10 @@ module _ (input : List ℕ) where
   }
 
   -- the report's own number of block lines gives the number of lines
-  pub open-count : (found : Reading) → reading input ≡ found → (report : Report) → OpensAs input found report → linesLeft input report ≡ countAt report.stage report.heard report.blocks
-  open-count (refused q) e report x = subst (λ (r : Report). linesLeft input r ≡ countAt r.stage r.heard r.blocks) (sym x) refl
+  pub open-count : (found : Reading) → reading input ≡ found → (report : Report) → OpensAs input found report → lines_left input report ≡ count_at report.stage report.heard report.blocks
+  open-count (refused q) e report x = subst (λ (r : Report). lines_left input r ≡ count_at r.stage r.heard r.blocks) (sym x) refl
   open-count (says c) e report x =
-      subst (λ (r : Report). linesLeft input r ≡ countAt r.stage r.heard r.blocks) (sym x.is) (sheet-count input c e x.prepared x.prepares x.prepared.verdict)
+      subst (λ (r : Report). lines_left input r ≡ count_at r.stage r.heard r.blocks) (sym x.is) (sheet-count input c e x.prepared x.prepares x.prepared.verdict)
 
   -- which is small
   pub open-small : (found : Reading) → reading input ≡ found → (report : Report) → OpensAs input found report → report.blocks ≤ 32769

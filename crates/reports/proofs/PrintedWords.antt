@@ -11,7 +11,7 @@ use Rattle.decoding.specs.declared.Decoded.{Decoded}
 use Rattle.decoding.specs.declared.Decoded.TheVariants as D
 use Rattle.decoding.specs.Decode.{Decodes}
 use Rattle.sheets.proofs.Characters.{word_room}
-use Rattle.sheets.specs.Rows.{bit_of, wordFrom}
+use Rattle.sheets.specs.Rows.{bit_of, word_from}
 use Rattle.reports.specs.Steps.{Printable}
 
 -- ---- one position more
@@ -37,7 +37,7 @@ digit-of (suc (suc b)) h = absurd (omega arith)
 -- so many positions turned
 pub record Reversing (word n i turned : ℕ) : Type 0 where
   pub few : i ≤ n
-  pub is : turned ≡ wordFrom (reverse (positions word 0 i))
+  pub is : turned ≡ word_from (reverse (positions word 0 i))
 
 module _ {word n i turned : ℕ} (r : Reversing word n i turned) (short : n ≤ 64) (more : i < n) (b : ℕ) (small : b < 2) where
   -- one position more fits a word

@@ -13,22 +13,22 @@ use Rattle.trellises.proofs.AcceptedIsPrepared.{accepted-prepared}
 use Rattle.decoding.proofs.DecodeDetermined.{decode-determined}
 use Rattle.decoding.specs.declared.Decoded.{Decoded}
 use Rattle.decoding.specs.declared.Decoded.TheVariants.{Found, Refused}
-use Rattle.decoding.specs.Decode.{Decodes, decisionNeed, decodeConditions, metricNeed}
+use Rattle.decoding.specs.Decode.{Decodes, decision_need, decode_conditions, metric_need}
 use Rattle.sheets.specs.declared.Order.{Order}
 use Rattle.sheets.specs.Sheet.{Contents, Reading, says, refused, reading}
 use Rattle.reports.specs.declared.tally.Kept.{Kept}
-use Rattle.reports.specs.Tally.{heardsOf, plus, tallyFrom}
-use Rattle.reports.specs.Report.{BlockAnswer, BlockAnswers, BlockLine, BlocksReport, LinesReport, Lists, PlateReports, PreparedReports, ProfileReports, Reports, ReportsAs, atFirst, blockConditions, closing, heardLines, joined, line_of, refusedBlock, wordOfBlock}
+use Rattle.reports.specs.Tally.{heards_of, plus, tally_from}
+use Rattle.reports.specs.Report.{BlockAnswer, BlockAnswers, BlockLine, BlocksReport, LinesReport, Lists, PlateReports, PreparedReports, ProfileReports, Reports, ReportsAs, at_first, block_conditions, closing, heard_lines, joined, line_of, refused_block, word_of_block}
 
 -- ---- the line of a block
 
 module _ (order : Order) (plate : Plate) (prepared : IsPrepared plate) (samples : List ℤ) where
   -- working rooms that are just long enough
   abbrev metrics : List ℤ
-  metrics = replicate (metricNeed plate) (pos 0)
+  metrics = replicate (metric_need plate) (pos 0)
 
   abbrev decisions : List ℕ
-  decisions = replicate (decisionNeed plate) 0
+  decisions = replicate (decision_need plate) 0
 
   -- a block's line is what decoding in these rooms gives
   record InRooms (line : List ℕ) : Type 0 where
@@ -38,17 +38,17 @@ module _ (order : Order) (plate : Plate) (prepared : IsPrepared plate) (samples 
     decodes : Decodes plate samples metrics decisions metrics' decisions' decoded
     is : line ≡ line_of order plate decoded
 
-  refuses : (q : Refusal) → Refuses (blockConditions plate samples) q → Refuses (decodeConditions plate samples metrics decisions) q
+  refuses : (q : Refusal) → Refuses (block_conditions plate samples) q → Refuses (decode_conditions plate samples metrics decisions) q
   refuses q (inl x) = inr ((λ p n. n.0 prepared), inl x)
   refuses q (inr (n, inl x)) = inr ((λ p m. m.0 prepared), inr (n, inl x))
   refuses q (inr (n, inr x)) = absurd x.1
 
   in-rooms : (line : List ℕ) → BlockLine order plate samples line → InRooms line
-  in-rooms line (refusedBlock q r e) = record { decoded = Refused q; metrics' = metrics; decisions' = decisions; decodes = (refuses q r, refl, refl); is = e }
-  in-rooms line (wordOfBlock a p b e) = record {
+  in-rooms line (refused_block q r e) = record { decoded = Refused q; metrics' = metrics; decisions' = decisions; decodes = (refuses q r, refl, refl); is = e }
+  in-rooms line (word_of_block a p b e) = record {
     decoded = Found a;
-    metrics' = replicate (metricNeed plate) (pos 0) ++ drop (metricNeed plate) metrics;
-    decisions' = replicate (decisionNeed plate) 0 ++ drop (decisionNeed plate) decisions;
+    metrics' = replicate (metric_need plate) (pos 0) ++ drop (metric_need plate) metrics;
+    decisions' = replicate (decision_need plate) 0 ++ drop (decision_need plate) decisions;
     decodes = (
       (
         (λ q n. n.0 prepared),
@@ -57,14 +57,14 @@ module _ (order : Order) (plate : Plate) (prepared : IsPrepared plate) (samples 
           (
             p.1.0,
             (
-              (λ q n. omega (arith, n.0, length-replicate {A = ℤ} (metricNeed plate) (pos 0))),
-              ((λ q n. omega (arith, n.0, length-replicate {A = ℕ} (decisionNeed plate) 0)), tt),
+              (λ q n. omega (arith, n.0, length-replicate {A = ℤ} (metric_need plate) (pos 0))),
+              ((λ q n. omega (arith, n.0, length-replicate {A = ℕ} (decision_need plate) 0)), tt),
             ),
           ),
         ),
       ),
       b,
-      record { metrics-zero = refl; decisions-zero = refl },
+      record { metrics_zero = refl; decisions_zero = refl },
     );
     is = e;
   }
@@ -73,7 +73,7 @@ module _ (order : Order) (plate : Plate) (prepared : IsPrepared plate) (samples 
   unfolding in-rooms
   decodes-as (Refused q) x = (metrics, decisions, (refuses q x, refl, refl))
   decodes-as (Found a) x =
-      let r = in-rooms (line_of order plate (Found a)) (wordOfBlock a x.0 x.1 refl) in
+      let r = in-rooms (line_of order plate (Found a)) (word_of_block a x.0 x.1 refl) in
       (r.metrics', r.decisions', r.decodes)
 
   -- a block has one answer
@@ -119,8 +119,8 @@ module _ (order : Order) (plate : Plate) (prepared : IsPrepared plate) (count : 
   lines-determined false kept counters blocks a b x y = blocks-determined blocks a b x y
   lines-determined true kept counters blocks a b x y =
       x.are
-      ∙ ap (λ (replies : List Decoded). heardLines order plate kept.reference (heardsOf counters blocks replies)
-      (closing (plus kept.tally (tallyFrom kept.reference (heardsOf counters blocks replies))) count)) (replies-determined blocks x.replies y.replies x.answered y.answered)
+      ∙ ap (λ (replies : List Decoded). heard_lines order plate kept.reference (heards_of counters blocks replies)
+      (closing (plus kept.tally (tally_from kept.reference (heards_of counters blocks replies))) count)) (replies-determined blocks x.replies y.replies x.answered y.answered)
       ∙ sym y.are
 
 -- the plate line and the profile line come before lines that are determined
@@ -142,7 +142,7 @@ module _ (sheet : Contents) (r : Prepared) (p : Prepares sheet.n sheet.kind shee
   prepared-determined (J.Refused q) e a b x y = x ∙ sym y
   prepared-determined J.Accepted e a b x y =
       plate-determined r.plate _
-      (lines-determined sheet.order r.plate (accepted-prepared sheet.n sheet.kind sheet.rows sheet.mask r p e) (length sheet.blocks) sheet.heard atFirst sheet.counters sheet.blocks)
+      (lines-determined sheet.order r.plate (accepted-prepared sheet.n sheet.kind sheet.rows sheet.mask r p e) (length sheet.blocks) sheet.heard at_first sheet.counters sheet.blocks)
       a b x y
 
 by-reading : (found : Reading) (a b : List (List ℕ)) → ReportsAs found a → ReportsAs found b → a ≡ b

@@ -16,7 +16,7 @@ use Rattle.reports.specs.declared.tally.Standing.{Standing}
 use Rattle.reports.specs.declared.tally.Standing.TheVariants as S
 use Rattle.reports.specs.Remaining.{HasRoom}
 use Rattle.reports.specs.Report.{BlockAnswer}
-use Rattle.reports.specs.Tally.{Heard, advance, foundShare, gained, is_zero, lost, noTally, opposes, opposing, plus, raised, raisedBy, referenceOf, share, standing, standingBy, tallyFrom, zeros}
+use Rattle.reports.specs.Tally.{Heard, advance, found_share, gained, is_zero, lost, no_tally, opposes, opposing, plus, raised, raised_by, reference_of, share, standing, standing_by, tally_from, zeros}
 
 -- ---- equal number by number
 
@@ -40,11 +40,11 @@ same-tally s t h0 h1 h2 h3 h4 h5 h6 h7 h8 =
 pub plus_assoc : (s t u : Tally) → plus (plus s t) u ≡ plus s (plus t u)
 plus_assoc s t u = same-tally (plus (plus s t) u) (plus s (plus t u)) (omega arith) (omega arith) (omega arith) (omega arith) (omega arith) (omega arith) (omega arith) (omega arith) (omega arith)
 
-pub none-plus : (s : Tally) → plus noTally s ≡ s
-none-plus s = same-tally (plus noTally s) s (omega arith) (omega arith) (omega arith) (omega arith) (omega arith) (omega arith) (omega arith) (omega arith) (omega arith)
+pub none-plus : (s : Tally) → plus no_tally s ≡ s
+none-plus s = same-tally (plus no_tally s) s (omega arith) (omega arith) (omega arith) (omega arith) (omega arith) (omega arith) (omega arith) (omega arith) (omega arith)
 
-pub plus_none : (s : Tally) → plus s noTally ≡ s
-plus_none s = same-tally (plus s noTally) s (omega arith) (omega arith) (omega arith) (omega arith) (omega arith) (omega arith) (omega arith) (omega arith) (omega arith)
+pub plus_none : (s : Tally) → plus s no_tally ≡ s
+plus_none s = same-tally (plus s no_tally) s (omega arith) (omega arith) (omega arith) (omega arith) (omega arith) (omega arith) (omega arith) (omega arith) (omega arith)
 
 -- ---- decoded, refused and repeated lines together are the heard lines
 
@@ -53,16 +53,16 @@ one_each : (reference : Reference) (counter : ℕ) (samples : List ℤ) (d : Dec
 one_each reference counter samples (D.Refused q) = refl
 one_each reference counter samples (D.Found a) = by (standing reference counter)
   where
-    by : (at : Standing) → (foundShare at samples a).decoded + (foundShare at samples a).refused + (foundShare at samples a).repeated ≡ 1
+    by : (at : Standing) → (found_share at samples a).decoded + (found_share at samples a).refused + (found_share at samples a).repeated ≡ 1
     by S.First = refl
     by S.Repeat = refl
     by S.OutOfTurn = refl
     by (S.Onward missing) = refl
 
-pub together : (reference : Reference) (hs : List Heard) → (tallyFrom reference hs).decoded + (tallyFrom reference hs).refused + (tallyFrom reference hs).repeated ≡ length hs
+pub together : (reference : Reference) (hs : List Heard) → (tally_from reference hs).decoded + (tally_from reference hs).refused + (tally_from reference hs).repeated ≡ length hs
 together reference [] = refl
 together reference (h ∷ hs) =
-    omega (arith, one_each reference h.counter h.samples h.reply, together (referenceOf reference h.counter h.reply) hs)
+    omega (arith, one_each reference h.counter h.samples h.reply, together (reference_of reference h.counter h.reply) hs)
 
 -- ---- what one line may add
 
@@ -110,7 +110,7 @@ MissingSmall S.Repeat = Unit {0}
 MissingSmall S.OutOfTurn = Unit {0}
 MissingSmall (S.Onward missing) = missing ≤ 32766
 
-standing-small : (step : ℕ) → MissingSmall (standingBy step)
+standing-small : (step : ℕ) → MissingSmall (standing_by step)
 standing-small step = by (eqb step 0) (ltb 32767 step) refl
   where
     by : (t u : Bool) → ltb 32767 step ≡ u → MissingSmall (cond t S.Repeat (cond u S.OutOfTurn (S.Onward (step - 1))))
@@ -123,7 +123,7 @@ missing-small R.Unset counter = tt
 missing-small (R.Counter before) counter = standing-small (advance counter before)
 
 module _ (plate : Plate) (few : plate.n ≤ 64) (reference : Reference) (counter : ℕ) (samples : List ℤ) where
-  found-small : (a : Answer) → length samples ≤ 64 → nat_abs a.metric ≤ 131008 → (at : Standing) → MissingSmall at → Small (foundShare at samples a)
+  found-small : (a : Answer) → length samples ≤ 64 → nat_abs a.metric ≤ 131008 → (at : Standing) → MissingSmall at → Small (found_share at samples a)
   found-small a l m S.First k = record { decoded = omega arith; refused = omega arith; repeated = omega arith; late = omega arith; missing = omega arith; opposing = omega (arith, opposing-small a.word 0 samples); zeros = omega (arith, zeros-small samples); above = gained-small a.metric 131008 m; below = lost-small a.metric 131008 m }
   found-small a l m S.Repeat k = record { decoded = omega arith; refused = omega arith; repeated = omega arith; late = omega arith; missing = omega arith; opposing = omega arith; zeros = omega arith; above = omega arith; below = omega arith }
   found-small a l m S.OutOfTurn k = record { decoded = omega arith; refused = omega arith; repeated = omega arith; late = omega arith; missing = omega arith; opposing = omega (arith, opposing-small a.word 0 samples); zeros = omega (arith, zeros-small samples); above = gained-small a.metric 131008 m; below = lost-small a.metric 131008 m }
@@ -148,8 +148,8 @@ fewer x k h = omega arith
 more_room : (x y k : ℕ) → x + 131008 * suc k ≤ 2 ^ 62 → y ≤ 131008 → x + y + 131008 * k ≤ 2 ^ 62
 more_room x y k h l = omega arith
 
-pub raised-plus : (s t : Tally) (k : ℕ) → HasRoom s (suc k) → Small t → raisedBy s t ≡ plus s t
-raised-plus s t k r m = same-tally (raisedBy s t) (plus s t) (raised_is s.decoded t.decoded k r.decoded m.decoded) (raised_is s.refused t.refused k r.refused m.refused) (raised_is s.repeated t.repeated k r.repeated m.repeated) (raised_is s.late t.late k r.late m.late) (raised_is s.missing t.missing k r.missing m.missing) (raised_is s.opposing t.opposing k r.opposing m.opposing) (raised_is s.zeros t.zeros k r.zeros m.zeros) (raised_is s.above t.above k r.above m.above) (raised_is s.below t.below k r.below m.below)
+pub raised-plus : (s t : Tally) (k : ℕ) → HasRoom s (suc k) → Small t → raised_by s t ≡ plus s t
+raised-plus s t k r m = same-tally (raised_by s t) (plus s t) (raised_is s.decoded t.decoded k r.decoded m.decoded) (raised_is s.refused t.refused k r.refused m.refused) (raised_is s.repeated t.repeated k r.repeated m.repeated) (raised_is s.late t.late k r.late m.late) (raised_is s.missing t.missing k r.missing m.missing) (raised_is s.opposing t.opposing k r.opposing m.opposing) (raised_is s.zeros t.zeros k r.zeros m.zeros) (raised_is s.above t.above k r.above m.above) (raised_is s.below t.below k r.below m.below)
 
 pub room-left : (s t : Tally) (k : ℕ) → HasRoom s (suc k) → Small t → HasRoom (plus s t) k
 room-left s t k r m = record {
@@ -167,5 +167,5 @@ room-left s t k r m = record {
 pub room-stays : (s : Tally) (k : ℕ) → HasRoom s (suc k) → HasRoom s k
 room-stays s k r = record { decoded = fewer s.decoded k r.decoded; refused = fewer s.refused k r.refused; repeated = fewer s.repeated k r.repeated; late = fewer s.late k r.late; missing = fewer s.missing k r.missing; opposing = fewer s.opposing k r.opposing; zeros = fewer s.zeros k r.zeros; above = fewer s.above k r.above; below = fewer s.below k r.below }
 
-pub room-at-first : (k : ℕ) → k ≤ 32769 → HasRoom noTally k
+pub room-at-first : (k : ℕ) → k ≤ 32769 → HasRoom no_tally k
 room-at-first k h = record { decoded = omega arith; refused = omega arith; repeated = omega arith; late = omega arith; missing = omega arith; opposing = omega arith; zeros = omega arith; above = omega arith; below = omega arith }

@@ -4,7 +4,7 @@ use Rattle.plates.specs.declared.Refusal.TheVariants.{SampleCount}
 use Rattle.decoding.specs.declared.Decoded.{Decoded}
 use Rattle.decoding.specs.declared.Decoded.TheVariants as D
 use Rattle.listings.specs.declared.Tally.{Tally}
-use Rattle.reports.specs.Tally.{Heard, heardsOf, tally_of}
+use Rattle.reports.specs.Tally.{Heard, heards_of, tally_of}
 
 abbrev found : ℕ → ℕ → Decoded
 found word size = D.Found (record { word = word; metric = pos size; counts = record { additions = 2; comparisons = 1 } })
@@ -13,7 +13,7 @@ found word size = D.Found (record { word = word; metric = pos size; counts = rec
 -- leaves 1 and 2 missing, the last is refused
 abbrev heard : List Heard
 heard =
-    heardsOf (65535 ∷ 0 ∷ 0 ∷ 40000 ∷ 3 ∷ 3 ∷ [])
+    heards_of (65535 ∷ 0 ∷ 0 ∷ 40000 ∷ 3 ∷ 3 ∷ [])
     ((pos 5 ∷ []) ∷ (negsuc 4 ∷ []) ∷ (pos 7 ∷ []) ∷ (pos 0 ∷ []) ∷ (pos 1 ∷ []) ∷ [] ∷ [])
     (found 0 5 ∷ found 0 3 ∷ found 0 7 ∷ found 0 0 ∷ found 0 1 ∷ D.Refused SampleCount ∷ [])
 

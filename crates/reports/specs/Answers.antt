@@ -5,11 +5,11 @@ use Rattle.plates.specs.declared.Prepared.{Prepared}
 use Rattle.plates.specs.declared.Verdict.TheVariants as J
 use Rattle.plates.specs.Prepare.{Prepares}
 use Rattle.decoding.specs.declared.Decoded.{Decoded}
-use Rattle.listings.specs.Lines.{endLine}
+use Rattle.listings.specs.Lines.{line_of_end}
 use Rattle.sheets.specs.declared.Order.{Order}
 use Rattle.sheets.specs.Sheet.{Contents, says, reading}
-use Rattle.reports.specs.Report.{BlockAnswers, closing, heardLines, line_of, lineOfPlate, lineOfProfile}
-use Rattle.reports.specs.Tally.{heardsOf, tally_of}
+use Rattle.reports.specs.Report.{BlockAnswers, closing, heard_lines, line_of, line_of_plate, line_of_profile}
+use Rattle.reports.specs.Tally.{heards_of, tally_of}
 use Rattle.reports.specs.declared.tally.Reference.TheVariants.{Unset}
 
 -- the input is a sheet that is not refused, this is what preparing replies for its matrix, and these are the answers for its blocks
@@ -23,20 +23,20 @@ pub record Answers (input : List ℕ) (prepared : Prepared) (answers : List Deco
 -- ---- as they are listed
 
 -- the lines of the answers, and the end line
-abbrev pub answerLines : Order → Plate → ℕ → List Decoded → List (List ℕ)
-answerLines order plate count [] = endLine count ∷ []
-answerLines order plate count (answer ∷ answers) = line_of order plate answer ∷ answerLines order plate count answers
+abbrev pub answer_lines : Order → Plate → ℕ → List Decoded → List (List ℕ)
+answer_lines order plate count [] = line_of_end count ∷ []
+answer_lines order plate count (answer ∷ answers) = line_of order plate answer ∷ answer_lines order plate count answers
 
 -- those of a sheet of heard lines, with its tally
-abbrev pub heardAnswerLines : Order → Plate → List ℕ → List (List ℤ) → List Decoded → List (List ℕ)
-heardAnswerLines order plate counters blocks answers =
-    let heards = heardsOf counters blocks answers in
-    heardLines order plate Unset heards (closing (tally_of heards) (length answers))
+abbrev pub heard_answer_lines : Order → Plate → List ℕ → List (List ℤ) → List Decoded → List (List ℕ)
+heard_answer_lines order plate counters blocks answers =
+    let heards = heards_of counters blocks answers in
+    heard_lines order plate Unset heards (closing (tally_of heards) (length answers))
 
-abbrev pub linesOfAnswers : Bool → Order → Plate → List ℕ → List (List ℤ) → List Decoded → List (List ℕ)
-linesOfAnswers false order plate counters blocks answers = answerLines order plate (length answers) answers
-linesOfAnswers true order plate counters blocks answers = heardAnswerLines order plate counters blocks answers
+abbrev pub lines_of_answers : Bool → Order → Plate → List ℕ → List (List ℤ) → List Decoded → List (List ℕ)
+lines_of_answers false order plate counters blocks answers = answer_lines order plate (length answers) answers
+lines_of_answers true order plate counters blocks answers = heard_answer_lines order plate counters blocks answers
 
 -- the listing that says them, in an order
-abbrev pub listingLines : Order → Plate → Contents → List Decoded → List (List ℕ)
-listingLines order plate sheet answers = lineOfPlate plate ∷ lineOfProfile plate ∷ linesOfAnswers sheet.heard order plate sheet.counters sheet.blocks answers
+abbrev pub listing_lines : Order → Plate → Contents → List Decoded → List (List ℕ)
+listing_lines order plate sheet answers = line_of_plate plate ∷ line_of_profile plate ∷ lines_of_answers sheet.heard order plate sheet.counters sheet.blocks answers

@@ -13,7 +13,7 @@ use Rattle.listings.specs.declared.Written.TheVariants as W
 use Rattle.sheets.specs.Sheet.{Contents, Reading, says, refused, reading}
 use Rattle.reports.specs.declared.listing.Progress.{Progress}
 use Rattle.reports.specs.declared.Report.{Report}
-use Rattle.reports.specs.Remaining.{BlocksLeave, Leaves, Left, Ready, Rooms, linesLeft}
+use Rattle.reports.specs.Remaining.{BlocksLeave, Leaves, Left, Ready, Rooms, lines_left}
 use Rattle.reports.specs.Report.{Lists, joined}
 use Rattle.reports.specs.Steps.{Opens}
 
@@ -41,22 +41,22 @@ pub record ListingLeaves (input : List ℕ) (before after : Rooms) : Type 0 wher
 -- ---- refusals 8, 9 and 11
 
 -- 8: fewer metrics than the widest plate needs
-abbrev pub metricsShort : Rooms → Refusal → Type 0
-metricsShort lent q = (length lent.metrics < 8192) × (q ≡ MetricRoom)
+abbrev pub metrics_short : Rooms → Refusal → Type 0
+metrics_short lent q = (length lent.metrics < 8192) × (q ≡ MetricRoom)
 
 -- 9: fewer decision words than such a plate needs
-abbrev pub decisionsShort : Rooms → Refusal → Type 0
-decisionsShort lent q = (length lent.decisions < 4096) × (q ≡ DecisionRoom)
+abbrev pub decisions_short : Rooms → Refusal → Type 0
+decisions_short lent q = (length lent.decisions < 4096) × (q ≡ DecisionRoom)
 
 -- 11: the room has not 256 bytes for each line that the input's report gives
 pub record ListingShort (input listing : List ℕ) (q : Refusal) : Type 0 where
   pub report : Report
   pub opens : Opens input report
-  pub short : length listing < 256 * linesLeft input report
+  pub short : length listing < 256 * lines_left input report
   pub is : q ≡ LineRoom
 
-abbrev pub listingConditions : List ℕ → Rooms → List ℕ → List (Refusal → Type 0)
-listingConditions input lent listing = metricsShort lent ∷ decisionsShort lent ∷ ListingShort input listing ∷ []
+abbrev pub listing_conditions : List ℕ → Rooms → List ℕ → List (Refusal → Type 0)
+listing_conditions input lent listing = metrics_short lent ∷ decisions_short lent ∷ ListingShort input listing ∷ []
 
 -- ---- the reply
 
@@ -65,20 +65,20 @@ pub record Listed (input : List ℕ) (lent : Rooms) (listing : List ℕ) (left :
   pub bytes : List ℕ
   pub lists : Lists input bytes
   pub size_is : size ≡ length bytes
-  pub listing-is : listing' ≡ bytes ++ drop (length bytes) listing
+  pub listing_is : listing' ≡ bytes ++ drop (length bytes) listing
   pub working : ListingLeaves input lent left
 
 -- What writing a listing replies: the first refusal in order with everything lent unchanged, or the size of the listing in its room
 abbrev pub WritesListing : List ℕ → Rooms → List ℕ → Rooms → List ℕ → Written → Type 0
-WritesListing input lent listing left listing' (W.Refused q) = Refuses (listingConditions input lent listing) q × (left ≡ lent) × (listing' ≡ listing)
-WritesListing input lent listing left listing' (W.Bytes size) = Passes (listingConditions input lent listing) × Listed input lent listing left listing' size
+WritesListing input lent listing left listing' (W.Refused q) = Refuses (listing_conditions input lent listing) q × (left ≡ lent) × (listing' ≡ listing)
+WritesListing input lent listing left listing' (W.Bytes size) = Passes (listing_conditions input lent listing) × Listed input lent listing left listing' size
 
 -- ---- on the way
 
 -- what one line more asks: a line is left, its room has 256 bytes, and the working rooms are enough for every plate
 pub record BeforeLine (input : List ℕ) (p : Progress) (lent : Rooms) (listing : List ℕ) : Type 0 where
   pub ready : Ready input p.report
-  pub more : 1 ≤ linesLeft input p.report
+  pub more : 1 ≤ lines_left input p.report
   pub room : p.size + 256 ≤ length listing
   pub metrics : 8192 ≤ length lent.metrics
   pub decisions : 4096 ≤ length lent.decisions
@@ -91,13 +91,13 @@ pub record LineAdded (input : List ℕ) (p : Progress) (lent : Rooms) (listing :
   pub bytes : listing' ≡ take p.size listing ++ (line ++ drop (length line) (drop p.size listing))
   pub ready : Ready input p'.report
   pub next : (lines : List (List ℕ)) → Left input p'.report lines → Left input p.report (line ∷ lines)
-  pub fewer : linesLeft input p.report ≡ suc (linesLeft input p'.report)
+  pub fewer : lines_left input p.report ≡ suc (lines_left input p'.report)
   pub working : (after : Rooms) → Leaves input p'.report left after → Leaves input p.report lent after
 
 -- what all lines ask: so many are left, and the room has 256 bytes for each
 pub record BeforeLines (input : List ℕ) (report : Report) (lines : ℕ) (lent : Rooms) (listing : List ℕ) : Type 0 where
   pub ready : Ready input report
-  pub count : linesLeft input report ≡ lines
+  pub count : lines_left input report ≡ lines
   pub room : 256 * lines ≤ length listing
   pub metrics : 8192 ≤ length lent.metrics
   pub decisions : 4096 ≤ length lent.decisions
@@ -107,5 +107,5 @@ pub record LinesAdded (input : List ℕ) (report : Report) (lent : Rooms) (listi
   pub lines : List (List ℕ)
   pub are : Left input report lines
   pub size_is : size ≡ length (joined lines)
-  pub listing-is : listing' ≡ joined lines ++ drop (length (joined lines)) listing
+  pub listing_is : listing' ≡ joined lines ++ drop (length (joined lines)) listing
   pub working : Leaves input report lent left

@@ -5,24 +5,24 @@ use Rattle.plates.specs.declared.Refusal.{Refusal}
 use Rattle.plates.specs.Prepare.{IsPrepared}
 use Rattle.plates.specs.Refusals.{Passes, Refuses}
 use Rattle.decoding.specs.Decode.{Zeroed}
-use Rattle.sheets.specs.Blocks.{blocksOf, countersOf}
+use Rattle.sheets.specs.Blocks.{blocks_of, counters_of}
 use Rattle.sheets.specs.Text.{lines_from}
-use Rattle.sheets.specs.Turning.{byPosition}
+use Rattle.sheets.specs.Turning.{by_position}
 use Rattle.listings.specs.declared.Tally.{Tally}
-use Rattle.listings.specs.Lines.{endLine}
+use Rattle.listings.specs.Lines.{line_of_end}
 use Rattle.reports.specs.declared.Report.{Report}
 use Rattle.reports.specs.declared.Stage.{Stage}
 use Rattle.reports.specs.declared.Stage.TheVariants as S
 use Rattle.reports.specs.Steps.{Lent}
-use Rattle.reports.specs.Report.{LinesReport, PlateReports, ProfileReports, blockConditions, lineOfRefusal}
+use Rattle.reports.specs.Report.{LinesReport, PlateReports, ProfileReports, block_conditions, line_of_refusal}
 
 -- the blocks that are left, in order of position
-abbrev pub blocksAt : List ℕ → Report → List (List ℤ)
-blocksAt input report = byPosition report.order (blocksOf report.heard (lines_from input report.at))
+abbrev pub blocks_at : List ℕ → Report → List (List ℤ)
+blocks_at input report = by_position report.order (blocks_of report.heard (lines_from input report.at))
 
 -- and their counters
-abbrev pub countersAt : List ℕ → Report → List ℕ
-countersAt input report = countersOf (length (blocksOf report.heard (lines_from input report.at))) (lines_from input report.at)
+abbrev pub counters_at : List ℕ → Report → List ℕ
+counters_at input report = counters_of (length (blocks_of report.heard (lines_from input report.at))) (lines_from input report.at)
 
 -- each number of a tally has room for what so many lines more may add to it, of which none adds more than 131,008
 pub record HasRoom (t : Tally) (left : ℕ) : Type 0 where
@@ -39,9 +39,9 @@ pub record HasRoom (t : Tally) (left : ℕ) : Type 0 where
 -- at a stage where the plate is used, it is prepared, and the tally has room for the lines that are left
 abbrev pub ReadyAt : Stage → List ℕ → Report → Type 0
 ReadyAt (S.Refused q) input report = Unit {0}
-ReadyAt S.PlateLine input report = IsPrepared report.plate × HasRoom report.kept.tally (length (blocksAt input report))
-ReadyAt S.ProfileLine input report = IsPrepared report.plate × HasRoom report.kept.tally (length (blocksAt input report))
-ReadyAt S.BlockLines input report = IsPrepared report.plate × HasRoom report.kept.tally (length (blocksAt input report))
+ReadyAt S.PlateLine input report = IsPrepared report.plate × HasRoom report.kept.tally (length (blocks_at input report))
+ReadyAt S.ProfileLine input report = IsPrepared report.plate × HasRoom report.kept.tally (length (blocks_at input report))
+ReadyAt S.BlockLines input report = IsPrepared report.plate × HasRoom report.kept.tally (length (blocks_at input report))
 ReadyAt S.EndLine input report = Unit {0}
 ReadyAt S.Done input report = Unit {0}
 
@@ -52,15 +52,15 @@ Ready input report = ReadyAt report.stage input report
 
 -- those of the blocks or heard lines
 abbrev pub LinesLeft : List ℕ → Report → List (List ℕ) → Type 0
-LinesLeft input report = LinesReport report.heard report.order report.plate report.blocks report.kept (countersAt input report) (blocksAt input report)
+LinesLeft input report = LinesReport report.heard report.order report.plate report.blocks report.kept (counters_at input report) (blocks_at input report)
 
 -- the lines that are left
 abbrev pub LeftAt : Stage → List ℕ → Report → List (List ℕ) → Type 0
-LeftAt (S.Refused q) input report lines = lines ≡ lineOfRefusal q ∷ []
+LeftAt (S.Refused q) input report lines = lines ≡ line_of_refusal q ∷ []
 LeftAt S.PlateLine input report lines = PlateReports report.plate (LinesLeft input report) lines
 LeftAt S.ProfileLine input report lines = ProfileReports report.plate (LinesLeft input report) lines
 LeftAt S.BlockLines input report lines = LinesLeft input report lines
-LeftAt S.EndLine input report lines = lines ≡ endLine report.blocks ∷ []
+LeftAt S.EndLine input report lines = lines ≡ line_of_end report.blocks ∷ []
 LeftAt S.Done input report lines = lines ≡ []
 
 abbrev pub Left : List ℕ → Report → List (List ℕ) → Type 0
@@ -72,16 +72,16 @@ abbrev pub tallies : Bool → ℕ
 tallies false = 0
 tallies true = 1
 
-abbrev pub countAt : Stage → Bool → ℕ → ℕ
-countAt (S.Refused q) heard blocks = 1
-countAt S.PlateLine heard blocks = blocks + tallies heard + 3
-countAt S.ProfileLine heard blocks = blocks + tallies heard + 2
-countAt S.BlockLines heard blocks = blocks + tallies heard + 1
-countAt S.EndLine heard blocks = 1
-countAt S.Done heard blocks = 0
+abbrev pub count_at : Stage → Bool → ℕ → ℕ
+count_at (S.Refused q) heard blocks = 1
+count_at S.PlateLine heard blocks = blocks + tallies heard + 3
+count_at S.ProfileLine heard blocks = blocks + tallies heard + 2
+count_at S.BlockLines heard blocks = blocks + tallies heard + 1
+count_at S.EndLine heard blocks = 1
+count_at S.Done heard blocks = 0
 
-abbrev pub linesLeft : List ℕ → Report → ℕ
-linesLeft input report = countAt report.stage report.heard (length (blocksAt input report))
+abbrev pub lines_left : List ℕ → Report → ℕ
+lines_left input report = count_at report.stage report.heard (length (blocks_at input report))
 
 -- ---- the working rooms
 
@@ -93,13 +93,13 @@ abbrev pub rooms : List ℤ → List ℕ → Rooms
 rooms metrics decisions = record { metrics = metrics; decisions = decisions }
 
 -- those among what is lent
-abbrev pub workingOf : Lent → Rooms
-workingOf lent = rooms lent.metrics lent.decisions
+abbrev pub working_of : Lent → Rooms
+working_of lent = rooms lent.metrics lent.decisions
 
 -- what the line of a block leaves there: all as it was where the block is refused, and else what decoding leaves
 pub data BlockLeaves (plate : Plate) (samples : List ℤ) (before after : Rooms) : Type 0 where
-  untouched : (q : Refusal) → Refuses (blockConditions plate samples) q → after ≡ before → BlockLeaves plate samples before after
-  zeroed : Passes (blockConditions plate samples) → Zeroed plate before.metrics after.metrics before.decisions after.decisions
+  untouched : (q : Refusal) → Refuses (block_conditions plate samples) q → after ≡ before → BlockLeaves plate samples before after
+  zeroed : Passes (block_conditions plate samples) → Zeroed plate before.metrics after.metrics before.decisions after.decisions
       → BlockLeaves plate samples before after
 
 -- block after block
@@ -110,9 +110,9 @@ BlocksLeave plate (samples ∷ blocks) before after = (between : Rooms) × Block
 -- the lines that are left
 abbrev pub LeavesAt : Stage → List ℕ → Report → Rooms → Rooms → Type 0
 LeavesAt (S.Refused q) input report before after = after ≡ before
-LeavesAt S.PlateLine input report before after = BlocksLeave report.plate (blocksAt input report) before after
-LeavesAt S.ProfileLine input report before after = BlocksLeave report.plate (blocksAt input report) before after
-LeavesAt S.BlockLines input report before after = BlocksLeave report.plate (blocksAt input report) before after
+LeavesAt S.PlateLine input report before after = BlocksLeave report.plate (blocks_at input report) before after
+LeavesAt S.ProfileLine input report before after = BlocksLeave report.plate (blocks_at input report) before after
+LeavesAt S.BlockLines input report before after = BlocksLeave report.plate (blocks_at input report) before after
 LeavesAt S.EndLine input report before after = after ≡ before
 LeavesAt S.Done input report before after = after ≡ before
 

@@ -23,25 +23,25 @@ abbrev pub advance : ℕ → ℕ → ℕ
 advance counter reference = (counter + (65536 - reference)) % 65536
 
 -- 0 is a repeat; over 32767 is out of turn; any other leaves the advance minus one missing
-abbrev pub standingBy : ℕ → Standing
-standingBy step = cond (step == 0) S.Repeat (cond (nat_lt 32767 step) S.OutOfTurn (S.Onward (step - 1)))
+abbrev pub standing_by : ℕ → Standing
+standing_by step = cond (step == 0) S.Repeat (cond (nat_lt 32767 step) S.OutOfTurn (S.Onward (step - 1)))
 
 -- a line that is not refused, by the reference before it: the first sets it
 abbrev pub standing : Reference → ℕ → Standing
 standing R.Unset counter = S.First
-standing (R.Counter reference) counter = standingBy (advance counter reference)
+standing (R.Counter reference) counter = standing_by (advance counter reference)
 
 -- the reference after a line that is not refused
-abbrev pub referenceBy : Standing → ℕ → Reference → Reference
-referenceBy S.First counter reference = R.Counter counter
-referenceBy S.Repeat counter reference = reference
-referenceBy S.OutOfTurn counter reference = reference
-referenceBy (S.Onward missing) counter reference = R.Counter counter
+abbrev pub reference_by : Standing → ℕ → Reference → Reference
+reference_by S.First counter reference = R.Counter counter
+reference_by S.Repeat counter reference = reference
+reference_by S.OutOfTurn counter reference = reference
+reference_by (S.Onward missing) counter reference = R.Counter counter
 
 -- after each line: a refused one leaves it
-abbrev pub referenceOf : Reference → ℕ → Decoded → Reference
-referenceOf reference counter (D.Refused q) = reference
-referenceOf reference counter (D.Found a) = referenceBy (standing reference counter) counter reference
+abbrev pub reference_of : Reference → ℕ → Decoded → Reference
+reference_of reference counter (D.Refused q) = reference
+reference_of reference counter (D.Found a) = reference_by (standing reference counter) counter reference
 
 -- ---- what a line adds
 
@@ -71,12 +71,12 @@ abbrev pub lost : ℤ → ℕ
 lost metric = cond (int_lt metric (pos 0)) (unsigned_abs metric) 0
 
 -- nothing yet
-abbrev pub noTally : Tally
-noTally = record { decoded = 0; refused = 0; repeated = 0; late = 0; missing = 0; opposing = 0; zeros = 0; above = 0; below = 0 }
+abbrev pub no_tally : Tally
+no_tally = record { decoded = 0; refused = 0; repeated = 0; late = 0; missing = 0; opposing = 0; zeros = 0; above = 0; below = 0 }
 
 -- a decoded line
-abbrev pub decodedShare : ℕ → ℕ → List ℤ → Answer → Tally
-decodedShare late missing samples a = record {
+abbrev pub decoded_share : ℕ → ℕ → List ℤ → Answer → Tally
+decoded_share late missing samples a = record {
   decoded = 1;
   refused = 0;
   repeated = 0;
@@ -89,24 +89,24 @@ decodedShare late missing samples a = record {
 }
 
 -- a refused line counts as refused only
-abbrev pub refusedShare : Tally
-refusedShare = record { decoded = 0; refused = 1; repeated = 0; late = 0; missing = 0; opposing = 0; zeros = 0; above = 0; below = 0 }
+abbrev pub refused_share : Tally
+refused_share = record { decoded = 0; refused = 1; repeated = 0; late = 0; missing = 0; opposing = 0; zeros = 0; above = 0; below = 0 }
 
 -- a repeat is neither decoded nor summed
-abbrev pub repeatedShare : Tally
-repeatedShare = record { decoded = 0; refused = 0; repeated = 1; late = 0; missing = 0; opposing = 0; zeros = 0; above = 0; below = 0 }
+abbrev pub repeated_share : Tally
+repeated_share = record { decoded = 0; refused = 0; repeated = 1; late = 0; missing = 0; opposing = 0; zeros = 0; above = 0; below = 0 }
 
 -- a line that is not refused: out of turn it adds nothing to missing
-abbrev pub foundShare : Standing → List ℤ → Answer → Tally
-foundShare S.First samples a = decodedShare 0 0 samples a
-foundShare S.Repeat samples a = repeatedShare
-foundShare S.OutOfTurn samples a = decodedShare 1 0 samples a
-foundShare (S.Onward missing) samples a = decodedShare 0 missing samples a
+abbrev pub found_share : Standing → List ℤ → Answer → Tally
+found_share S.First samples a = decoded_share 0 0 samples a
+found_share S.Repeat samples a = repeated_share
+found_share S.OutOfTurn samples a = decoded_share 1 0 samples a
+found_share (S.Onward missing) samples a = decoded_share 0 missing samples a
 
 -- each line, by the reference before it
 abbrev pub share : Reference → ℕ → List ℤ → Decoded → Tally
-share reference counter samples (D.Refused q) = refusedShare
-share reference counter samples (D.Found a) = foundShare (standing reference counter) samples a
+share reference counter samples (D.Refused q) = refused_share
+share reference counter samples (D.Found a) = found_share (standing reference counter) samples a
 
 -- ---- the tally
 
@@ -125,38 +125,38 @@ plus s t = record {
 }
 
 -- what some lines add to, by the reference before the first
-abbrev pub tallyFrom : Reference → List Heard → Tally
-tallyFrom reference [] = noTally
-tallyFrom reference (h ∷ hs) =
-    plus (share reference h.counter h.samples h.reply) (tallyFrom (referenceOf reference h.counter h.reply) hs)
+abbrev pub tally_from : Reference → List Heard → Tally
+tally_from reference [] = no_tally
+tally_from reference (h ∷ hs) =
+    plus (share reference h.counter h.samples h.reply) (tally_from (reference_of reference h.counter h.reply) hs)
 
 -- the tally of a sheet's heard lines
 abbrev pub tally_of : List Heard → Tally
-tally_of hs = tallyFrom R.Unset hs
+tally_of hs = tally_from R.Unset hs
 
 -- the metric of a line, where it is decoded and no repeat
-abbrev pub metricBy : Standing → ℤ → ℤ
-metricBy S.First metric = metric
-metricBy S.Repeat metric = pos 0
-metricBy S.OutOfTurn metric = metric
-metricBy (S.Onward missing) metric = metric
+abbrev pub metric_by : Standing → ℤ → ℤ
+metric_by S.First metric = metric
+metric_by S.Repeat metric = pos 0
+metric_by S.OutOfTurn metric = metric
+metric_by (S.Onward missing) metric = metric
 
-abbrev pub metricShare : Reference → ℕ → Decoded → ℤ
-metricShare reference counter (D.Refused q) = pos 0
-metricShare reference counter (D.Found a) = metricBy (standing reference counter) a.metric
+abbrev pub metric_share : Reference → ℕ → Decoded → ℤ
+metric_share reference counter (D.Refused q) = pos 0
+metric_share reference counter (D.Found a) = metric_by (standing reference counter) a.metric
 
 -- the sum of metrics of some lines, by the reference before the first
-abbrev pub metricsFrom : Reference → List Heard → ℤ
-metricsFrom reference [] = pos 0
-metricsFrom reference (h ∷ hs) =
-    metricShare reference h.counter h.reply +ℤ metricsFrom (referenceOf reference h.counter h.reply) hs
+abbrev pub metrics_from : Reference → List Heard → ℤ
+metrics_from reference [] = pos 0
+metrics_from reference (h ∷ hs) =
+    metric_share reference h.counter h.reply +ℤ metrics_from (reference_of reference h.counter h.reply) hs
 
 -- heard lines of these counters, samples and replies
-abbrev pub heardsOf : List ℕ → List (List ℤ) → List Decoded → List Heard
-heardsOf (counter ∷ counters) (samples ∷ blocks) (reply ∷ replies) = record { counter = counter; samples = samples; reply = reply } ∷ heardsOf counters blocks replies
-heardsOf [] blocks replies = []
-heardsOf (counter ∷ counters) [] replies = []
-heardsOf (counter ∷ counters) (samples ∷ blocks) [] = []
+abbrev pub heards_of : List ℕ → List (List ℤ) → List Decoded → List Heard
+heards_of (counter ∷ counters) (samples ∷ blocks) (reply ∷ replies) = record { counter = counter; samples = samples; reply = reply } ∷ heards_of counters blocks replies
+heards_of [] blocks replies = []
+heards_of (counter ∷ counters) [] replies = []
+heards_of (counter ∷ counters) (samples ∷ blocks) [] = []
 
 -- ---- as it is kept from line to line
 
@@ -164,8 +164,8 @@ heardsOf (counter ∷ counters) (samples ∷ blocks) [] = []
 abbrev pub raised : ℕ → ℕ → ℕ
 raised count by = (count + by) % 2 ^ 64
 
-abbrev pub raisedBy : Tally → Tally → Tally
-raisedBy s t = record {
+abbrev pub raised_by : Tally → Tally → Tally
+raised_by s t = record {
   decoded = raised s.decoded t.decoded;
   refused = raised s.refused t.refused;
   repeated = raised s.repeated t.repeated;
@@ -178,8 +178,8 @@ raisedBy s t = record {
 }
 
 -- a repeat prints no line
-abbrev pub isRepeat : Standing → Bool
-isRepeat S.First = false
-isRepeat S.Repeat = true
-isRepeat S.OutOfTurn = false
-isRepeat (S.Onward missing) = false
+abbrev pub is_repeat : Standing → Bool
+is_repeat S.First = false
+is_repeat S.Repeat = true
+is_repeat S.OutOfTurn = false
+is_repeat (S.Onward missing) = false

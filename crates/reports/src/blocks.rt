@@ -1,9 +1,9 @@
 // The lines of blocks and heard lines, by what decoding replies.
 ghost use Rattle.std.specs.Prelude.{◌≡◌, ◌≤◌, length, take};
 ghost use Rattle.listings.specs.Writing.{WritesOf};
-ghost use Rattle.reports.specs.Report.{lineOfAnswer};
-ghost use Rattle.reports.specs.Steps.{BlocksStep, DecodedStep, FoundStep, Printable, RefusedStep, RoomStep, WritesStep, decodable, isSilent, lends, ofBlock};
-ghost use Rattle.sheets.specs.Blocks.{blockAt, counterAt, nextLine};
+ghost use Rattle.reports.specs.Report.{line_of_answer};
+ghost use Rattle.reports.specs.Steps.{BlocksStep, DecodedStep, FoundStep, Printable, RefusedStep, RoomStep, WritesStep, decodable, is_silent, lends, of_block};
+ghost use Rattle.sheets.specs.Blocks.{block_at, counter_at, next_line};
 
 use crate::printing::printed_word;
 use crate::stages::{close_line, refused_line};
@@ -16,7 +16,7 @@ use sheets::BlockReply;
 
 // Whether a line of this counter is a repeat, which prints no line where it is not refused.
 fn is_silent(report: Report, counter: u16) -> bool
-    ensures { result ≡ isSilent report counter }
+    ensures { result ≡ is_silent report counter }
 {
     let kept = report.kept;
     let reference = kept.reference;
@@ -26,7 +26,7 @@ fn is_silent(report: Report, counter: u16) -> bool
 // The line of an answer, its word in the cover's order.
 fn word_line(before: Report, after: Report, answer: Answer, room: &mut [u8]) -> Step
     requires { before.plate.n ≤ 64 }
-    ensures { WritesStep (WritesOf before.plate (lineOfAnswer before.order before.plate answer) room.old) before after result room.new }
+    ensures { WritesStep (WritesOf before.plate (line_of_answer before.order before.plate answer) room.old) before after result room.new }
 {
     let plate = before.plate;
     let counts = answer.counts;
@@ -48,7 +48,7 @@ fn word_line(before: Report, after: Report, answer: Answer, room: &mut [u8]) -> 
 
 // Whether a refusal is the block's, and printed.
 fn is_of_block(refusal: Refusal) -> bool
-    ensures { result ≡ ofBlock refusal }
+    ensures { result ≡ of_block refusal }
 {
     let number = plates::refusal_number(refusal);
     if number == 6 {
@@ -59,7 +59,7 @@ fn is_of_block(refusal: Refusal) -> bool
 
 // A block whose decoding is refused.
 fn refused_block(before: Report, after: Report, refusal: Refusal, room: &mut [u8]) -> Step
-    ensures { RefusedStep (ofBlock refusal) refusal before after room.old result room.new }
+    ensures { RefusedStep (of_block refusal) refusal before after room.old result room.new }
 {
     if is_of_block(refusal) {
         return refused_line(before, after, refusal, room);
@@ -142,7 +142,7 @@ pub fn block_line(
     decisions: &mut [u64],
     room: &mut [u8],
 ) -> Step
-    ensures { BlocksStep (blockAt report.heard input.now report.at) (counterAt input.now report.at) (nextLine input.now report.at) report (lends metrics.old decisions.old room.old) result (lends metrics.new decisions.new room.new) }
+    ensures { BlocksStep (block_at report.heard input.now report.at) (counter_at input.now report.at) (next_line input.now report.at) report (lends metrics.old decisions.old room.old) result (lends metrics.new decisions.new room.new) }
 {
     let mut values = [0; 64];
     let order = report.order;

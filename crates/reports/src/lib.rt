@@ -2,7 +2,7 @@
 ghost use Rattle.std.specs.Prelude.{◌≡◌, ◌≤◌, length, take};
 ghost use Rattle.reports.specs.Listing.{WritesListing};
 ghost use Rattle.reports.specs.Remaining.{rooms};
-ghost use Rattle.reports.specs.Steps.{Opens, OpensSheet, Steps, lends, nothingKept, refusedReport};
+ghost use Rattle.reports.specs.Steps.{Opens, OpensSheet, Steps, lends, nothing_kept, refused_report};
 
 use listings::Written;
 use plates::{Plate, Refusal, Verdict};
@@ -58,7 +58,7 @@ pub struct Step {
 
 // Nothing is kept yet.
 fn nothing_kept() -> Kept
-    ensures { result ≡ nothingKept }
+    ensures { result ≡ nothing_kept }
 {
     Kept {
         reference: Reference::Unset,
@@ -68,7 +68,7 @@ fn nothing_kept() -> Kept
 
 // The report that says a refusal, and nothing more.
 fn refused(refusal: Refusal) -> Report
-    ensures { result ≡ refusedReport refusal }
+    ensures { result ≡ refused_report refusal }
 {
     Report {
         stage: Stage::Refused(refusal),

@@ -1,7 +1,7 @@
 // A whole listing, line after line in one lent room.
 ghost use Rattle.std.specs.Prelude.{◌≡◌, ◌≤◌};
 ghost use Rattle.reports.specs.Listing.{BeforeLine, BeforeLines, LineAdded, LinesAdded};
-ghost use Rattle.reports.specs.Remaining.{countAt, rooms, tallies};
+ghost use Rattle.reports.specs.Remaining.{count_at, rooms, tallies};
 
 use crate::{Outcome, Report, Stage, next_line};
 
@@ -26,7 +26,7 @@ fn tallies(heard: bool) -> usize
 // How many lines a report gives that was just opened.
 pub fn lines_of(report: Report) -> usize
     requires { report.blocks ≤ 32769 }
-    ensures { result ≡ countAt report.stage report.heard report.blocks }
+    ensures { result ≡ count_at report.stage report.heard report.blocks }
 {
     let blocks = report.blocks + tallies(report.heard);
     let stage = report.stage;

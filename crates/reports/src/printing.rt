@@ -1,13 +1,13 @@
 // A word as it is printed in the cover's order.
 ghost use Rattle.std.specs.Prelude.{◌≡◌, ◌≤◌};
-ghost use Rattle.reports.specs.Printed.{printedAs};
+ghost use Rattle.reports.specs.Printed.{printed_as};
 
 use sheets::Order;
 
 // The word whose position 0 is the last of the first n positions, and so on.
 fn reversed(word: u64, n: usize) -> u64
     requires { n ≤ 64 }
-    ensures { result ≡ printedAs Order.Last n word }
+    ensures { result ≡ printed_as Order.Last n word }
 {
     let mut i: usize = 0;
     let mut turned: u64 = 0;
@@ -21,7 +21,7 @@ fn reversed(word: u64, n: usize) -> u64
 // The word that is written for a word of n positions.
 pub fn printed_word(order: Order, n: usize, word: u64) -> u64
     requires { n ≤ 64 }
-    ensures { result ≡ printedAs order n word }
+    ensures { result ≡ printed_as order n word }
 {
     match order {
         Order::First => word,

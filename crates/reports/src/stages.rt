@@ -1,7 +1,7 @@
 // The line of each stage of a report, but for its blocks.
 ghost use Rattle.plates.specs.Refusals.{field, number, place};
 ghost use Rattle.listings.specs.Writing.{WritesEnd, WritesPlate, WritesProfile, WritesRefused, WritesTally};
-ghost use Rattle.reports.specs.Steps.{Closes, WritesStep, closed, toBlocks, toEnd, toNothing, toProfile};
+ghost use Rattle.reports.specs.Steps.{Closes, WritesStep, closed, to_blocks, to_end, to_nothing, to_profile};
 
 use crate::steps::{at_stage, step_by};
 use crate::{Report, Stage, Step};
@@ -23,7 +23,7 @@ pub fn refused_line(before: Report, after: Report, refusal: Refusal, room: &mut 
 
 // The refusal of the input.
 pub fn refusal_line(report: Report, refusal: Refusal, room: &mut [u8]) -> Step
-    ensures { WritesStep (WritesRefused (number refusal) (place refusal) (field refusal) room.old) report (toNothing report) result room.new }
+    ensures { WritesStep (WritesRefused (number refusal) (place refusal) (field refusal) room.old) report (to_nothing report) result room.new }
 {
     let after = at_stage(report, Stage::Done, report.at);
     refused_line(report, after, refusal, room)
@@ -31,7 +31,7 @@ pub fn refusal_line(report: Report, refusal: Refusal, room: &mut [u8]) -> Step
 
 // The plate line.
 pub fn plate_line(report: Report, room: &mut [u8]) -> Step
-    ensures { WritesStep (WritesPlate report.plate room.old) report (toProfile report) result room.new }
+    ensures { WritesStep (WritesPlate report.plate room.old) report (to_profile report) result room.new }
 {
     let after = at_stage(report, Stage::ProfileLine, report.at);
     let plate = report.plate;
@@ -40,7 +40,7 @@ pub fn plate_line(report: Report, room: &mut [u8]) -> Step
 
 // The profile line.
 pub fn profile_line(report: Report, room: &mut [u8]) -> Step
-    ensures { WritesStep (WritesProfile report.plate room.old) report (toBlocks report.at report) result room.new }
+    ensures { WritesStep (WritesProfile report.plate room.old) report (to_blocks report.at report) result room.new }
 {
     let after = at_stage(report, Stage::BlockLines, report.at);
     let plate = report.plate;
@@ -49,7 +49,7 @@ pub fn profile_line(report: Report, room: &mut [u8]) -> Step
 
 // The end line.
 pub fn end_line(report: Report, room: &mut [u8]) -> Step
-    ensures { WritesStep (WritesEnd report.blocks room.old) report (toNothing report) result room.new }
+    ensures { WritesStep (WritesEnd report.blocks room.old) report (to_nothing report) result room.new }
 {
     let after = at_stage(report, Stage::Done, report.at);
     step_by(
@@ -61,7 +61,7 @@ pub fn end_line(report: Report, room: &mut [u8]) -> Step
 
 // The tally line.
 fn tally_line(report: Report, room: &mut [u8]) -> Step
-    ensures { WritesStep (WritesTally report.kept.tally room.old) report (toEnd report) result room.new }
+    ensures { WritesStep (WritesTally report.kept.tally room.old) report (to_end report) result room.new }
 {
     let after = at_stage(report, Stage::EndLine, report.at);
     let kept = report.kept;

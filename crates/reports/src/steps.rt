@@ -1,6 +1,6 @@
 // The steps of a report: the report after a line, and the step with what came of it.
 ghost use Rattle.std.specs.Prelude.{◌≡◌, ◌≤◌, length};
-ghost use Rattle.reports.specs.Steps.{afterLine, keptAfter, refusedStep, silentStep, stepBy, to};
+ghost use Rattle.reports.specs.Steps.{after_line, kept_after, refused_step, silent_step, step_by, to};
 
 use crate::tally::{Kept, raise, reference_of, share};
 use crate::{Outcome, Report, Stage, Step};
@@ -29,7 +29,7 @@ pub fn at_stage(report: Report, stage: Stage, at: usize) -> Report
 // What is kept after a line.
 fn kept_after(heard: bool, kept: Kept, counter: u16, samples: &[i16], decoded: Decoded) -> Kept
     requires { length samples.now ≤ 64 }
-    ensures { result ≡ keptAfter heard kept counter samples.now decoded }
+    ensures { result ≡ kept_after heard kept counter samples.now decoded }
 {
     if heard {
         let before = kept.reference;
@@ -50,7 +50,7 @@ pub fn after_line(
     decoded: Decoded,
 ) -> Report
     requires { length samples.now ≤ 64 }
-    ensures { result ≡ afterLine next report counter samples.now decoded }
+    ensures { result ≡ after_line next report counter samples.now decoded }
 {
     let plate = report.plate;
     let order = report.order;
@@ -69,7 +69,7 @@ pub fn after_line(
 
 // The step by what writing its line replied.
 pub fn step_by(written: Written, before: Report, after: Report) -> Step
-    ensures { result ≡ stepBy written before after }
+    ensures { result ≡ step_by written before after }
 {
     match written {
         Written::Bytes(size) => Step {
@@ -85,7 +85,7 @@ pub fn step_by(written: Written, before: Report, after: Report) -> Step
 
 // A refusal of what was lent.
 pub fn refused_step(refusal: Refusal, report: Report) -> Step
-    ensures { result ≡ refusedStep refusal report }
+    ensures { result ≡ refused_step refusal report }
 {
     Step {
         outcome: Outcome::Refused(refusal),
@@ -95,7 +95,7 @@ pub fn refused_step(refusal: Refusal, report: Report) -> Step
 
 // A step of no bytes.
 pub fn silent_step(after: Report) -> Step
-    ensures { result ≡ silentStep after }
+    ensures { result ≡ silent_step after }
 {
     Step {
         outcome: Outcome::Line(0),

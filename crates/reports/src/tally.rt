@@ -1,6 +1,6 @@
 // The tally of a shift, kept from heard line to heard line.
 ghost use Rattle.std.specs.Prelude.{◌≡◌, ◌+◌, ◌-◌, ◌%◌, ◌<◌, ◌≤◌, length, if◌then◌else◌};
-ghost use Rattle.reports.specs.Tally.{advance, decodedShare, foundShare, gained, isRepeat, is_zero, lost, noTally, opposes, opposing, raisedBy, referenceBy, referenceOf, refusedShare, repeatedShare, share, standing, standingBy, zeros};
+ghost use Rattle.reports.specs.Tally.{advance, decoded_share, found_share, gained, is_repeat, is_zero, lost, no_tally, opposes, opposing, raised_by, reference_by, reference_of, refused_share, repeated_share, share, standing, standing_by, zeros};
 
 use decoding::{Answer, Decoded};
 use listings::Tally;
@@ -30,7 +30,7 @@ pub struct Kept {
 
 // Nothing yet.
 pub fn none() -> Tally
-    ensures { result ≡ noTally }
+    ensures { result ≡ no_tally }
 {
     Tally {
         decoded: 0,
@@ -54,7 +54,7 @@ fn advance(counter: u16, reference: u16) -> u16
 
 // Where a line with this advance stands.
 fn standing_by(step: u16) -> Standing
-    ensures { result ≡ standingBy step }
+    ensures { result ≡ standing_by step }
 {
     if step == 0 {
         return Standing::Repeat;
@@ -77,7 +77,7 @@ pub fn stands(reference: Reference, counter: u16) -> Standing
 
 // Whether it is a repeat.
 pub fn is_repeat(standing: Standing) -> bool
-    ensures { result ≡ isRepeat standing }
+    ensures { result ≡ is_repeat standing }
 {
     match standing {
         Standing::First => false,
@@ -89,7 +89,7 @@ pub fn is_repeat(standing: Standing) -> bool
 
 // The reference after it.
 fn reference_by(standing: Standing, counter: u16, reference: Reference) -> Reference
-    ensures { result ≡ referenceBy standing counter reference }
+    ensures { result ≡ reference_by standing counter reference }
 {
     match standing {
         Standing::First => Reference::Counter(counter),
@@ -101,7 +101,7 @@ fn reference_by(standing: Standing, counter: u16, reference: Reference) -> Refer
 
 // The reference after a line: a refused one leaves it.
 pub fn reference_of(reference: Reference, counter: u16, decoded: Decoded) -> Reference
-    ensures { result ≡ referenceOf reference counter decoded }
+    ensures { result ≡ reference_of reference counter decoded }
 {
     match decoded {
         Decoded::Refused(_) => reference,
@@ -191,7 +191,7 @@ fn lost(metric: i32) -> u64
 // What a decoded line adds.
 fn decoded_share(late: u64, missing: u64, samples: &[i16], answer: Answer) -> Tally
     requires { length samples.now ≤ 64 }
-    ensures { result ≡ decodedShare late missing samples.now answer }
+    ensures { result ≡ decoded_share late missing samples.now answer }
 {
     let opposing = count_opposing(samples, answer.word);
     let zeros = count_zeros(samples);
@@ -213,7 +213,7 @@ fn decoded_share(late: u64, missing: u64, samples: &[i16], answer: Answer) -> Ta
 
 // What a refused line adds.
 fn refused_share() -> Tally
-    ensures { result ≡ refusedShare }
+    ensures { result ≡ refused_share }
 {
     Tally {
         decoded: 0,
@@ -230,7 +230,7 @@ fn refused_share() -> Tally
 
 // What a repeat adds.
 fn repeated_share() -> Tally
-    ensures { result ≡ repeatedShare }
+    ensures { result ≡ repeated_share }
 {
     Tally {
         decoded: 0,
@@ -248,7 +248,7 @@ fn repeated_share() -> Tally
 // What a line that is not refused adds.
 fn found_share(standing: Standing, samples: &[i16], answer: Answer) -> Tally
     requires { length samples.now ≤ 64 }
-    ensures { result ≡ foundShare standing samples.now answer }
+    ensures { result ≡ found_share standing samples.now answer }
 {
     match standing {
         Standing::First => decoded_share(0, 0, samples, answer),
@@ -271,7 +271,7 @@ pub fn share(reference: Reference, counter: u16, samples: &[i16], decoded: Decod
 
 // Number by number, in 64 bits.
 pub fn raise(tally: Tally, by: Tally) -> Tally
-    ensures { result ≡ raisedBy tally by }
+    ensures { result ≡ raised_by tally by }
 {
     Tally {
         decoded: std::num::wrapping_add_u64(tally.decoded, by.decoded),

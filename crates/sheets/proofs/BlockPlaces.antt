@@ -6,10 +6,10 @@ use mathlib.Core.Bool.{Bool, true, false, cond}
 use mathlib.Core.List.{List, [], ◌∷◌}
 use mathlib.Core.Path.{◌≡◌, refl, sym, ◌∙◌, ap}
 use native.Mathlib.Omega.{arith}
-use Rattle.sheets.specs.Text.{lineFeed, fields}
-use Rattle.sheets.specs.Numbers.{counterOf, is_number, sampleOf}
+use Rattle.sheets.specs.Text.{line_feed, fields}
+use Rattle.sheets.specs.Numbers.{counter_of, is_number, sample_of}
 use Rattle.sheets.specs.Words.{word_of}
-use Rattle.sheets.specs.Blocks.{isSample, samplesOf, values_of, heardRest, blockBy, block_line, valuesAfter, listedIn, BlockFound, block, no_block, samplesFound, blockAt, nextLine, blockReply, placed, roomAfter}
+use Rattle.sheets.specs.Blocks.{is_sample, samples_of, values_of, heard_rest, block_by, block_line, values_after, listed_in, BlockFound, block, no_block, samples_found, block_at, next_line, block_reply, placed, room_after}
 use Rattle.sheets.specs.Readers.{BlockRead, Ended, Until}
 use Rattle.sheets.specs.declared.Order.{Order}
 use Rattle.sheets.specs.declared.word.Word.{Word}
@@ -28,20 +28,20 @@ count-case : (t : Bool) (lead j k v : ℕ) (d : Samples) → (d ≡ Count k → 
 count-case true lead j k v d h e = let q = h e in omega arith
 count-case false lead j k v d h e = impossible e
 
-counts : (lead j k : ℕ) (fs : List (List ℕ)) → samplesOf lead j fs ≡ Count k → j + length (values_of fs) ≡ k
+counts : (lead j k : ℕ) (fs : List (List ℕ)) → samples_of lead j fs ≡ Count k → j + length (values_of fs) ≡ k
 counts lead j k [] e = let q : j ≡ k = cc in omega arith
 counts lead j k (f ∷ fs) e =
-    let q = count-case (isSample (sampleOf f)) lead j k (length (values_of fs)) (samplesOf lead (j + 1) fs) (counts lead (j + 1) k fs) e in omega arith
+    let q = count-case (is_sample (sample_of f)) lead j k (length (values_of fs)) (samples_of lead (j + 1) fs) (counts lead (j + 1) k fs) e in omega arith
 
-heard-counts : (fs : List (List ℕ)) (k : ℕ) → heardRest fs ≡ Count k → length (values_of (drop 1 fs)) ≡ k
+heard-counts : (fs : List (List ℕ)) (k : ℕ) → heard_rest fs ≡ Count k → length (values_of (drop 1 fs)) ≡ k
 heard-counts [] k e = impossible e
-heard-counts (f ∷ fs) k e = by (is_number (counterOf f)) e
+heard-counts (f ∷ fs) k e = by (is_number (counter_of f)) e
   where
-    by : (t : Bool) → cond t (samplesOf 3 0 fs) (Bad 2) ≡ Count k → length (values_of fs) ≡ k
+    by : (t : Bool) → cond t (samples_of 3 0 fs) (Bad 2) ≡ Count k → length (values_of fs) ≡ k
     by true g = let q = counts 3 0 k fs g in omega arith
     by false g = impossible g
 
-word_counts : (heard : Bool) (w : Word) (fs : List (List ℕ)) (k : ℕ) → blockBy heard w fs ≡ Count k → length (valuesAfter heard fs) ≡ k
+word_counts : (heard : Bool) (w : Word) (fs : List (List ℕ)) (k : ℕ) → block_by heard w fs ≡ Count k → length (values_after heard fs) ≡ k
 word_counts heard Cover fs k e = impossible e
 word_counts heard Mask fs k e = impossible e
 word_counts heard Row fs k e = impossible e
@@ -52,7 +52,7 @@ word_counts true Heard fs k e = heard-counts fs k e
 word_counts heard End fs k e = impossible e
 word_counts heard Other fs k e = impossible e
 
-pub line-counts : (heard : Bool) (fs : List (List ℕ)) (k : ℕ) → block_line heard fs ≡ Count k → length (listedIn heard fs) ≡ k
+pub line-counts : (heard : Bool) (fs : List (List ℕ)) (k : ℕ) → block_line heard fs ≡ Count k → length (listed_in heard fs) ≡ k
 line-counts heard [] k e = impossible e
 line-counts heard (w ∷ fs) k e = word_counts heard (word_of w) fs k e
 
@@ -62,26 +62,26 @@ no-reply : {A : Type 0} {k next : ℕ} → NoBlock ≡ Read k next → A
 no-reply q = let z : ◌≡◌ {A = ℕ} 0 1 = cc in absurd (omega arith)
 
 -- no block line is there
-none_read : (heard : Bool) (s : List ℕ) (at : ℕ) → blockAt heard s at ≡ no_block → BlockRead heard s at NoBlock
+none_read : (heard : Bool) (s : List ℕ) (at : ℕ) → block_at heard s at ≡ no_block → BlockRead heard s at NoBlock
 none_read heard s at e = record { reply = rw e; place = λ k next q. no-reply q }
 
 -- then the room stays as it was
-pub room-stays : (order : Order) (b : BlockFound) (next : ℕ) (room : List ℤ) → NoBlock ≡ blockReply next b → room ≡ roomAfter order room b
+pub room-stays : (order : Order) (b : BlockFound) (next : ℕ) (room : List ℤ) → NoBlock ≡ block_reply next b → room ≡ room_after order room b
 room-stays order (block vs) next room q = no-reply q
 room-stays order no_block next room q = refl
 
 -- past the end there is no line
 pub past_end : (heard : Bool) (s : List ℕ) (at : ℕ) → length s < at → BlockRead heard s at NoBlock
-past_end heard s at h = none_read heard s at (rw (from-none lineFeed s at h))
+past_end heard s at h = none_read heard s at (rw (from-none line_feed s at h))
 
 -- the place of the line after
-pub next-is : (s : List ℕ) (at r : ℕ) → at ≤ length s → Until lineFeed s at r → nextLine s at ≡ r + 1
-next-is s at r h u = rw (from_more lineFeed s at r h u, part_length lineFeed s at r h u) (omega arith)
+pub next_is : (s : List ℕ) (at r : ℕ) → at ≤ length s → Until line_feed s at r → next_line s at ≡ r + 1
+next_is s at r h u = rw (from_more line_feed s at r h u, part_length line_feed s at r h u) (omega arith)
 
-module _ (heard : Bool) (s : List ℕ) (at r : ℕ) (h : at ≤ length s) (u : Until lineFeed s at r) where
+module _ (heard : Bool) (s : List ℕ) (at r : ℕ) (h : at ≤ length s) (u : Until line_feed s at r) where
   -- a line that is not ended
   pub open-line : r ≡ length s → BlockRead heard s at NoBlock
-  open-line e = none_read heard s at (rw (from_last lineFeed s at r h u e))
+  open-line e = none_read heard s at (rw (from_last line_feed s at r h u e))
 
   abbrev text : List ℕ
   text = take (r - at) (drop at s)
@@ -91,8 +91,8 @@ module _ (heard : Bool) (s : List ℕ) (at r : ℕ) (h : at ≤ length s) (u : U
     after = omega (arith, n)
 
     -- a line that is ended
-    found : blockAt heard s at ≡ samplesFound (block_line heard (fields text)) (listedIn heard (fields text))
-    found = rw (from_more lineFeed s at r h u, from_some lineFeed s (r + 1) after)
+    found : block_at heard s at ≡ samples_found (block_line heard (fields text)) (listed_in heard (fields text))
+    found = rw (from_more line_feed s at r h u, from_some line_feed s (r + 1) after)
 
     pub no-block-there : (f : ℕ) → block_line heard (fields text) ≡ Bad f → BlockRead heard s at NoBlock
     no-block-there f e = none_read heard s at (rw (found, e))
@@ -104,25 +104,25 @@ module _ (heard : Bool) (s : List ℕ) (at r : ℕ) (h : at ≤ length s) (u : U
 
     pub block-there : (k : ℕ) → block_line heard (fields text) ≡ Count k → BlockRead heard s at (Read k (r + 1))
     block-there k e = record {
-      reply = rw (next-is s at r h u, found, e) (ap (λ (m : ℕ). Read m (r + 1)) (sym (line-counts heard (fields text) k e)));
+      reply = rw (next_is s at r h u, found, e) (ap (λ (m : ℕ). Read m (r + 1)) (sym (line-counts heard (fields text) k e)));
       place = λ j next q. ended next (place_of q);
     }
       where
         place_of : {j next : ℕ} → Read k (r + 1) ≡ Read j next → r + 1 ≡ next
         place_of q = cc
 
-    module _ (k next : ℕ) (e : Read k next ≡ blockReply (nextLine s at) (blockAt heard s at)) where
+    module _ (k next : ℕ) (e : Read k next ≡ block_reply (next_line s at) (block_at heard s at)) where
       -- it has as many samples as were counted
       pub counted-there : block_line heard (fields text) ≡ Count k
       counted-there = by (block_line heard (fields text)) refl
         where
           by : (d : Samples) → block_line heard (fields text) ≡ d → block_line heard (fields text) ≡ Count k
           by (Count j) g =
-              let f : Read k next ≡ Read (length (listedIn heard (fields text))) (nextLine s at) = rw (found, g) at e in
-              let c : k ≡ length (listedIn heard (fields text)) = cc in
+              let f : Read k next ≡ Read (length (listed_in heard (fields text))) (next_line s at) = rw (found, g) at e in
+              let c : k ≡ length (listed_in heard (fields text)) = cc in
               g ∙ ap Count (sym (c ∙ line-counts heard (fields text) j g))
           by (Bad f) g = no-reply (sym (rw (found, g) at e))
 
       -- its samples in their places
-      pub placed-there : (order : Order) (room room' : List ℤ) → room' ≡ placed order (listedIn heard (fields text)) room → room' ≡ roomAfter order room (blockAt heard s at)
+      pub placed-there : (order : Order) (room room' : List ℤ) → room' ≡ placed order (listed_in heard (fields text)) room → room' ≡ room_after order room (block_at heard s at)
       placed-there order room room' t = rw (found, counted-there) t

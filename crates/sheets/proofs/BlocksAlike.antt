@@ -8,8 +8,8 @@ use mathlib.Core.Path.{◌≡◌, refl, sym, ◌∙◌, ap, subst}
 use native.Mathlib.Omega.{arith}
 use Rattle.sheets.specs.Text.{fields}
 use Rattle.sheets.specs.Words.{word_of}
-use Rattle.sheets.specs.Blocks.{BlockFound, block, no_block, samplesOf, samplesFound, heardRest, blockBy, block_line, heardLine}
-use Rattle.sheets.specs.Lines.{blockIs, heardFields, lineBy, line_of, front}
+use Rattle.sheets.specs.Blocks.{BlockFound, block, no_block, samples_of, samples_found, heard_rest, block_by, block_line, heard_line}
+use Rattle.sheets.specs.Lines.{block_is, heard_fields, line_by, line_of, front}
 use Rattle.sheets.specs.Faults.{after, first_word}
 use Rattle.sheets.specs.declared.Order.{Order}
 use Rattle.sheets.specs.declared.word.Word.{Word}
@@ -40,7 +40,7 @@ part-past true = refl
 
 -- the lines that are sought go by what has come, or by the first of them
 abbrev pub Sought : Came → Bool → List (List ℕ) → Type 0
-Sought Nothing heard fs = heard ≡ heardLine fs
+Sought Nothing heard fs = heard ≡ heard_line fs
 Sought Blocks heard fs = heard ≡ false
 Sought Heards heard fs = heard ≡ true
 
@@ -54,29 +54,29 @@ Alike heard word vs (block us) x = (us ≡ vs) × (x ≡ L.Block) × (word ≡ w
 Alike heard word vs no_block x = x ≡ L.Block → ⊥
 
 -- a word that is neither
-abbrev isOther : Word → ℕ
-isOther Cover = 1
-isOther Mask = 1
-isOther Row = 1
-isOther Block = 0
-isOther Heard = 0
-isOther End = 1
-isOther Other = 1
+abbrev is_other : Word → ℕ
+is_other Cover = 1
+is_other Mask = 1
+is_other Row = 1
+is_other Block = 0
+is_other Heard = 0
+is_other End = 1
+is_other Other = 1
 
 pub never-block : (fault : Fault) → L.Bad fault ≡ L.Block → ⊥
 never-block fault e = let z : ◌≡◌ {A = ℕ} 0 1 = cc in omega arith
 
-samples-alike : (heard : Bool) (vs : List ℤ) (r : Samples) → Alike heard (word_for heard) vs (samplesFound r vs) (blockIs r)
+samples-alike : (heard : Bool) (vs : List ℤ) (r : Samples) → Alike heard (word_for heard) vs (samples_found r vs) (block_is r)
 samples-alike heard vs (S.Count k) = (refl, refl, refl)
 samples-alike heard vs (S.Bad f) = never-block (F.Value f)
 
-heard-alike : (vs : List ℤ) (fs : List (List ℕ)) → Alike true Heard vs (samplesFound (heardRest fs) vs) (heardFields fs)
+heard-alike : (vs : List ℤ) (fs : List (List ℕ)) → Alike true Heard vs (samples_found (heard_rest fs) vs) (heard_fields fs)
 heard-alike vs [] = never-block (F.Count 2)
-heard-alike vs (f ∷ fs) = samples-alike true vs (heardRest (f ∷ fs))
+heard-alike vs (f ∷ fs) = samples-alike true vs (heard_rest (f ∷ fs))
 
 module _ (n : ℕ) (order : Order) where
   -- no row comes after a block or heard line
-  no-row-by : (heard : Bool) (word : Word) (fs : List (List ℕ)) (w : ℕ) → lineBy n order (past heard) word fs ≡ L.Row w → word ≡ Row → ⊥
+  no-row-by : (heard : Bool) (word : Word) (fs : List (List ℕ)) (w : ℕ) → line_by n order (past heard) word fs ≡ L.Row w → word ≡ Row → ⊥
   no-row-by false word fs w e q = let z : L.Bad F.Turn ≡ L.Row w = rw q at e in let y : ◌≡◌ {A = ℕ} 0 1 = cc in omega arith
   no-row-by true word fs w e q = let z : L.Bad F.Turn ≡ L.Row w = rw q at e in let y : ◌≡◌ {A = ℕ} 0 1 = cc in omega arith
 
@@ -90,24 +90,24 @@ module _ (n : ℕ) (order : Order) where
       by (v ∷ fs) g q = no-row-by heard (word_of v) fs w g q
 
   -- a line of another word is no block
-  other_word : (came : Came) (w : List ℕ) (fs : List (List ℕ)) (word : Word) → word_of w ≡ word → isOther word ≡ 1 → lineBy n order came word fs ≡ L.Block → ⊥
+  other_word : (came : Came) (w : List ℕ) (fs : List (List ℕ)) (word : Word) → word_of w ≡ word → is_other word ≡ 1 → line_by n order came word fs ≡ L.Block → ⊥
   other_word came w fs word e o g =
       let f : line_of n order came (w ∷ fs) ≡ L.Block = rw e g in
       by (subst (LineJudged n (part_of came) (w ∷ fs)) f (line-judged n order came (w ∷ fs))).1
     where
       by : Received (word_of w) → ⊥
-      by (inl b) = let z : isOther word ≡ 0 = ap isOther (sym e ∙ b) in omega arith
-      by (inr b) = let z : isOther word ≡ 0 = ap isOther (sym e ∙ b) in omega arith
+      by (inl b) = let z : is_other word ≡ 0 = ap is_other (sym e ∙ b) in omega arith
+      by (inr b) = let z : is_other word ≡ 0 = ap is_other (sym e ∙ b) in omega arith
 
   -- by the word, which decides where nothing has come
   by_word : (came : Came) (heard : Bool) (w : List ℕ) (fs : List (List ℕ)) (vs : List ℤ) (word : Word) → word_of w ≡ word → Sought came heard (w ∷ fs)
-      → Alike heard word vs (samplesFound (blockBy heard word fs) vs) (lineBy n order came word fs)
+      → Alike heard word vs (samples_found (block_by heard word fs) vs) (line_by n order came word fs)
   by_word came heard w fs vs Cover e k = other_word came w fs Cover e refl
   by_word came heard w fs vs Mask e k = other_word came w fs Mask e refl
   by_word came heard w fs vs Row e k = other_word came w fs Row e refl
-  by_word Nothing false w fs vs Block e k = samples-alike false vs (samplesOf 2 0 fs)
+  by_word Nothing false w fs vs Block e k = samples-alike false vs (samples_of 2 0 fs)
   by_word Nothing true w fs vs Block e k = absurd (not-both (rw e at (sym k)) refl)
-  by_word Blocks false w fs vs Block e k = samples-alike false vs (samplesOf 2 0 fs)
+  by_word Blocks false w fs vs Block e k = samples-alike false vs (samples_of 2 0 fs)
   by_word Blocks true w fs vs Block e k = absurd (not-both refl k)
   by_word Heards false w fs vs Block e k = absurd (not-both refl (sym k))
   by_word Heards true w fs vs Block e k = never-block F.Turn
@@ -122,6 +122,6 @@ module _ (n : ℕ) (order : Order) where
 
   -- by its word
   pub alike : (came : Came) (heard : Bool) (fs : List (List ℕ)) (vs : List ℤ) → Sought came heard fs
-      → Alike heard (first_word fs) vs (samplesFound (block_line heard fs) vs) (line_of n order came fs)
+      → Alike heard (first_word fs) vs (samples_found (block_line heard fs) vs) (line_of n order came fs)
   alike came heard [] vs k = never-block F.Turn
   alike came heard (w ∷ fs) vs k = by_word came heard w fs vs (word_of w) refl k

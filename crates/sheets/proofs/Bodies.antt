@@ -5,10 +5,10 @@ use mathlib.Core.Bool.{Bool}
 use mathlib.Core.List.{List}
 use mathlib.Core.Path.{◌≡◌, ◌∙◌, ap, sym}
 use Rattle.sheets.specs.Text.{lines_from}
-use Rattle.sheets.specs.Blocks.{blocksOf, heardFront}
-use Rattle.sheets.specs.Lines.{cameAfter, rows_of, endingOf}
-use Rattle.sheets.specs.Sheet.{Contents, contentsWith, endingAfter}
-use Rattle.sheets.specs.Readers.{BlocksRead, RowsRead, closed, linesReply}
+use Rattle.sheets.specs.Blocks.{blocks_of, heard_front}
+use Rattle.sheets.specs.Lines.{came_after, rows_of, ending_of}
+use Rattle.sheets.specs.Sheet.{Contents, contents_with, ending_after}
+use Rattle.sheets.specs.Readers.{BlocksRead, RowsRead, closed, lines_reply}
 use Rattle.sheets.specs.declared.SheetReply.{SheetReply}
 use Rattle.sheets.specs.declared.cover.Cover.{Cover}
 use Rattle.sheets.specs.declared.line.Came.{Came}
@@ -17,8 +17,8 @@ use Rattle.sheets.specs.declared.body.Run.{Run}
 use Rattle.sheets.proofs.Turns.{by-position-length}
 
 module _ {s : List ℕ} {from : ℕ} (cover : Cover) {rows blocks : Run} {table table' : List ℕ} (p : RowsRead cover.n cover.order s from table rows table')
-    {heard : Bool} (t : heard ≡ heardFront (lines_from s rows.next)) (q : BlocksRead heard s rows.next blocks) {came : Came}
-    (k : came ≡ cameAfter heard blocks.count) {ending : Ending} (e : ending ≡ endingOf cover.n cover.order came (lines_from s blocks.next))
+    {heard : Bool} (t : heard ≡ heard_front (lines_from s rows.next)) (q : BlocksRead heard s rows.next blocks) {came : Came}
+    (k : came ≡ came_after heard blocks.count) {ending : Ending} (e : ending ≡ ending_of cover.n cover.order came (lines_from s blocks.next))
     (line mask : ℕ) where
   abbrev ls : List (List ℕ)
   ls = lines_from s from
@@ -27,16 +27,16 @@ module _ {s : List ℕ} {from : ℕ} (cover : Cover) {rows blocks : Run} {table 
   left = drop (length (rows_of cover.n cover.order ls)) ls
 
   abbrev said : Contents
-  said = contentsWith cover mask ls
+  said = contents_with cover mask ls
 
-  heard-is : heard ≡ heardFront left
-  heard-is = t ∙ ap heardFront p.passed.left
+  heard-is : heard ≡ heard_front left
+  heard-is = t ∙ ap heard_front p.passed.left
 
-  blocks-are : length (blocksOf heard (lines_from s rows.next)) ≡ length said.blocks
+  blocks-are : length (blocks_of heard (lines_from s rows.next)) ≡ length said.blocks
   blocks-are =
-      ap (λ (m : List (List ℕ)). length (blocksOf heard m)) p.passed.left
-      ∙ ap (λ (h : Bool). length (blocksOf h left)) heard-is
-      ∙ sym (by-position-length cover.order (blocksOf (heardFront left) left))
+      ap (λ (m : List (List ℕ)). length (blocks_of heard m)) p.passed.left
+      ∙ ap (λ (h : Bool). length (blocks_of h left)) heard-is
+      ∙ sym (by-position-length cover.order (blocks_of (heard_front left) left))
 
   -- the reply, by how they end
   pub lines_are : {r : SheetReply}
@@ -53,9 +53,9 @@ module _ {s : List ℕ} {from : ℕ} (cover : Cover) {rows blocks : Run} {table 
         blocks = blocks.count;
       })
       ending
-      → r ≡ linesReply from line cover mask ls
+      → r ≡ lines_reply from line cover mask ls
   lines_are g =
       let c : blocks.count ≡ length said.blocks = q.count ∙ blocks-are in
       let l : lines_from s blocks.next ≡ drop (length said.blocks) left = q.left ∙ (rw (blocks-are, p.passed.left)) in
-      let d : ending ≡ endingAfter said ls = e ∙ (rw (k, c, l, heard-is)) in
+      let d : ending ≡ ending_after said ls = e ∙ (rw (k, c, l, heard-is)) in
       g ∙ (rw (p.passed.count, p.passed.next, c, d, heard-is))

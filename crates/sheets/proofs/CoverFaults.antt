@@ -6,11 +6,11 @@ use mathlib.Core.Path.{◌≡◌, refl, ap}
 use native.Mathlib.Omega.{arith}
 use Rattle.sheets.specs.Words.{word_of}
 use Rattle.sheets.specs.Numbers.{is_number, number_of}
-use Rattle.sheets.specs.Covers.{kind_of, order_of, coverIs, coverFields, coverRest, coverBy, coverOf}
-use Rattle.sheets.specs.Lines.{field_of, rowRest}
+use Rattle.sheets.specs.Covers.{kind_of, order_of, cover_is, cover_fields, cover_rest, cover_by, cover_of}
+use Rattle.sheets.specs.Lines.{field_of, row_rest}
 use Rattle.sheets.specs.Lines as lines
-use Rattle.sheets.specs.Masks.{maskIs, maskBy, mask_of}
-use Rattle.sheets.specs.Faults.{onCover, onMask, isKind, is_order, first_word}
+use Rattle.sheets.specs.Masks.{mask_is, mask_by, mask_of}
+use Rattle.sheets.specs.Faults.{on_cover, on_mask, is_kind, is_order, first_word}
 use Rattle.sheets.specs.declared.Order.{Order}
 use Rattle.sheets.specs.declared.number.Number.{Number}
 use Rattle.sheets.specs.declared.number.Number.TheVariants as N
@@ -33,61 +33,61 @@ use Rattle.sheets.proofs.LineFaults.{bits-judged}
 
 -- what a cover that was read says of all that may be wrong with it, and its word
 abbrev pub CoverJudged : ℕ → List (List ℕ) → CoverLine → Type 0
-CoverJudged n fs (C.Is cover) = Right n onCover fs × (first_word fs ≡ Cover)
-CoverJudged n fs (C.Bad fault) = Told n onCover fs (lines.number_of fault) (field_of fault)
+CoverJudged n fs (C.Is cover) = Right n on_cover fs × (first_word fs ≡ Cover)
+CoverJudged n fs (C.Bad fault) = Told n on_cover fs (lines.number_of fault) (field_of fault)
 
 module _ (n : ℕ) (w : List ℕ) (e : word_of w ≡ Cover) where
   -- three fields after the word
-  fields-judged : (f g h : List ℕ) → CoverJudged n (w ∷ f ∷ g ∷ h ∷ []) (coverFields f g h)
-  unfolding coverFields
+  fields-judged : (f g h : List ℕ) → CoverJudged n (w ∷ f ∷ g ∷ h ∷ []) (cover_fields f g h)
+  unfolding cover_fields
   fields-judged f g h = by (number_of 3 f) refl (kind_of g) refl (order_of h) refl
     where
       first : GoodBefore n Cover (w ∷ f ∷ g ∷ h ∷ []) 2
       first = good-on none_before refl
 
       by : (i : Number) → number_of 3 f ≡ i → (k : KindField) → kind_of g ≡ k → (o : OrderField) → order_of h ≡ o
-          → CoverJudged n (w ∷ f ∷ g ∷ h ∷ []) (coverIs i k o)
-      by N.Bad p k q o r = form-told n onCover (w ∷ f ∷ g ∷ h ∷ []) Cover e refl refl 2 (omega arith) (omega arith) (ap is_number p) first
+          → CoverJudged n (w ∷ f ∷ g ∷ h ∷ []) (cover_is i k o)
+      by N.Bad p k q o r = form-told n on_cover (w ∷ f ∷ g ∷ h ∷ []) Cover e refl refl 2 (omega arith) (omega arith) (ap is_number p) first
       by (N.Is i) p K.Bad q o r =
-          form-told n onCover (w ∷ f ∷ g ∷ h ∷ []) Cover e refl refl 3 (omega arith) (omega arith) (ap isKind q) (good-on first (ap is_number p))
+          form-told n on_cover (w ∷ f ∷ g ∷ h ∷ []) Cover e refl refl 3 (omega arith) (omega arith) (ap is_kind q) (good-on first (ap is_number p))
       by (N.Is i) p (K.Is k) q O.Bad r =
-          form-told n onCover (w ∷ f ∷ g ∷ h ∷ []) Cover e refl refl 4 (omega arith) (omega arith) (ap is_order r)
-          (good-on (good-on first (ap is_number p)) (ap isKind q))
+          form-told n on_cover (w ∷ f ∷ g ∷ h ∷ []) Cover e refl refl 4 (omega arith) (omega arith) (ap is_order r)
+          (good-on (good-on first (ap is_number p)) (ap is_kind q))
       by (N.Is i) p (K.Is k) q (O.Is o) r =
-          (all_right n onCover (w ∷ f ∷ g ∷ h ∷ []) Cover e refl refl (good-on (good-on (good-on first (ap is_number p)) (ap isKind q)) (ap is_order r)), e)
+          (all_right n on_cover (w ∷ f ∷ g ∷ h ∷ []) Cover e refl refl (good-on (good-on (good-on first (ap is_number p)) (ap is_kind q)) (ap is_order r)), e)
 
   -- exactly three
-  rest-judged : (fs : List (List ℕ)) → CoverJudged n (w ∷ fs) (coverRest fs)
-  rest-judged [] = few-told n onCover (w ∷ []) Cover e refl (omega arith)
-  rest-judged (f ∷ []) = few-told n onCover (w ∷ f ∷ []) Cover e refl (omega arith)
-  rest-judged (f ∷ g ∷ []) = few-told n onCover (w ∷ f ∷ g ∷ []) Cover e refl (omega arith)
+  rest-judged : (fs : List (List ℕ)) → CoverJudged n (w ∷ fs) (cover_rest fs)
+  rest-judged [] = few-told n on_cover (w ∷ []) Cover e refl (omega arith)
+  rest-judged (f ∷ []) = few-told n on_cover (w ∷ f ∷ []) Cover e refl (omega arith)
+  rest-judged (f ∷ g ∷ []) = few-told n on_cover (w ∷ f ∷ g ∷ []) Cover e refl (omega arith)
   rest-judged (f ∷ g ∷ h ∷ []) = fields-judged f g h
-  rest-judged (f ∷ g ∷ h ∷ i ∷ fs) = many-told n onCover (w ∷ f ∷ g ∷ h ∷ i ∷ fs) Cover e refl (omega arith)
+  rest-judged (f ∷ g ∷ h ∷ i ∷ fs) = many-told n on_cover (w ∷ f ∷ g ∷ h ∷ i ∷ fs) Cover e refl (omega arith)
 
 -- the cover
-pub cover-judged : (n : ℕ) (fs : List (List ℕ)) → CoverJudged n fs (coverOf fs)
-cover-judged n [] = turn-told n onCover [] Other refl refl
+pub cover-judged : (n : ℕ) (fs : List (List ℕ)) → CoverJudged n fs (cover_of fs)
+cover-judged n [] = turn-told n on_cover [] Other refl refl
 cover-judged n (w ∷ fs) = by (word_of w) refl
   where
-    by : (word : Word) → word_of w ≡ word → CoverJudged n (w ∷ fs) (coverBy word fs)
+    by : (word : Word) → word_of w ≡ word → CoverJudged n (w ∷ fs) (cover_by word fs)
     by Cover e = rest-judged n w e fs
-    by Mask e = turn-told n onCover (w ∷ fs) Mask e refl
-    by Row e = turn-told n onCover (w ∷ fs) Row e refl
-    by Block e = turn-told n onCover (w ∷ fs) Block e refl
-    by Heard e = turn-told n onCover (w ∷ fs) Heard e refl
-    by End e = turn-told n onCover (w ∷ fs) End e refl
-    by Other e = turn-told n onCover (w ∷ fs) Other e refl
+    by Mask e = turn-told n on_cover (w ∷ fs) Mask e refl
+    by Row e = turn-told n on_cover (w ∷ fs) Row e refl
+    by Block e = turn-told n on_cover (w ∷ fs) Block e refl
+    by Heard e = turn-told n on_cover (w ∷ fs) Heard e refl
+    by End e = turn-told n on_cover (w ∷ fs) End e refl
+    by Other e = turn-told n on_cover (w ∷ fs) Other e refl
 
 -- ---- the mask
 
 -- what the line after the cover says of all that may be wrong with it, where its word is mask
 abbrev pub MaskJudged : ℕ → List (List ℕ) → MaskLine → Type 0
-MaskJudged n fs (M.Is w) = Right n onMask fs × (first_word fs ≡ Mask)
+MaskJudged n fs (M.Is w) = Right n on_mask fs × (first_word fs ≡ Mask)
 MaskJudged n fs M.NoMask = first_word fs ≡ Mask → ⊥
-MaskJudged n fs (M.Bad fault) = Told n onMask fs (lines.number_of fault) (field_of fault)
+MaskJudged n fs (M.Bad fault) = Told n on_mask fs (lines.number_of fault) (field_of fault)
 
 -- the field after mask is judged as a row's
-field-judged : (n : ℕ) (fs : List (List ℕ)) (x : Line) → BitsJudged n true fs x → MaskJudged n fs (maskIs x)
+field-judged : (n : ℕ) (fs : List (List ℕ)) (x : Line) → BitsJudged n true fs x → MaskJudged n fs (mask_is x)
 field-judged n fs (L.Row w) h = h
 field-judged n fs L.Block h = absurd h
 field-judged n fs L.End h = absurd h
@@ -98,9 +98,9 @@ pub mask-judged : (n : ℕ) (order : Order) (fs : List (List ℕ)) → MaskJudge
 mask-judged n order [] = λ e. (let z : ◌≡◌ {A = ℕ} 0 1 = cc in omega arith)
 mask-judged n order (w ∷ fs) = by (word_of w) refl
   where
-    by : (word : Word) → word_of w ≡ word → MaskJudged n (w ∷ fs) (maskBy n order word fs)
+    by : (word : Word) → word_of w ≡ word → MaskJudged n (w ∷ fs) (mask_by n order word fs)
     by Cover e = λ q. (let z : ◌≡◌ {A = ℕ} 0 1 = cc in omega arith)
-    by Mask e = field-judged n (w ∷ fs) (rowRest n order fs) (bits-judged n order w true e fs)
+    by Mask e = field-judged n (w ∷ fs) (row_rest n order fs) (bits-judged n order w true e fs)
     by Row e = λ q. (let z : ◌≡◌ {A = ℕ} 0 1 = cc in omega arith)
     by Block e = λ q. (let z : ◌≡◌ {A = ℕ} 0 1 = cc in omega arith)
     by Heard e = λ q. (let z : ◌≡◌ {A = ℕ} 0 1 = cc in omega arith)

@@ -11,7 +11,7 @@ use mir.Syntax.{w16}
 use mir.Val.{SFits}
 use native.Mathlib.Nat.{pow-suc, pow-le-pow_right, mul-le-mul_right, suc-mul, lt_of_lt_of_le}
 use native.Mathlib.Omega.{arith}
-use Rattle.sheets.specs.Numbers.{isDigit, digitsOf}
+use Rattle.sheets.specs.Numbers.{is_digit, digits_of}
 use Rattle.sheets.specs.Readers.{Below}
 use Rattle.sheets.specs.declared.number.Number.{Number}
 use Rattle.sheets.specs.declared.number.Number.TheVariants.{Is, Bad}
@@ -19,14 +19,14 @@ use Rattle.sheets.proofs.Bytes.{here, done}
 
 module _ (f : List ℕ) (i v : ℕ) where
   -- one digit more
-  pub digits-on : i < length f → isDigit (get_or f i 0) ≡ true → digitsOf v (drop i f) ≡ digitsOf (v * 10 + (get_or f i 0 - 48)) (drop (i + 1) f)
+  pub digits-on : i < length f → is_digit (get_or f i 0) ≡ true → digits_of v (drop i f) ≡ digits_of (v * 10 + (get_or f i 0 - 48)) (drop (i + 1) f)
   digits-on h e = rw (here f i h, e)
 
   -- none of the ten
-  pub digits-bad : i < length f → isDigit (get_or f i 0) ≡ false → digitsOf v (drop i f) ≡ Bad
+  pub digits-bad : i < length f → is_digit (get_or f i 0) ≡ false → digits_of v (drop i f) ≡ Bad
   digits-bad h e = rw (here f i h, e)
 
-  pub digits-done : length f ≤ i → digitsOf v (drop i f) ≡ Is v
+  pub digits-done : length f ≤ i → digits_of v (drop i f) ≡ Is v
   digits-done h = rw (done f i h)
 
 both : (a b : Bool) → (a && b) ≡ true → (a ≡ true) × (b ≡ true)

@@ -10,10 +10,10 @@ use Rattle.plates.specs.Refusals.{field, number, place}
 use Rattle.plates.specs.declared.Verdict.{Verdict}
 use Rattle.plates.specs.declared.Verdict.TheVariants as J
 use Rattle.sheets.specs.Text.{fields}
-use Rattle.sheets.specs.Blocks.{BlockFound, block, no_block, samplesFound, block_line, listedIn, blockThen, blocksOf, heardFront}
-use Rattle.sheets.specs.Lines.{field_of, number_of, line_of, front, rowThen, rows_of, after_end, cameAfter, endBy, endingOf}
-use Rattle.sheets.specs.Sheet.{refusalOf, lineVerdict}
-use Rattle.sheets.specs.Faults.{BeforeAt, Part, onRows, onNothing, after, first_word, WrongHere, WrongAt, FirstFault}
+use Rattle.sheets.specs.Blocks.{BlockFound, block, no_block, samples_found, block_line, listed_in, block_then, blocks_of, heard_front}
+use Rattle.sheets.specs.Lines.{field_of, number_of, line_of, front, row_then, rows_of, after_end, came_after, end_by, ending_of}
+use Rattle.sheets.specs.Sheet.{refusal_of, line_verdict}
+use Rattle.sheets.specs.Faults.{BeforeAt, Part, on_rows, on_nothing, after, first_word, WrongHere, WrongAt, FirstFault}
 use Rattle.sheets.specs.declared.Order.{Order}
 use Rattle.sheets.specs.declared.line.Came.{Came}
 use Rattle.sheets.specs.declared.line.Came.TheVariants.{Nothing, Blocks, Heards}
@@ -36,7 +36,7 @@ module _ (n : ℕ) where
 
   -- by its first fault
   pub first-here : (part : Part) (l m : List ℕ) (ms : List (List ℕ)) (line : ℕ) (fault : Fault)
-      → Told n part (fields l) (number_of fault) (field_of fault) → LinesJudged part (l ∷ m ∷ ms) line (J.Refused (refusalOf line fault))
+      → Told n part (fields l) (number_of fault) (field_of fault) → LinesJudged part (l ∷ m ∷ ms) line (J.Refused (refusal_of line fault))
   first-here part l m ms line fault t =
       let e = number-of-line line fault in
       (0, omega (arith, e.1), rw (e.0, e.2) (record { is = t.is; first = go }))
@@ -48,7 +48,7 @@ module _ (n : ℕ) where
 
   -- it is missing or not ended
   pub open-here : (part : Part) (ls : List (List ℕ)) (line : ℕ) → WrongHere n part ls 10 0 → ((m b : ℕ) → WrongHere n part ls m b → (m ≡ 10) × (b ≡ 0))
-      → LinesJudged part ls line (J.Refused (refusalOf line F.Missing))
+      → LinesJudged part ls line (J.Refused (refusal_of line F.Missing))
   open-here part ls line h only = (0, omega arith, record { is = h; first = go })
     where
       go : (k i b : ℕ) → WrongAt n part ls k i b → BeforeAt 1 10 0 k i b
@@ -82,28 +82,28 @@ module _ (n : ℕ) where
   -- ---- after end
 
   -- nothing, or 10, or 17
-  nothing-judged : (line : ℕ) (m : List ℕ) (ms : List (List ℕ)) → LinesJudged onNothing (m ∷ ms) (line + 1) (lineVerdict line (after_end (m ∷ ms)))
+  nothing-judged : (line : ℕ) (m : List ℕ) (ms : List (List ℕ)) → LinesJudged on_nothing (m ∷ ms) (line + 1) (line_verdict line (after_end (m ∷ ms)))
   nothing-judged line [] [] = go
     where
-      go : (k i b : ℕ) → WrongAt n onNothing ([] ∷ []) k i b → ⊥
+      go : (k i b : ℕ) → WrongAt n on_nothing ([] ∷ []) k i b → ⊥
       go zero i b w = w
       go (suc zero) i b w = w
       go (suc (suc zero)) i b w = w
       go (suc (suc (suc k))) i b w = w
-  nothing-judged line (x ∷ xs) [] = open-here onNothing ((x ∷ xs) ∷ []) (line + 1) (refl, refl) (λ m b w. w)
-  nothing-judged line l (m ∷ ms) = first-here onNothing l m ms (line + 1) F.Turn (turn-told n onNothing (fields l) (first_word (fields l)) refl refl)
+  nothing-judged line (x ∷ xs) [] = open-here on_nothing ((x ∷ xs) ∷ []) (line + 1) (refl, refl) (λ m b w. w)
+  nothing-judged line l (m ∷ ms) = first-here on_nothing l m ms (line + 1) F.Turn (turn-told n on_nothing (fields l) (first_word (fields l)) refl refl)
 
   -- ---- the line that is to be end
 
   module _ (order : Order) where
     -- a line that is missing or not ended, before end has come
     missing : (came : Came) (ls : List (List ℕ)) (line : ℕ) → ((m b : ℕ) → WrongHere n (part_of came) ls m b ≡ ((m ≡ 10) × (b ≡ 0)))
-        → LinesJudged (part_of came) ls line (J.Refused (refusalOf line F.Missing))
+        → LinesJudged (part_of came) ls line (J.Refused (refusal_of line F.Missing))
     missing came ls line e = open-here (part_of came) ls line (rw (e 10 0) (refl, refl)) (λ m b w. rw (e m b) at w)
 
     -- neither a row nor a block: end, or the first fault
     ending-judged : (came : Came) (ls : List (List ℕ)) (line : ℕ) → ((w : ℕ) → front n order came ls ≡ L.Row w → ⊥) → (front n order came ls ≡ L.Block → ⊥)
-        → LinesJudged (part_of came) ls line (lineVerdict line (endingOf n order came ls))
+        → LinesJudged (part_of came) ls line (line_verdict line (ending_of n order came ls))
     ending-judged Nothing [] line r b = missing Nothing [] line (λ i j. refl)
     ending-judged Blocks [] line r b = missing Blocks [] line (λ i j. refl)
     ending-judged Heards [] line r b = missing Heards [] line (λ i j. refl)
@@ -113,26 +113,26 @@ module _ (n : ℕ) where
     ending-judged came (l ∷ m ∷ ms) line r b = by (line_of n order came (fields l)) refl (line-judged n order came (fields l))
       where
         by : (x : Line) → line_of n order came (fields l) ≡ x → LineJudged n (part_of came) (fields l) x
-            → LinesJudged (part_of came) (l ∷ m ∷ ms) line (lineVerdict line (endBy x (m ∷ ms)))
+            → LinesJudged (part_of came) (l ∷ m ∷ ms) line (line_verdict line (end_by x (m ∷ ms)))
         by (L.Row w) e h = absurd (r w e)
         by L.Block e h = absurd (b e)
-        by L.End e h = on (part_of came) onNothing l m ms line (lineVerdict line (after_end (m ∷ ms))) h.0 (ap after h.1) (nothing-judged line m ms)
+        by L.End e h = on (part_of came) on_nothing l m ms line (line_verdict line (after_end (m ∷ ms))) h.0 (ap after h.1) (nothing-judged line m ms)
         by (L.Bad fault) e h = first-here (part_of came) l m ms line fault h
 
     -- ---- blocks and heard lines
 
     -- what has come after so many more
-    abbrev cameThen : Came → Bool → ℕ → Came
-    cameThen came heard zero = came
-    cameThen came heard (suc k) = past heard
+    abbrev came_then : Came → Bool → ℕ → Came
+    came_then came heard zero = came
+    came_then came heard (suc k) = past heard
 
     -- how the lines end after them
-    abbrev blocksEnd : Came → Bool → List (List ℕ) → Ending
-    blocksEnd came heard ls = endingOf n order (cameThen came heard (length (blocksOf heard ls))) (drop (length (blocksOf heard ls)) ls)
+    abbrev blocks_end : Came → Bool → List (List ℕ) → Ending
+    blocks_end came heard ls = ending_of n order (came_then came heard (length (blocks_of heard ls))) (drop (length (blocks_of heard ls)) ls)
 
     -- no more comes
     none-judged : (came : Came) (ls : List (List ℕ)) (line : ℕ) → ((w : ℕ) → front n order came ls ≡ L.Row w → ⊥) → (front n order came ls ≡ L.Block → ⊥)
-        → LinesJudged (part_of came) ls line (lineVerdict (0 + line) (endingOf n order came ls))
+        → LinesJudged (part_of came) ls line (line_verdict (0 + line) (ending_of n order came ls))
     none-judged came ls line r b = let z : 0 + line ≡ line = omega arith in rw z (ending-judged came ls line r b)
 
     -- the first of some lines is sought
@@ -145,77 +145,77 @@ module _ (n : ℕ) where
     past_first heard (l ∷ ls) = past-sought heard (fields l)
 
     -- one more leaves what comes after it
-    then-past : (heard : Bool) (k : ℕ) → cameThen (past heard) heard k ≡ past heard
+    then-past : (heard : Bool) (k : ℕ) → came_then (past heard) heard k ≡ past heard
     then-past heard zero = refl
     then-past heard (suc k) = refl
 
     -- blocks, and the line after them
     blocks-judged : (came : Came) (heard : Bool) (ls : List (List ℕ)) (line : ℕ) → SoughtFirst came heard ls → ((w : ℕ) → front n order came ls ≡ L.Row w → ⊥)
-        → LinesJudged (part_of came) ls line (lineVerdict (length (blocksOf heard ls) + line) (blocksEnd came heard ls))
+        → LinesJudged (part_of came) ls line (line_verdict (length (blocks_of heard ls) + line) (blocks_end came heard ls))
     blocks-judged came heard [] line k r = none-judged came [] line r (never-block F.Missing)
     blocks-judged came heard (l ∷ []) line k r = none-judged came (l ∷ []) line r (never-block F.Missing)
     blocks-judged came heard (l ∷ m ∷ ms) line k r =
         by (blocks-judged (past heard) heard (m ∷ ms) (line + 1) (past_first heard (m ∷ ms)) (no_row n order heard (m ∷ ms)))
-        (samplesFound (block_line heard (fields l)) (listedIn heard (fields l))) (alike n order came heard (fields l) (listedIn heard (fields l)) k)
+        (samples_found (block_line heard (fields l)) (listed_in heard (fields l))) (alike n order came heard (fields l) (listed_in heard (fields l)) k)
       where
-        by : LinesJudged (part_of (past heard)) (m ∷ ms) (line + 1) (lineVerdict (length (blocksOf heard (m ∷ ms)) + (line + 1)) (blocksEnd (past heard) heard (m ∷ ms)))
-            → (found : BlockFound) → Alike heard (first_word (fields l)) (listedIn heard (fields l)) found (line_of n order came (fields l))
+        by : LinesJudged (part_of (past heard)) (m ∷ ms) (line + 1) (line_verdict (length (blocks_of heard (m ∷ ms)) + (line + 1)) (blocks_end (past heard) heard (m ∷ ms)))
+            → (found : BlockFound) → Alike heard (first_word (fields l)) (listed_in heard (fields l)) found (line_of n order came (fields l))
             → LinesJudged (part_of came) (l ∷ m ∷ ms) line
-            (lineVerdict (length (blockThen found (blocksOf heard (m ∷ ms))) + line)
-            (endingOf n order (cameThen came heard (length (blockThen found (blocksOf heard (m ∷ ms))))) (drop (length (blockThen found (blocksOf heard (m ∷ ms)))) (l ∷ m ∷ ms))))
+            (line_verdict (length (block_then found (blocks_of heard (m ∷ ms))) + line)
+            (ending_of n order (came_then came heard (length (block_then found (blocks_of heard (m ∷ ms))))) (drop (length (block_then found (blocks_of heard (m ∷ ms)))) (l ∷ m ∷ ms))))
         by h (block us) a =
             let j : LineJudged n (part_of came) (fields l) L.Block = subst (LineJudged n (part_of came) (fields l)) a.1 (line-judged n order came (fields l)) in
-            let b = length (blocksOf heard (m ∷ ms)) in
+            let b = length (blocks_of heard (m ∷ ms)) in
             let e : suc b + line ≡ b + (line + 1) = omega arith in
-            let g : LinesJudged (part_of (past heard)) (m ∷ ms) (line + 1) (lineVerdict (b + (line + 1)) (endingOf n order (past heard) (drop b (m ∷ ms)))) =
+            let g : LinesJudged (part_of (past heard)) (m ∷ ms) (line + 1) (line_verdict (b + (line + 1)) (ending_of n order (past heard) (drop b (m ∷ ms)))) =
             rw (then-past heard b) at h in
             rw e
-            (on (part_of came) (part_of (past heard)) l m ms line (lineVerdict (b + (line + 1)) (endingOf n order (past heard) (drop b (m ∷ ms)))) j.0
+            (on (part_of came) (part_of (past heard)) l m ms line (line_verdict (b + (line + 1)) (ending_of n order (past heard) (drop b (m ∷ ms)))) j.0
             (ap after a.2 ∙ part-past heard) g)
         by h no_block a = none-judged came (l ∷ m ∷ ms) line r a
 
     -- ---- rows
 
-    first-sought : (ls : List (List ℕ)) → SoughtFirst Nothing (heardFront ls) ls
+    first-sought : (ls : List (List ℕ)) → SoughtFirst Nothing (heard_front ls) ls
     first-sought [] = tt
     first-sought (l ∷ ls) = refl
 
-    then-after : (heard : Bool) (k : ℕ) → cameThen Nothing heard k ≡ cameAfter heard k
+    then-after : (heard : Bool) (k : ℕ) → came_then Nothing heard k ≡ came_after heard k
     then-after heard zero = refl
     then-after false (suc k) = refl
     then-after true (suc k) = refl
 
     -- how the lines end after the blocks or heard lines at their front
-    abbrev frontEnd : List (List ℕ) → Ending
-    frontEnd ls = endingOf n order (cameAfter (heardFront ls) (length (blocksOf (heardFront ls) ls))) (drop (length (blocksOf (heardFront ls) ls)) ls)
+    abbrev front_end : List (List ℕ) → Ending
+    front_end ls = ending_of n order (came_after (heard_front ls) (length (blocks_of (heard_front ls) ls))) (drop (length (blocks_of (heard_front ls) ls)) ls)
 
     -- no row comes
     no_rows : (ls : List (List ℕ)) (line : ℕ) → ((w : ℕ) → front n order Nothing ls ≡ L.Row w → ⊥)
-        → LinesJudged onRows ls line (lineVerdict (0 + (length (blocksOf (heardFront ls) ls) + line)) (frontEnd ls))
+        → LinesJudged on_rows ls line (line_verdict (0 + (length (blocks_of (heard_front ls) ls) + line)) (front_end ls))
     no_rows ls line r =
-        let t = heardFront ls in
-        let b = length (blocksOf t ls) in
+        let t = heard_front ls in
+        let b = length (blocks_of t ls) in
         let z : 0 + (b + line) ≡ b + line = omega arith in
         rw (z, ← (then-after t b)) (blocks-judged Nothing t ls line (first-sought ls) r)
 
     -- the lines after the cover
     pub rows-judged : (ls : List (List ℕ)) (line : ℕ) → let left = drop (length (rows_of n order ls)) ls in
-        LinesJudged onRows ls line (lineVerdict (length (rows_of n order ls) + (length (blocksOf (heardFront left) left) + line)) (frontEnd left))
+        LinesJudged on_rows ls line (line_verdict (length (rows_of n order ls) + (length (blocks_of (heard_front left) left) + line)) (front_end left))
     rows-judged [] line = no_rows [] line (λ w e. (let z : ◌≡◌ {A = ℕ} 0 1 = cc in absurd (omega arith)))
     rows-judged (l ∷ []) line = no_rows (l ∷ []) line (λ w e. (let z : ◌≡◌ {A = ℕ} 0 1 = cc in absurd (omega arith)))
     rows-judged (l ∷ m ∷ ms) line = by (rows-judged (m ∷ ms) (line + 1)) (line_of n order Nothing (fields l)) refl (line-judged n order Nothing (fields l))
       where
         by : (let left = drop (length (rows_of n order (m ∷ ms))) (m ∷ ms) in
-            LinesJudged onRows (m ∷ ms) (line + 1) (lineVerdict (length (rows_of n order (m ∷ ms)) + (length (blocksOf (heardFront left) left) + (line + 1))) (frontEnd left)))
-            → (x : Line) → line_of n order Nothing (fields l) ≡ x → LineJudged n onRows (fields l) x
-            → let left = drop (length (rowThen x (rows_of n order (m ∷ ms)))) (l ∷ m ∷ ms) in
-            LinesJudged onRows (l ∷ m ∷ ms) line (lineVerdict (length (rowThen x (rows_of n order (m ∷ ms))) + (length (blocksOf (heardFront left) left) + line)) (frontEnd left))
+            LinesJudged on_rows (m ∷ ms) (line + 1) (line_verdict (length (rows_of n order (m ∷ ms)) + (length (blocks_of (heard_front left) left) + (line + 1))) (front_end left)))
+            → (x : Line) → line_of n order Nothing (fields l) ≡ x → LineJudged n on_rows (fields l) x
+            → let left = drop (length (row_then x (rows_of n order (m ∷ ms)))) (l ∷ m ∷ ms) in
+            LinesJudged on_rows (l ∷ m ∷ ms) line (line_verdict (length (row_then x (rows_of n order (m ∷ ms))) + (length (blocks_of (heard_front left) left) + line)) (front_end left))
         by h (L.Row w) e j =
             let k = length (rows_of n order (m ∷ ms)) in
             let left = drop k (m ∷ ms) in
-            let b = length (blocksOf (heardFront left) left) in
+            let b = length (blocks_of (heard_front left) left) in
             let s : suc k + (b + line) ≡ k + (b + (line + 1)) = omega arith in
-            rw s (on onRows onRows l m ms line (lineVerdict (k + (b + (line + 1))) (frontEnd left)) j.0 (ap after j.1) h)
+            rw s (on on_rows on_rows l m ms line (line_verdict (k + (b + (line + 1))) (front_end left)) j.0 (ap after j.1) h)
         by h L.Block e j = no_rows (l ∷ m ∷ ms) line (λ w g. (let z : ◌≡◌ {A = ℕ} 0 1 = cc in absurd (omega arith)))
         by h L.End e j = no_rows (l ∷ m ∷ ms) line (λ w g. (let z : ◌≡◌ {A = ℕ} 0 1 = cc in absurd (omega arith)))
         by h (L.Bad f) e j = no_rows (l ∷ m ∷ ms) line (λ w g. (let z : ◌≡◌ {A = ℕ} 0 1 = cc in absurd (omega arith)))

@@ -9,9 +9,9 @@ use Rattle.plates.specs.declared.Refusal.{Refusal}
 use Rattle.plates.specs.declared.Refusal.TheVariants.{Length, SheetLine}
 use Rattle.plates.specs.declared.Verdict.{Verdict}
 use Rattle.plates.specs.declared.Verdict.TheVariants as J
-use Rattle.sheets.specs.Text.{lineFeed, fields, lines}
-use Rattle.sheets.specs.Covers.{coverOf}
-use Rattle.sheets.specs.Sheet.{coverFront, coverIn, coverBad, lengthBad, firstRefusal, refusalOf}
+use Rattle.sheets.specs.Text.{line_feed, fields, lines}
+use Rattle.sheets.specs.Covers.{cover_of}
+use Rattle.sheets.specs.Sheet.{cover_front, cover_in, cover_bad, length_bad, first_refusal, refusal_of}
 use Rattle.sheets.specs.Readers.{HeadIs, HeadRead, Until}
 use Rattle.sheets.specs.declared.line.Fault.{Fault}
 use Rattle.sheets.specs.declared.cover.Cover.{Cover}
@@ -23,10 +23,10 @@ use Rattle.sheets.proofs.Endings.{line-closed}
 
 module _ (s : List ℕ) where
   abbrev verdict : CoverLine → Verdict
-  verdict line = firstRefusal (coverBad line ∷ lengthBad (coverIn line).n ∷ [])
+  verdict line = first_refusal (cover_bad line ∷ length_bad (cover_in line).n ∷ [])
 
   -- a refusal
-  head-refused : (q : Refusal) → verdict (coverFront (lines s)) ≡ J.Refused q → HeadRead s (Refused q)
+  head-refused : (q : Refusal) → verdict (cover_front (lines s)) ≡ J.Refused q → HeadRead s (Refused q)
   head-refused q e = record { is = λ cover next g. never g; not = λ p g. e ∙ ap J.Refused (same g) }
     where
       never : {A : Type 0} {cover : Cover} {next : ℕ} → Refused q ≡ Is cover next → A
@@ -35,17 +35,17 @@ module _ (s : List ℕ) where
       same : {p : Refusal} → Refused q ≡ Refused p → q ≡ p
       same g = cc
 
-  module _ (r : ℕ) (u : Until lineFeed s 0 r) where
+  module _ (r : ℕ) (u : Until line_feed s 0 r) where
     -- no line
     pub head-open : r ≡ length s → HeadRead s (Refused (SheetLine 1))
-    head-open e = head-refused (SheetLine 1) (rw (parts-front lineFeed s r u, after_last lineFeed s r u.high e))
+    head-open e = head-refused (SheetLine 1) (rw (parts-front line_feed s r u, after_last line_feed s r u.high e))
 
-    module _ (n : r ≡ length s → ⊥) (line : CoverLine) (e : coverOf (fields (take r s)) ≡ line) where
-      is-line : coverFront (lines s) ≡ line
-      is-line = ap coverFront (parts-front lineFeed s r u) ∙ rw (after-some lineFeed s r u.high n) e
+    module _ (n : r ≡ length s → ⊥) (line : CoverLine) (e : cover_of (fields (take r s)) ≡ line) where
+      is-line : cover_front (lines s) ≡ line
+      is-line = ap cover_front (parts-front line_feed s r u) ∙ rw (after-some line_feed s r u.high n) e
 
       -- a line that is no cover
-      pub head-bad : (f : Fault) → line ≡ C.Bad f → (q : Refusal) → q ≡ refusalOf 1 f → HeadRead s (Refused q)
+      pub head-bad : (f : Fault) → line ≡ C.Bad f → (q : Refusal) → q ≡ refusal_of 1 f → HeadRead s (Refused q)
       head-bad f g q h = head-refused q (rw (is-line ∙ g, h))
 
       module _ (cover : Cover) (q : line ≡ C.Is cover) where

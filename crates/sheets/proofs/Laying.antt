@@ -33,18 +33,18 @@ module _ {A : Type 0} where
   laid-full (v ∷ vs) (x ∷ room) h = ap (λ (r : List A). v ∷ r) (laid-full vs room (omega arith))
 
   -- the values in the places from k on
-  abbrev pub laidFrom : ℕ → List A → List A → List A
-  laidFrom zero vs room = laid vs room
-  laidFrom (suc k) vs [] = []
-  laidFrom (suc k) vs (x ∷ room) = x ∷ laidFrom k vs room
+  abbrev pub laid_from : ℕ → List A → List A → List A
+  laid_from zero vs room = laid vs room
+  laid_from (suc k) vs [] = []
+  laid_from (suc k) vs (x ∷ room) = x ∷ laid_from k vs room
 
-  pub laid_none : (k : ℕ) (room : List A) → laidFrom k [] room ≡ room
+  pub laid_none : (k : ℕ) (room : List A) → laid_from k [] room ≡ room
   laid_none zero room = refl
   laid_none (suc k) [] = refl
   laid_none (suc k) (x ∷ room) = ap (λ (r : List A). x ∷ r) (laid_none k room)
 
   -- one value more
-  pub laid_on : (k : ℕ) (v : A) (vs room : List A) → laidFrom (suc k) vs (set room k v) ≡ laidFrom k (v ∷ vs) room
+  pub laid_on : (k : ℕ) (v : A) (vs room : List A) → laid_from (suc k) vs (set room k v) ≡ laid_from k (v ∷ vs) room
   laid_on zero v vs [] = refl
   laid_on zero v vs (x ∷ room) = refl
   laid_on (suc k) v vs [] = refl

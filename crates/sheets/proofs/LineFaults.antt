@@ -10,14 +10,14 @@ use mathlib.Core.Path.{◌≡◌, refl, sym, ◌∙◌, ap}
 use native.Mathlib.Decide.{dec_lt}
 use native.Mathlib.Omega.{arith}
 use Rattle.sheets.specs.Words.{word_of}
-use Rattle.sheets.specs.Numbers.{counterOf, is_number, number_of, sampleOf}
-use Rattle.sheets.specs.Rows.{bitsOnly, wordFrom}
-use Rattle.sheets.specs.Turning.{inOrder}
-use Rattle.sheets.specs.Blocks.{isSample, samplesOf}
-use Rattle.sheets.specs.Lines.{field_of, rowIs, rowRest, blockIs, heardFields, endRest, lineBy, line_of}
+use Rattle.sheets.specs.Numbers.{counter_of, is_number, number_of, sample_of}
+use Rattle.sheets.specs.Rows.{bits_only, word_from}
+use Rattle.sheets.specs.Turning.{in_order}
+use Rattle.sheets.specs.Blocks.{is_sample, samples_of}
+use Rattle.sheets.specs.Lines.{field_of, row_is, row_rest, block_is, heard_fields, end_rest, line_by, line_of}
 use Rattle.sheets.specs.Lines as lines
-use Rattle.sheets.specs.Faults.{Part, onMask, onRows, onBlocks, onHeard, in_turn, due, firstOff, goodField, formNumber, field_at, first_word}
-use Rattle.sheets.specs.Faults.{Wrong, outOfTurn, miscounted, malformed, Before}
+use Rattle.sheets.specs.Faults.{Part, on_mask, on_rows, on_blocks, on_heard, in_turn, due, first_off, good_field, form_number, field_at, first_word}
+use Rattle.sheets.specs.Faults.{Wrong, out_of_turn, miscounted, malformed, Before}
 use Rattle.sheets.specs.declared.Order.{Order}
 use Rattle.sheets.specs.declared.word.Word.{Word}
 use Rattle.sheets.specs.declared.word.Word.TheVariants.{Cover, Mask, Row, Block, Heard, End, Other}
@@ -43,7 +43,7 @@ Right n part fs = (m b : ℕ) → Wrong n part fs m b → ⊥
 
 -- the fields before this one are of their form
 pub record GoodBefore (n : ℕ) (word : Word) (fs : List (List ℕ)) (at : ℕ) : Type 0 where
-  pub good : (b : ℕ) → 1 ≤ b → b < at → goodField n word b (field_at fs b) ≡ true
+  pub good : (b : ℕ) → 1 ≤ b → b < at → good_field n word b (field_at fs b) ≡ true
 
 module _ {n : ℕ} {word : Word} {fs : List (List ℕ)} where
   -- there is none before the first
@@ -51,15 +51,15 @@ module _ {n : ℕ} {word : Word} {fs : List (List ℕ)} where
   none_before = record { good = λ b l k. absurd (omega arith) }
 
   -- one field more
-  pub good-on : {at : ℕ} → GoodBefore n word fs at → goodField n word at (field_at fs at) ≡ true → GoodBefore n word fs (suc at)
+  pub good-on : {at : ℕ} → GoodBefore n word fs at → good_field n word at (field_at fs at) ≡ true → GoodBefore n word fs (suc at)
   good-on {at} before here = record { good = λ b l k. by b l k (dec_lt b at) }
     where
-      by : (b : ℕ) → 1 ≤ b → b < suc at → Dec (b < at) → goodField n word b (field_at fs b) ≡ true
+      by : (b : ℕ) → 1 ≤ b → b < suc at → Dec (b < at) → good_field n word b (field_at fs b) ≡ true
       by b l k (yes h) = before.good b l h
       by b l k (no h) = let e : b ≡ at = omega arith in rw e here
 
 -- the number of a field that is not of its form
-form-low : (word : Word) → 19 ≤ formNumber word
+form-low : (word : Word) → 19 ≤ form_number word
 form-low Cover = omega arith
 form-low Mask = omega arith
 form-low Row = omega arith
@@ -73,10 +73,10 @@ form-low Other = omega arith
 module _ (n : ℕ) (part : Part) (fs : List (List ℕ)) (word : Word) (e : first_word fs ≡ word) where
   -- 17: nothing comes before it
   pub turn-told : in_turn part word ≡ false → Told n part fs 17 1
-  turn-told t = record { is = outOfTurn (rw e t) refl refl; first = go }
+  turn-told t = record { is = out_of_turn (rw e t) refl refl; first = go }
     where
       go : (m b : ℕ) → Wrong n part fs m b → Before 17 1 m b
-      go m b (outOfTurn h i j) = inr (sym i, omega arith)
+      go m b (out_of_turn h i j) = inr (sym i, omega arith)
       go m b (miscounted h i j) = inl (omega arith)
       go m b (malformed x y h i) = inl (omega (arith, form-low (first_word fs)))
 
@@ -86,12 +86,12 @@ module _ (n : ℕ) (part : Part) (fs : List (List ℕ)) (word : Word) (e : first
     in-turn = not-both (rw e t)
 
     -- 18: only 17 comes before it
-    count-told : (at : ℕ) → (length fs ≡ due word (length fs) → ⊥) → at ≡ firstOff (length fs) (due word (length fs)) → Told n part fs 18 at
+    count-told : (at : ℕ) → (length fs ≡ due word (length fs) → ⊥) → at ≡ first_off (length fs) (due word (length fs)) → Told n part fs 18 at
     count-told at c d = record { is = miscounted (rw e c) refl (rw e d); first = go }
       where
         go : (m b : ℕ) → Wrong n part fs m b → Before 18 at m b
-        go m b (outOfTurn h i j) = absurd (in-turn h)
-        go m b (miscounted h i j) = let f : b ≡ firstOff (length fs) (due word (length fs)) = rw e at j in inr (sym i, omega (arith, f ∙ sym d))
+        go m b (out_of_turn h i j) = absurd (in-turn h)
+        go m b (miscounted h i j) = let f : b ≡ first_off (length fs) (due word (length fs)) = rw e at j in inr (sym i, omega (arith, f ∙ sym d))
         go m b (malformed x y h i) = inl (omega (arith, form-low (first_word fs)))
 
     -- too few fields
@@ -108,22 +108,22 @@ module _ (n : ℕ) (part : Part) (fs : List (List ℕ)) (word : Word) (e : first
       counted c = c (rw e d)
 
       -- the first field that is not of its form
-      pub form-told : (at : ℕ) → 1 ≤ at → at ≤ length fs → goodField n word at (field_at fs at) ≡ false → GoodBefore n word fs at
-          → Told n part fs (formNumber word) at
+      pub form-told : (at : ℕ) → 1 ≤ at → at ≤ length fs → good_field n word at (field_at fs at) ≡ false → GoodBefore n word fs at
+          → Told n part fs (form_number word) at
       form-told at low high bad before = record { is = malformed low high (rw e bad) (rw e refl); first = go }
         where
-          least : (b : ℕ) → 1 ≤ b → goodField n word b (field_at fs b) ≡ false → Dec (b < at) → at ≤ b
+          least : (b : ℕ) → 1 ≤ b → good_field n word b (field_at fs b) ≡ false → Dec (b < at) → at ≤ b
           least b l h (yes k) = absurd (not-both (before.good b l k) h)
           least b l h (no k) = omega arith
 
-          go : (m b : ℕ) → Wrong n part fs m b → Before (formNumber word) at m b
-          go m b (outOfTurn h i j) = absurd (in-turn h)
+          go : (m b : ℕ) → Wrong n part fs m b → Before (form_number word) at m b
+          go m b (out_of_turn h i j) = absurd (in-turn h)
           go m b (miscounted h i j) = absurd (counted h)
           go m b (malformed x y h i) = inr (sym (rw e at i), least b x (rw e at h) (dec_lt b at))
 
       -- nothing is wrong
       pub all_right : GoodBefore n word fs (suc (length fs)) → Right n part fs
-      all_right before m b (outOfTurn h i j) = in-turn h
+      all_right before m b (out_of_turn h i j) = in-turn h
       all_right before m b (miscounted h i j) = counted h
       all_right before m b (malformed x y h i) = not-both (before.good b x (omega arith)) (rw e at h)
 
@@ -131,9 +131,9 @@ module _ (n : ℕ) (part : Part) (fs : List (List ℕ)) (word : Word) (e : first
 
 -- the part of the sheet by what has come
 abbrev pub part_of : Came → Part
-part_of Nothing = onRows
-part_of Blocks = onBlocks
-part_of Heards = onHeard
+part_of Nothing = on_rows
+part_of Blocks = on_blocks
+part_of Heards = on_heard
 
 -- a cover, a mask and another word are always out of their turn, and end is always in its turn
 pub record Whatever (part : Part) : Type 0 where
@@ -159,114 +159,114 @@ LineJudged n part fs L.End = Right n part fs × (first_word fs ≡ End)
 LineJudged n part fs (L.Bad fault) = Told n part fs (lines.number_of fault) (field_of fault)
 
 -- the two words after which a row's field stands, and the parts of the sheet that begin with their lines
-abbrev pub bitsWord : Bool → Word
-bitsWord false = Row
-bitsWord true = Mask
+abbrev pub bits_word : Bool → Word
+bits_word false = Row
+bits_word true = Mask
 
-abbrev pub bitsPart : Bool → Part
-bitsPart false = onRows
-bitsPart true = onMask
+abbrev pub bits_part : Bool → Part
+bits_part false = on_rows
+bits_part true = on_mask
 
 -- what the field after such a word says of all that may be wrong with the line: it makes a row or a fault
 abbrev pub BitsJudged : ℕ → Bool → List (List ℕ) → Line → Type 0
-BitsJudged n mask fs (L.Row w) = Right n (bitsPart mask) fs × (first_word fs ≡ bitsWord mask)
+BitsJudged n mask fs (L.Row w) = Right n (bits_part mask) fs × (first_word fs ≡ bits_word mask)
 BitsJudged n mask fs L.Block = ⊥
 BitsJudged n mask fs L.End = ⊥
-BitsJudged n mask fs (L.Bad fault) = Told n (bitsPart mask) fs (lines.number_of fault) (field_of fault)
+BitsJudged n mask fs (L.Bad fault) = Told n (bits_part mask) fs (lines.number_of fault) (field_of fault)
 
 -- a line in its turn, with the number of fields that it should have, and samples from field `lead` on
 module _ (n : ℕ) (part : Part) (gs : List (List ℕ)) (word : Word) (e : first_word gs ≡ word) (t : in_turn part word ≡ true) (d : length gs ≡ due word (length gs))
-    (v : formNumber word ≡ 19) (received : Received (first_word gs)) (lead : ℕ) (low : 1 ≤ lead) where
+    (v : form_number word ≡ 19) (received : Received (first_word gs)) (lead : ℕ) (low : 1 ≤ lead) where
   -- k samples and the fields before them being of their form
   samples-judged : (k : ℕ) (fs : List (List ℕ)) → suc (length gs) ≡ length fs + (k + lead)
-      → ((i : ℕ) → goodField n word (i + (k + lead)) (field_at gs (i + (k + lead))) ≡ isSample (sampleOf (get_or fs i [])))
-      → GoodBefore n word gs (k + lead) → LineJudged n part gs (blockIs (samplesOf lead k fs))
+      → ((i : ℕ) → good_field n word (i + (k + lead)) (field_at gs (i + (k + lead))) ≡ is_sample (sample_of (get_or fs i [])))
+      → GoodBefore n word gs (k + lead) → LineJudged n part gs (block_is (samples_of lead k fs))
   samples-judged k [] s field before = let z : k + lead ≡ suc (length gs) = omega arith in (all_right n part gs word e t d (rw z at before), received)
-  samples-judged k (f ∷ fs) s field before = by (λ g. samples-judged (k + 1) fs (omega arith) next (more g)) (isSample (sampleOf f)) refl
+  samples-judged k (f ∷ fs) s field before = by (λ g. samples-judged (k + 1) fs (omega arith) next (more g)) (is_sample (sample_of f)) refl
     where
-      here : goodField n word (k + lead) (field_at gs (k + lead)) ≡ isSample (sampleOf f)
+      here : good_field n word (k + lead) (field_at gs (k + lead)) ≡ is_sample (sample_of f)
       here = let z : 0 + (k + lead) ≡ k + lead = omega arith in rw z at (field 0)
 
-      next : (i : ℕ) → goodField n word (i + (k + 1 + lead)) (field_at gs (i + (k + 1 + lead))) ≡ isSample (sampleOf (get_or fs i []))
+      next : (i : ℕ) → good_field n word (i + (k + 1 + lead)) (field_at gs (i + (k + 1 + lead))) ≡ is_sample (sample_of (get_or fs i []))
       next i = let z : suc i + (k + lead) ≡ i + (k + 1 + lead) = omega arith in rw z at (field (suc i))
 
-      more : isSample (sampleOf f) ≡ true → GoodBefore n word gs (k + 1 + lead)
+      more : is_sample (sample_of f) ≡ true → GoodBefore n word gs (k + 1 + lead)
       more g = let z : suc (k + lead) ≡ k + 1 + lead = omega arith in rw z at (good-on before (here ∙ g))
 
-      by : (isSample (sampleOf f) ≡ true → LineJudged n part gs (blockIs (samplesOf lead (k + 1) fs))) → (u : Bool) → isSample (sampleOf f) ≡ u
-          → LineJudged n part gs (blockIs (cond u (samplesOf lead (k + 1) fs) (S.Bad (k + lead))))
+      by : (is_sample (sample_of f) ≡ true → LineJudged n part gs (block_is (samples_of lead (k + 1) fs))) → (u : Bool) → is_sample (sample_of f) ≡ u
+          → LineJudged n part gs (block_is (cond u (samples_of lead (k + 1) fs) (S.Bad (k + lead))))
       by on true g = on g
       by on false g = rw (sym v) (form-told n part gs word e t d (k + lead) (omega arith) (omega arith) (here ∙ g) before)
 
 module _ (n : ℕ) (order : Order) (w : List ℕ) where
   -- one field after row, or after mask
-  pub bits-judged : (mask : Bool) → word_of w ≡ bitsWord mask → (fs : List (List ℕ)) → BitsJudged n mask (w ∷ fs) (rowRest n order fs)
-  bits-judged false e [] = few-told n onRows (w ∷ []) Row e refl (omega arith)
-  bits-judged true e [] = few-told n onMask (w ∷ []) Mask e refl (omega arith)
-  bits-judged false e (f ∷ g ∷ fs) = many-told n onRows (w ∷ f ∷ g ∷ fs) Row e refl (omega arith)
-  bits-judged true e (f ∷ g ∷ fs) = many-told n onMask (w ∷ f ∷ g ∷ fs) Mask e refl (omega arith)
-  bits-judged mask e (f ∷ []) = by mask e (eqb (length f) n && bitsOnly f) refl
+  pub bits-judged : (mask : Bool) → word_of w ≡ bits_word mask → (fs : List (List ℕ)) → BitsJudged n mask (w ∷ fs) (row_rest n order fs)
+  bits-judged false e [] = few-told n on_rows (w ∷ []) Row e refl (omega arith)
+  bits-judged true e [] = few-told n on_mask (w ∷ []) Mask e refl (omega arith)
+  bits-judged false e (f ∷ g ∷ fs) = many-told n on_rows (w ∷ f ∷ g ∷ fs) Row e refl (omega arith)
+  bits-judged true e (f ∷ g ∷ fs) = many-told n on_mask (w ∷ f ∷ g ∷ fs) Mask e refl (omega arith)
+  bits-judged mask e (f ∷ []) = by mask e (eqb (length f) n && bits_only f) refl
     where
-      by : (m : Bool) → word_of w ≡ bitsWord m → (t : Bool) → (eqb (length f) n && bitsOnly f) ≡ t
-          → BitsJudged n m (w ∷ f ∷ []) (rowIs (cond t (R.Is (wordFrom (inOrder order f))) R.Bad))
-      by false q true h = (all_right n onRows (w ∷ f ∷ []) Row q refl refl (good-on (good-on none_before refl) h), q)
-      by true q true h = (all_right n onMask (w ∷ f ∷ []) Mask q refl refl (good-on (good-on none_before refl) h), q)
-      by false q false h = form-told n onRows (w ∷ f ∷ []) Row q refl refl 2 (omega arith) (omega arith) h (good-on none_before refl)
-      by true q false h = form-told n onMask (w ∷ f ∷ []) Mask q refl refl 2 (omega arith) (omega arith) h (good-on none_before refl)
+      by : (m : Bool) → word_of w ≡ bits_word m → (t : Bool) → (eqb (length f) n && bits_only f) ≡ t
+          → BitsJudged n m (w ∷ f ∷ []) (row_is (cond t (R.Is (word_from (in_order order f))) R.Bad))
+      by false q true h = (all_right n on_rows (w ∷ f ∷ []) Row q refl refl (good-on (good-on none_before refl) h), q)
+      by true q true h = (all_right n on_mask (w ∷ f ∷ []) Mask q refl refl (good-on (good-on none_before refl) h), q)
+      by false q false h = form-told n on_rows (w ∷ f ∷ []) Row q refl refl 2 (omega arith) (omega arith) h (good-on none_before refl)
+      by true q false h = form-told n on_mask (w ∷ f ∷ []) Mask q refl refl 2 (omega arith) (omega arith) h (good-on none_before refl)
 
-  row-judged : word_of w ≡ Row → (fs : List (List ℕ)) → LineJudged n onRows (w ∷ fs) (rowRest n order fs)
-  row-judged e fs = as_row (rowRest n order fs) (bits-judged false e fs)
+  row-judged : word_of w ≡ Row → (fs : List (List ℕ)) → LineJudged n on_rows (w ∷ fs) (row_rest n order fs)
+  row-judged e fs = as_row (row_rest n order fs) (bits-judged false e fs)
     where
-      as_row : (x : Line) → BitsJudged n false (w ∷ fs) x → LineJudged n onRows (w ∷ fs) x
+      as_row : (x : Line) → BitsJudged n false (w ∷ fs) x → LineJudged n on_rows (w ∷ fs) x
       as_row (L.Row u) h = h
       as_row L.Block h = absurd h
       as_row L.End h = absurd h
       as_row (L.Bad fault) h = h
 
   -- any number of samples after block
-  block-judged : (part : Part) → in_turn part Block ≡ true → word_of w ≡ Block → (fs : List (List ℕ)) → LineJudged n part (w ∷ fs) (blockIs (samplesOf 2 0 fs))
+  block-judged : (part : Part) → in_turn part Block ≡ true → word_of w ≡ Block → (fs : List (List ℕ)) → LineJudged n part (w ∷ fs) (block_is (samples_of 2 0 fs))
   block-judged part turn e fs =
       samples-judged n part (w ∷ fs) Block e turn refl refl (inl e) 2 (omega arith) 0 fs (omega arith) field (good-on none_before refl)
     where
-      field : (i : ℕ) → goodField n Block (i + (0 + 2)) (field_at (w ∷ fs) (i + (0 + 2))) ≡ isSample (sampleOf (get_or fs i []))
+      field : (i : ℕ) → good_field n Block (i + (0 + 2)) (field_at (w ∷ fs) (i + (0 + 2))) ≡ is_sample (sample_of (get_or fs i []))
       field i = let z : i + (0 + 2) ≡ suc (suc i) = omega arith in rw (z, ne_eqb (suc (suc i)) 1 (λ q. omega arith))
 
   -- a counter and any number of samples after heard
-  heard-judged : (part : Part) → in_turn part Heard ≡ true → word_of w ≡ Heard → (fs : List (List ℕ)) → LineJudged n part (w ∷ fs) (heardFields fs)
+  heard-judged : (part : Part) → in_turn part Heard ≡ true → word_of w ≡ Heard → (fs : List (List ℕ)) → LineJudged n part (w ∷ fs) (heard_fields fs)
   heard-judged part turn e [] = few-told n part (w ∷ []) Heard e turn (omega arith)
-  heard-judged part turn e (f ∷ fs) = by (is_number (counterOf f)) refl
+  heard-judged part turn e (f ∷ fs) = by (is_number (counter_of f)) refl
     where
       counted : suc (suc (length fs)) ≡ due Heard (suc (suc (length fs)))
       counted = rw (le-ltb (suc (suc (length fs))) 2 (omega arith))
 
-      field : (i : ℕ) → goodField n Heard (i + (0 + 3)) (field_at (w ∷ f ∷ fs) (i + (0 + 3))) ≡ isSample (sampleOf (get_or fs i []))
+      field : (i : ℕ) → good_field n Heard (i + (0 + 3)) (field_at (w ∷ f ∷ fs) (i + (0 + 3))) ≡ is_sample (sample_of (get_or fs i []))
       field i =
           let z : i + (0 + 3) ≡ suc (suc (suc i)) = omega arith in
           rw (z, ne_eqb (suc (suc (suc i))) 1 (λ q. omega arith), ne_eqb (suc (suc (suc i))) 2 (λ q. omega arith))
 
-      by : (t : Bool) → is_number (counterOf f) ≡ t → LineJudged n part (w ∷ f ∷ fs) (blockIs (cond t (samplesOf 3 0 fs) (S.Bad 2)))
+      by : (t : Bool) → is_number (counter_of f) ≡ t → LineJudged n part (w ∷ f ∷ fs) (block_is (cond t (samples_of 3 0 fs) (S.Bad 2)))
       by true g =
           samples-judged n part (w ∷ f ∷ fs) Heard e turn counted refl (inr e) 3 (omega arith) 0 fs (omega arith) field (good-on (good-on none_before refl) g)
       by false g = form-told n part (w ∷ f ∷ fs) Heard e turn counted 2 (omega arith) (omega arith) g (good-on none_before refl)
 
   -- nothing after end
-  end-judged : (part : Part) → in_turn part End ≡ true → word_of w ≡ End → (fs : List (List ℕ)) → LineJudged n part (w ∷ fs) (endRest fs)
+  end-judged : (part : Part) → in_turn part End ≡ true → word_of w ≡ End → (fs : List (List ℕ)) → LineJudged n part (w ∷ fs) (end_rest fs)
   end-judged part turn e [] = (all_right n part (w ∷ []) End e turn refl (good-on none_before refl), e)
   end-judged part turn e (f ∷ fs) = many-told n part (w ∷ f ∷ fs) End e turn (omega arith)
 
   -- the word decides
-  by_word : (came : Came) (word : Word) → word_of w ≡ word → (fs : List (List ℕ)) → LineJudged n (part_of came) (w ∷ fs) (lineBy n order came word fs)
+  by_word : (came : Came) (word : Word) → word_of w ≡ word → (fs : List (List ℕ)) → LineJudged n (part_of came) (w ∷ fs) (line_by n order came word fs)
   by_word came Cover e fs = turn-told n (part_of came) (w ∷ fs) Cover e (whatever-came came).cover
   by_word came Mask e fs = turn-told n (part_of came) (w ∷ fs) Mask e (whatever-came came).mask
   by_word Nothing Row e fs = row-judged e fs
-  by_word Blocks Row e fs = turn-told n onBlocks (w ∷ fs) Row e refl
-  by_word Heards Row e fs = turn-told n onHeard (w ∷ fs) Row e refl
-  by_word Nothing Block e fs = block-judged onRows refl e fs
-  by_word Blocks Block e fs = block-judged onBlocks refl e fs
-  by_word Heards Block e fs = turn-told n onHeard (w ∷ fs) Block e refl
-  by_word Nothing Heard e fs = heard-judged onRows refl e fs
-  by_word Blocks Heard e fs = turn-told n onBlocks (w ∷ fs) Heard e refl
-  by_word Heards Heard e fs = heard-judged onHeard refl e fs
+  by_word Blocks Row e fs = turn-told n on_blocks (w ∷ fs) Row e refl
+  by_word Heards Row e fs = turn-told n on_heard (w ∷ fs) Row e refl
+  by_word Nothing Block e fs = block-judged on_rows refl e fs
+  by_word Blocks Block e fs = block-judged on_blocks refl e fs
+  by_word Heards Block e fs = turn-told n on_heard (w ∷ fs) Block e refl
+  by_word Nothing Heard e fs = heard-judged on_rows refl e fs
+  by_word Blocks Heard e fs = turn-told n on_blocks (w ∷ fs) Heard e refl
+  by_word Heards Heard e fs = heard-judged on_heard refl e fs
   by_word came End e fs = end-judged (part_of came) (whatever-came came).end e fs
   by_word came Other e fs = turn-told n (part_of came) (w ∷ fs) Other e (whatever-came came).other
 

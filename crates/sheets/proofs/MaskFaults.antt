@@ -8,11 +8,11 @@ use Rattle.plates.specs.Refusals.{field, number}
 use Rattle.plates.specs.declared.Verdict.{Verdict}
 use Rattle.plates.specs.declared.Verdict.TheVariants as J
 use Rattle.sheets.specs.Text.{fields}
-use Rattle.sheets.specs.Blocks.{blocksOf, heardFront}
+use Rattle.sheets.specs.Blocks.{blocks_of, heard_front}
 use Rattle.sheets.specs.Lines.{rows_of}
-use Rattle.sheets.specs.Masks.{maskIn, masksIn, mask_of}
-use Rattle.sheets.specs.Sheet.{contentsWith, contentsOf, bodyBad, badBy, lineBad}
-use Rattle.sheets.specs.Faults.{Part, onMask, onRows, in_turn, after, first_word, Wrong, outOfTurn, miscounted, malformed, WrongAt}
+use Rattle.sheets.specs.Masks.{mask_in, masks_in, mask_of}
+use Rattle.sheets.specs.Sheet.{contents_with, contents_of, body_bad, bad_by, line_bad}
+use Rattle.sheets.specs.Faults.{Part, on_mask, on_rows, in_turn, after, first_word, Wrong, out_of_turn, miscounted, malformed, WrongAt}
 use Rattle.sheets.specs.declared.word.Word.{Word}
 use Rattle.sheets.specs.declared.word.Word.TheVariants as W
 use Rattle.sheets.specs.declared.mask.MaskLine.{MaskLine}
@@ -25,7 +25,7 @@ use Rattle.sheets.proofs.Turns.{by-position-length}
 -- ---- no mask: right after the cover the same is wrong as among the rows
 
 -- another word than mask is in its turn there where it is in its turn among the rows
-other-turn : (word : Word) → (word ≡ W.Mask → ⊥) → in_turn onMask word ≡ in_turn onRows word
+other-turn : (word : Word) → (word ≡ W.Mask → ⊥) → in_turn on_mask word ≡ in_turn on_rows word
 other-turn W.Cover h = refl
 other-turn W.Mask h = absurd (h refl)
 other-turn W.Row h = refl
@@ -43,11 +43,11 @@ NoMaskFirst (l ∷ m ∷ ms) = first_word (fields l) ≡ W.Mask → ⊥
 module _ (n : ℕ) where
   -- what is wrong with a line goes by its part only as far as its word is in its turn
   turn-alike : {p q : Part} {fs : List (List ℕ)} {m b : ℕ} → in_turn p (first_word fs) ≡ in_turn q (first_word fs) → Wrong n p fs m b → Wrong n q fs m b
-  turn-alike e (outOfTurn h i j) = outOfTurn (sym e ∙ h) i j
+  turn-alike e (out_of_turn h i j) = out_of_turn (sym e ∙ h) i j
   turn-alike e (miscounted h i j) = miscounted h i j
   turn-alike e (malformed x y h i) = malformed x y h i
 
-  to-rows : (ls : List (List ℕ)) → NoMaskFirst ls → (k m b : ℕ) → WrongAt n onMask ls k m b → WrongAt n onRows ls k m b
+  to-rows : (ls : List (List ℕ)) → NoMaskFirst ls → (k m b : ℕ) → WrongAt n on_mask ls k m b → WrongAt n on_rows ls k m b
   to-rows ls h zero m b w = w
   to-rows [] h (suc zero) m b w = w
   to-rows (l ∷ []) h (suc zero) m b w = w
@@ -55,7 +55,7 @@ module _ (n : ℕ) where
   to-rows [] h (suc (suc k)) m b w = w
   to-rows (l ∷ ls) h (suc (suc k)) m b w = w
 
-  from-rows : (ls : List (List ℕ)) → NoMaskFirst ls → (k m b : ℕ) → WrongAt n onRows ls k m b → WrongAt n onMask ls k m b
+  from-rows : (ls : List (List ℕ)) → NoMaskFirst ls → (k m b : ℕ) → WrongAt n on_rows ls k m b → WrongAt n on_mask ls k m b
   from-rows ls h zero m b w = w
   from-rows [] h (suc zero) m b w = w
   from-rows (l ∷ []) h (suc zero) m b w = w
@@ -63,7 +63,7 @@ module _ (n : ℕ) where
   from-rows [] h (suc (suc k)) m b w = w
   from-rows (l ∷ ls) h (suc (suc k)) m b w = w
 
-  no-mask-judged : (ls : List (List ℕ)) → NoMaskFirst ls → (line : ℕ) (v : Verdict) → LinesJudged n onRows ls line v → LinesJudged n onMask ls line v
+  no-mask-judged : (ls : List (List ℕ)) → NoMaskFirst ls → (line : ℕ) (v : Verdict) → LinesJudged n on_rows ls line v → LinesJudged n on_mask ls line v
   no-mask-judged ls h line J.Accepted j = λ k m b w. j k m b (to-rows ls h k m b w)
   no-mask-judged ls h line (J.Refused q) j =
       (j.0, j.1, record { is = from-rows ls h (suc j.0) (number q) (field q) j.2.is; first = λ k m b w. j.2.first k m b (to-rows ls h k m b w) })
@@ -72,27 +72,27 @@ module _ (n : ℕ) where
 
 module _ (cover : Cover) where
   -- those after the mask, whatever the mask
-  after-mask-judged : (line mask : ℕ) (ls : List (List ℕ)) → LinesJudged cover.n onRows ls line (bodyBad line (contentsWith cover mask ls) ls)
+  after-mask-judged : (line mask : ℕ) (ls : List (List ℕ)) → LinesJudged cover.n on_rows ls line (body_bad line (contents_with cover mask ls) ls)
   after-mask-judged line mask ls =
       let r = length (rows_of cover.n cover.order ls) in
-      let found = blocksOf (heardFront (drop r ls)) (drop r ls) in
+      let found = blocks_of (heard_front (drop r ls)) (drop r ls) in
       let b = length found in
-      let c : length (contentsWith cover mask ls).blocks ≡ b = by-position-length cover.order found in
+      let c : length (contents_with cover mask ls).blocks ≡ b = by-position-length cover.order found in
       let e : line + r + b ≡ r + (b + line) = omega arith in
       rw (c, e) (rows-judged cover.n cover.order ls line)
 
   -- by the mask
   by_mask : (l m : List ℕ) (ms : List (List ℕ)) (found : MaskLine) → MaskJudged cover.n (fields l) found
-      → let ls = l ∷ m ∷ ms in LinesJudged cover.n onMask ls 2 (badBy found (contentsWith cover (maskIn found) (drop (masksIn found) ls)) ls)
+      → let ls = l ∷ m ∷ ms in LinesJudged cover.n on_mask ls 2 (bad_by found (contents_with cover (mask_in found) (drop (masks_in found) ls)) ls)
   by_mask l m ms (M.Is w) j =
-      on cover.n onMask onRows l m ms 2 (bodyBad 3 (contentsWith cover w (m ∷ ms)) (m ∷ ms)) j.0 (ap after j.1)
+      on cover.n on_mask on_rows l m ms 2 (body_bad 3 (contents_with cover w (m ∷ ms)) (m ∷ ms)) j.0 (ap after j.1)
       (after-mask-judged 3 w (m ∷ ms))
   by_mask l m ms M.NoMask j =
-      no-mask-judged cover.n (l ∷ m ∷ ms) j 2 (bodyBad 2 (contentsWith cover 0 (l ∷ m ∷ ms)) (l ∷ m ∷ ms)) (after-mask-judged 2 0 (l ∷ m ∷ ms))
-  by_mask l m ms (M.Bad fault) j = first-here cover.n onMask l m ms 2 fault j
+      no-mask-judged cover.n (l ∷ m ∷ ms) j 2 (body_bad 2 (contents_with cover 0 (l ∷ m ∷ ms)) (l ∷ m ∷ ms)) (after-mask-judged 2 0 (l ∷ m ∷ ms))
+  by_mask l m ms (M.Bad fault) j = first-here cover.n on_mask l m ms 2 fault j
 
   -- all of them, by the verdict of the sheet's definition
-  pub body-judged : (ls : List (List ℕ)) → LinesJudged cover.n onMask ls 2 (lineBad (contentsOf cover ls) ls)
-  body-judged [] = no-mask-judged cover.n [] tt 2 (bodyBad 2 (contentsWith cover 0 []) []) (after-mask-judged 2 0 [])
-  body-judged (l ∷ []) = no-mask-judged cover.n (l ∷ []) tt 2 (bodyBad 2 (contentsWith cover 0 (l ∷ [])) (l ∷ [])) (after-mask-judged 2 0 (l ∷ []))
+  pub body-judged : (ls : List (List ℕ)) → LinesJudged cover.n on_mask ls 2 (line_bad (contents_of cover ls) ls)
+  body-judged [] = no-mask-judged cover.n [] tt 2 (body_bad 2 (contents_with cover 0 []) []) (after-mask-judged 2 0 [])
+  body-judged (l ∷ []) = no-mask-judged cover.n (l ∷ []) tt 2 (body_bad 2 (contents_with cover 0 (l ∷ [])) (l ∷ [])) (after-mask-judged 2 0 (l ∷ []))
   body-judged (l ∷ m ∷ ms) = by_mask l m ms (mask_of cover.n cover.order (fields l)) (mask-judged cover.n cover.order (fields l))

@@ -8,10 +8,10 @@ use mathlib.Core.Path.{◌≡◌, refl, sym, ◌∙◌, ap}
 use native.Mathlib.Omega.{arith}
 use types.Run.{OneOf, miss}
 use Rattle.plates.specs.declared.Refusal.{Refusal}
-use Rattle.sheets.specs.Text.{tab, lineFeed, fields, fieldsFrom, lines_from}
+use Rattle.sheets.specs.Text.{tab, line_feed, fields, fields_from, lines_from}
 use Rattle.sheets.specs.Words.{word_of}
-use Rattle.sheets.specs.Masks.{maskBy, mask_of, maskFront}
-use Rattle.sheets.specs.Sheet.{refusalOf}
+use Rattle.sheets.specs.Masks.{mask_by, mask_of, mask_front}
+use Rattle.sheets.specs.Sheet.{refusal_of}
 use Rattle.sheets.specs.Readers.{BodyBy, BodyRead, Ended, LinesRead, Until}
 use Rattle.sheets.specs.declared.Order.{Order}
 use Rattle.sheets.specs.declared.SheetReply.{SheetReply}
@@ -29,7 +29,7 @@ use Rattle.sheets.proofs.Passing.{line-length, line-split}
 
 -- another word makes no mask line
 pub no-mask-word : (n : ℕ) (order : Order) (w : Word) (fs : List (List ℕ)) → OneOf (0 ∷ 2 ∷ 3 ∷ 4 ∷ 5 ∷ 6 ∷ []) (tag_of the_type w)
-    → NoMask ≡ maskBy n order w fs
+    → NoMask ≡ mask_by n order w fs
 no-mask-word n order W.Cover fs h = refl
 no-mask-word n order W.Mask fs h = absurd (miss (0 ∷ 2 ∷ 3 ∷ 4 ∷ 5 ∷ 6 ∷ []) 1 tt h)
 no-mask-word n order W.Row fs h = refl
@@ -43,32 +43,32 @@ module _ {line : List ℕ} {a : ℕ} (u : Until tab line 0 a) where
   pub word_fits : a ≡ length (take a line)
   word_fits = sym (length-take-le a line u.high)
 
-  pub mask-by-word : (n : ℕ) (order : Order) {w : Word} {r : MaskLine} → w ≡ word_of (take a line) → r ≡ maskBy n order w (fieldsFrom line (a + 1))
+  pub mask-by-word : (n : ℕ) (order : Order) {w : Word} {r : MaskLine} → w ≡ word_of (take a line) → r ≡ mask_by n order w (fields_from line (a + 1))
       → r ≡ mask_of n order (fields line)
   mask-by-word n order e g = rw (parts-front tab line a u, ← e) g
 
-module _ {s : List ℕ} {at end : ℕ} (h : at ≤ length s) (u : Until lineFeed s at end) (n : ℕ) (order : Order) where
+module _ {s : List ℕ} {at end : ℕ} (h : at ≤ length s) (u : Until line_feed s at end) (n : ℕ) (order : Order) where
   -- no line
-  pub no_line : end ≡ length s → NoMask ≡ maskFront n order (lines_from s at)
-  no_line e = rw (from_last lineFeed s at end h u e)
+  pub no_line : end ≡ length s → NoMask ≡ mask_front n order (lines_from s at)
+  no_line e = rw (from_last line_feed s at end h u e)
 
   -- a line
-  pub line-there : (end ≡ length s → ⊥) → {r : MaskLine} → r ≡ mask_of n order (fields (take (end - at) (drop at s))) → r ≡ maskFront n order (lines_from s at)
-  line-there m g = rw (from_more lineFeed s at end h u, after-some lineFeed s end u.high m) g
+  pub line-there : (end ≡ length s → ⊥) → {r : MaskLine} → r ≡ mask_of n order (fields (take (end - at) (drop at s))) → r ≡ mask_front n order (lines_from s at)
+  line-there m g = rw (from_more line_feed s at end h u, after-some line_feed s end u.high m) g
 
   -- a mask is a line, and the next begins after it
-  pub mask-ended : {found : MaskLine} {w : ℕ} → found ≡ maskFront n order (lines_from s at) → found ≡ Is w → Ended s at (end + 1)
+  pub mask-ended : {found : MaskLine} {w : ℕ} → found ≡ mask_front n order (lines_from s at) → found ≡ Is w → Ended s at (end + 1)
   mask-ended {found} {w} e g = line-closed s at end u (λ q. never (no_line q ∙ sym e ∙ g))
     where
       never : NoMask ≡ Is w → ⊥
       never z = let y : ◌≡◌ {A = ℕ} 0 1 = cc in omega arith
 
-  pub next-inside : {found : MaskLine} {w : ℕ} → found ≡ maskFront n order (lines_from s at) → found ≡ Is w → end + 1 ≤ length s
+  pub next-inside : {found : MaskLine} {w : ℕ} → found ≡ mask_front n order (lines_from s at) → found ≡ Is w → end + 1 ≤ length s
   next-inside e g = (mask-ended e g).high
 
 -- ---- the lines after the cover
 
-module _ {s : List ℕ} {from : ℕ} {cover : Cover} {found : MaskLine} (e : found ≡ maskFront cover.n cover.order (lines_from s from))
+module _ {s : List ℕ} {from : ℕ} {cover : Cover} {found : MaskLine} (e : found ≡ mask_front cover.n cover.order (lines_from s from))
     {table : List ℕ} {r : SheetReply} {table' : List ℕ} where
   by-found : BodyBy found from cover (lines_from s from) table r table' → BodyRead s from cover table r table'
   by-found b = record { by = rw (← e) b }
@@ -86,6 +86,6 @@ module _ {s : List ℕ} {from : ℕ} {cover : Cover} {found : MaskLine} (e : fou
 
 -- a bad one
 pub bad-mask : {s : List ℕ} {from : ℕ} {cover : Cover} {found : MaskLine} {fault : Fault} {q : Refusal} {table : List ℕ}
-    → found ≡ maskFront cover.n cover.order (lines_from s from) → found ≡ Bad fault → q ≡ refusalOf 2 fault
+    → found ≡ mask_front cover.n cover.order (lines_from s from) → found ≡ Bad fault → q ≡ refusal_of 2 fault
     → BodyRead s from cover table (Refused q) table
 bad-mask e g b = by-found e (rw g (ap Refused b, refl))

@@ -6,7 +6,7 @@ use mathlib.Core.List.{List, [], ◌∷◌}
 use mathlib.Core.Path.{◌≡◌, refl}
 use native.Mathlib.Omega.{arith}
 use borrow.Author.Tests.{le-leb}
-use Rattle.sheets.specs.Text.{lineFeed, lines_from, begins}
+use Rattle.sheets.specs.Text.{line_feed, lines_from, begins}
 use Rattle.sheets.specs.Readers.{Ended, Passed}
 use Rattle.sheets.proofs.Parts.{from_more, part_length}
 
@@ -22,10 +22,10 @@ module _ {s : List ℕ} {at next : ℕ} (e : Ended s at next) where
   pub line-split : lines_from s at ≡ take (next - 1 - at) (drop at s) ∷ lines_from s next
   line-split =
       let q : next - 1 + 1 ≡ next = omega arith in
-      rw q at (from_more lineFeed s at (next - 1) inside e.until)
+      rw q at (from_more line_feed s at (next - 1) inside e.until)
 
   pub line-length : length (take (next - 1 - at) (drop at s)) ≡ next - 1 - at
-  line-length = part_length lineFeed s at (next - 1) inside e.until
+  line-length = part_length line_feed s at (next - 1) inside e.until
 
 -- k lines are passed, which f takes, and the next begins at `at`
 pub record Passing {A : Type 0} (f : List (List ℕ) → List A) (s : List ℕ) (from at k : ℕ) : Type 0 where

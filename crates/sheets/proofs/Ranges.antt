@@ -14,12 +14,12 @@ use Rattle.plates.specs.declared.Verdict.{Verdict}
 use Rattle.plates.specs.declared.Verdict.TheVariants as J
 use Rattle.sheets.specs.Text.{fields, lines}
 use Rattle.sheets.specs.Words.{word_of}
-use Rattle.sheets.specs.Rows.{bitsOnly, wordFrom}
-use Rattle.sheets.specs.Turning.{inOrder}
-use Rattle.sheets.specs.Blocks.{heardRest, samplesOf}
-use Rattle.sheets.specs.Lines.{rowIs, rowRest, blockIs, endRest, lineBy, line_of, front, rowThen, rows_of}
-use Rattle.sheets.specs.Masks.{maskBy, maskFront, maskIn, maskIs, mask_of, masksIn}
-use Rattle.sheets.specs.Sheet.{Contents, coverFront, coverIn, contents, inputTooLong, coverBad, lengthBad, lineBad, rowsTooMany, firstRefusal, verdict, says, readingBy, reading}
+use Rattle.sheets.specs.Rows.{bits_only, word_from}
+use Rattle.sheets.specs.Turning.{in_order}
+use Rattle.sheets.specs.Blocks.{heard_rest, samples_of}
+use Rattle.sheets.specs.Lines.{row_is, row_rest, block_is, end_rest, line_by, line_of, front, row_then, rows_of}
+use Rattle.sheets.specs.Masks.{mask_by, mask_front, mask_in, mask_is, mask_of, masks_in}
+use Rattle.sheets.specs.Sheet.{Contents, cover_front, cover_in, contents, input_too_long, cover_bad, length_bad, line_bad, rows_too_many, first_refusal, verdict, says, reading_by, reading}
 use Rattle.sheets.specs.declared.Order.{Order}
 use Rattle.sheets.specs.declared.word.Word.{Word}
 use Rattle.sheets.specs.declared.word.Word.TheVariants as W
@@ -34,42 +34,42 @@ use Rattle.sheets.proofs.Turns.{in-order-length}
 
 -- ---- a reading that is not refused
 
-no_says : {A : Type 0} (q : Refusal) (c d : Contents) → readingBy (J.Refused q) d ≡ says c → A
+no_says : {A : Type 0} (q : Refusal) (c d : Contents) → reading_by (J.Refused q) d ≡ says c → A
 no_says q c d e = let z : ◌≡◌ {A = ℕ} 0 1 = cc in absurd (omega arith)
 
 -- it is accepted, and says the contents
-said : (v : Verdict) (d c : Contents) → readingBy v d ≡ says c → (v ≡ J.Accepted) × (d ≡ c)
+said : (v : Verdict) (d c : Contents) → reading_by v d ≡ says c → (v ≡ J.Accepted) × (d ≡ c)
 said J.Accepted d c e = (refl, cc)
 said (J.Refused q) d c e = no_says q c d e
 
 pub accepted : (s : List ℕ) (c : Contents) → reading s ≡ says c → (verdict s ≡ J.Accepted) × (contents s ≡ c)
 accepted s c e = said (verdict s) (contents s) c e
 
-pass : (v : Verdict) (vs : List Verdict) → firstRefusal (v ∷ vs) ≡ J.Accepted → (v ≡ J.Accepted) × (firstRefusal vs ≡ J.Accepted)
+pass : (v : Verdict) (vs : List Verdict) → first_refusal (v ∷ vs) ≡ J.Accepted → (v ≡ J.Accepted) × (first_refusal vs ≡ J.Accepted)
 pass J.Accepted vs e = (refl, e)
 pass (J.Refused q) vs e = (e, cc)
 
 -- then each condition passes
 pub record Accepts (s : List ℕ) : Type 0 where
-  pub short : inputTooLong s ≡ J.Accepted
-  pub form : coverBad (coverFront (lines s)) ≡ J.Accepted
-  pub range : lengthBad (contents s).n ≡ J.Accepted
-  pub ended : lineBad (contents s) (drop 1 (lines s)) ≡ J.Accepted
-  pub few : rowsTooMany (length (contents s).rows) ≡ J.Accepted
+  pub short : input_too_long s ≡ J.Accepted
+  pub form : cover_bad (cover_front (lines s)) ≡ J.Accepted
+  pub range : length_bad (contents s).n ≡ J.Accepted
+  pub ended : line_bad (contents s) (drop 1 (lines s)) ≡ J.Accepted
+  pub few : rows_too_many (length (contents s).rows) ≡ J.Accepted
 
 pub all_pass : (s : List ℕ) → verdict s ≡ J.Accepted → Accepts s
 unfolding verdict
 all_pass s e =
     let c = contents s in
-    let v₅ = rowsTooMany (length c.rows) ∷ [] in
-    let v₄ = lineBad c (drop 1 (lines s)) ∷ v₅ in
-    let v₃ = lengthBad c.n ∷ v₄ in
-    let v₂ = coverBad (coverFront (lines s)) ∷ v₃ in
-    let a = pass (inputTooLong s) v₂ e in
-    let b = pass (coverBad (coverFront (lines s))) v₃ a.1 in
-    let d = pass (lengthBad c.n) v₄ b.1 in
-    let f = pass (lineBad c (drop 1 (lines s))) v₅ d.1 in
-    record { short = a.0; form = b.0; range = d.0; ended = f.0; few = (pass (rowsTooMany (length c.rows)) [] f.1).0 }
+    let v₅ = rows_too_many (length c.rows) ∷ [] in
+    let v₄ = line_bad c (drop 1 (lines s)) ∷ v₅ in
+    let v₃ = length_bad c.n ∷ v₄ in
+    let v₂ = cover_bad (cover_front (lines s)) ∷ v₃ in
+    let a = pass (input_too_long s) v₂ e in
+    let b = pass (cover_bad (cover_front (lines s))) v₃ a.1 in
+    let d = pass (length_bad c.n) v₄ b.1 in
+    let f = pass (line_bad c (drop 1 (lines s))) v₅ d.1 in
+    record { short = a.0; form = b.0; range = d.0; ended = f.0; few = (pass (rows_too_many (length c.rows)) [] f.1).0 }
 
 -- ---- n and the number of rows
 
@@ -81,7 +81,7 @@ range-case n true u a b e = no-refusal e
 range-case n false true a b e = no-refusal e
 range-case n false false a b e = (omega (arith, eqb-false n 0 a), ltb-false 64 n b)
 
-length-range : (n : ℕ) → lengthBad n ≡ J.Accepted → (1 ≤ n) × (n ≤ 64)
+length-range : (n : ℕ) → length_bad n ≡ J.Accepted → (1 ≤ n) × (n ≤ 64)
 length-range n e = range-case n (eqb n 0) (ltb 64 n) refl refl e
 
 few-case : (k : ℕ) (t : Bool) → ltb 64 k ≡ t → cond t (J.Refused TooManyRows) J.Accepted ≡ J.Accepted → k ≤ 64
@@ -102,32 +102,32 @@ left-true true b e = refl
 left-true false b e = e
 
 module _ (n : ℕ) (order : Order) where
-  row-case : (f : List ℕ) (t : Bool) → (eqb (length f) n && bitsOnly f) ≡ t → Below n (rowIs (cond t (R.Is (wordFrom (inOrder order f))) R.Bad))
+  row-case : (f : List ℕ) (t : Bool) → (eqb (length f) n && bits_only f) ≡ t → Below n (row_is (cond t (R.Is (word_from (in_order order f))) R.Bad))
   row-case f true e =
-      let l = eqb-true (length f) n (left-true (eqb (length f) n) (bitsOnly f) e) in
-      rw (← l, ← (in-order-length order f)) (word_small (inOrder order f))
+      let l = eqb-true (length f) n (left-true (eqb (length f) n) (bits_only f) e) in
+      rw (← l, ← (in-order-length order f)) (word_small (in_order order f))
   row-case f false e = tt
 
-  rest_below : (fs : List (List ℕ)) → Below n (rowRest n order fs)
+  rest_below : (fs : List (List ℕ)) → Below n (row_rest n order fs)
   rest_below [] = tt
-  rest_below (f ∷ []) = row-case f (eqb (length f) n && bitsOnly f) refl
+  rest_below (f ∷ []) = row-case f (eqb (length f) n && bits_only f) refl
   rest_below (f ∷ g ∷ fs) = tt
 
-  block-below : (d : Samples) → Below n (blockIs d)
+  block-below : (d : Samples) → Below n (block_is d)
   block-below (S.Count k) = tt
   block-below (S.Bad f) = tt
 
-  end_below : (fs : List (List ℕ)) → Below n (endRest fs)
+  end_below : (fs : List (List ℕ)) → Below n (end_rest fs)
   end_below [] = tt
   end_below (f ∷ fs) = tt
 
-  by-below : (w : Word) (fs : List (List ℕ)) → Below n (lineBy n order Nothing w fs)
+  by-below : (w : Word) (fs : List (List ℕ)) → Below n (line_by n order Nothing w fs)
   by-below W.Cover fs = tt
   by-below W.Mask fs = tt
   by-below W.Row fs = rest_below fs
-  by-below W.Block fs = block-below (samplesOf 2 0 fs)
+  by-below W.Block fs = block-below (samples_of 2 0 fs)
   by-below W.Heard [] = tt
-  by-below W.Heard (f ∷ fs) = block-below (heardRest (f ∷ fs))
+  by-below W.Heard (f ∷ fs) = block-below (heard_rest (f ∷ fs))
   by-below W.End fs = end_below fs
   by-below W.Other fs = tt
 
@@ -141,7 +141,7 @@ module _ (n : ℕ) (order : Order) where
   front_below (l ∷ m ∷ ls) = line-below (fields l)
 
   then-below : (k : Line) (ws : List ℕ) → Below n k → ((j : ℕ) → j < length ws → get_or ws j 0 < 2 ^ n)
-      → (j : ℕ) → j < length (rowThen k ws) → get_or (rowThen k ws) j 0 < 2 ^ n
+      → (j : ℕ) → j < length (row_then k ws) → get_or (row_then k ws) j 0 < 2 ^ n
   then-below (L.Row w) ws b h zero l = b
   then-below (L.Row w) ws b h (suc j) l = h j (omega arith)
   then-below L.Block ws b h j l = absurd (omega arith)
@@ -157,26 +157,26 @@ module _ (n : ℕ) (order : Order) where
   no-mask-below : 0 < 2 ^ n
   no-mask-below = omega (arith, one-le-pow n 2 (omega arith))
 
-  mask-is-below : (k : Line) → Below n k → maskIn (maskIs k) < 2 ^ n
+  mask-is-below : (k : Line) → Below n k → mask_in (mask_is k) < 2 ^ n
   mask-is-below (L.Row w) h = h
   mask-is-below L.Block h = no-mask-below
   mask-is-below L.End h = no-mask-below
   mask-is-below (L.Bad f) h = no-mask-below
 
-  mask-by-below : (w : Word) (fs : List (List ℕ)) → maskIn (maskBy n order w fs) < 2 ^ n
+  mask-by-below : (w : Word) (fs : List (List ℕ)) → mask_in (mask_by n order w fs) < 2 ^ n
   mask-by-below W.Cover fs = no-mask-below
-  mask-by-below W.Mask fs = mask-is-below (rowRest n order fs) (rest_below fs)
+  mask-by-below W.Mask fs = mask-is-below (row_rest n order fs) (rest_below fs)
   mask-by-below W.Row fs = no-mask-below
   mask-by-below W.Block fs = no-mask-below
   mask-by-below W.Heard fs = no-mask-below
   mask-by-below W.End fs = no-mask-below
   mask-by-below W.Other fs = no-mask-below
 
-  mask-of-below : (fs : List (List ℕ)) → maskIn (mask_of n order fs) < 2 ^ n
+  mask-of-below : (fs : List (List ℕ)) → mask_in (mask_of n order fs) < 2 ^ n
   mask-of-below [] = no-mask-below
   mask-of-below (w ∷ fs) = mask-by-below (word_of w) fs
 
-  mask_below : (ls : List (List ℕ)) → maskIn (maskFront n order ls) < 2 ^ n
+  mask_below : (ls : List (List ℕ)) → mask_in (mask_front n order ls) < 2 ^ n
   mask_below [] = no-mask-below
   mask_below (l ∷ []) = no-mask-below
   mask_below (l ∷ m ∷ ls) = mask-of-below (fields l)
@@ -193,7 +193,7 @@ pub record InRange (c : Contents) : Type 0 where
 in-range : (s : List ℕ) → Accepts s → InRange (contents s)
 unfolding contents
 in-range s a =
-    let cover = coverIn (coverFront (lines s)) in
+    let cover = cover_in (cover_front (lines s)) in
     let ls = drop 1 (lines s) in
     let n = length-range cover.n a.range in
     record {
@@ -201,7 +201,7 @@ in-range s a =
       most = n.1;
       masked = mask_below cover.n cover.order ls;
       few = few-case (length (contents s).rows) (ltb 64 (length (contents s).rows)) refl a.few;
-      below = rows-below cover.n cover.order (drop (masksIn (maskFront cover.n cover.order ls)) ls);
+      below = rows-below cover.n cover.order (drop (masks_in (mask_front cover.n cover.order ls)) ls);
     }
 
 pub sheet-in-range : (s : List ℕ) (c : Contents) → reading s ≡ says c → InRange c

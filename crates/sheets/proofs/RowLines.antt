@@ -7,9 +7,9 @@ use mathlib.Core.Path.{◌≡◌, refl, sym, ◌∙◌, ap}
 use native.Mathlib.Numerals.{add-one}
 use native.Mathlib.Omega.{arith}
 use types.Run.{OneOf, miss}
-use Rattle.sheets.specs.Text.{lineFeed, lines_from}
+use Rattle.sheets.specs.Text.{line_feed, lines_from}
 use Rattle.sheets.specs.Room.{laid}
-use Rattle.sheets.specs.Lines.{front, rowThen, rows_of}
+use Rattle.sheets.specs.Lines.{front, row_then, rows_of}
 use Rattle.sheets.specs.Readers.{RowsRead, Until}
 use Rattle.sheets.specs.declared.Order.{Order}
 use Rattle.sheets.specs.declared.line.Came.TheVariants.{Nothing}
@@ -18,11 +18,11 @@ use Rattle.sheets.specs.declared.line.Line.{Line}
 use Rattle.sheets.specs.declared.line.Line.TheVariants.{Row, Block, End, Bad}
 use Rattle.sheets.specs.contracts.line.Line.{the_type}
 use Rattle.sheets.proofs.Endings.{line-open, line-closed}
-use Rattle.sheets.proofs.Laying.{laidFrom, laid_none, laid_on}
+use Rattle.sheets.proofs.Laying.{laid_from, laid_none, laid_on}
 use Rattle.sheets.proofs.Passing.{at-end, line-split, Passing, pass-start, pass_on, pass-end}
 
 -- a line that is not a row
-other-line : (k : Line) (ws : List ℕ) → OneOf (1 ∷ 2 ∷ 3 ∷ []) (tag_of the_type k) → rowThen k ws ≡ []
+other-line : (k : Line) (ws : List ℕ) → OneOf (1 ∷ 2 ∷ 3 ∷ []) (tag_of the_type k) → row_then k ws ≡ []
 other-line (Row w) ws h = absurd (miss (1 ∷ 2 ∷ 3 ∷ []) 0 tt h)
 other-line Block ws h = refl
 other-line End ws h = refl
@@ -32,7 +32,7 @@ other-line (Bad f) ws h = refl
 pub record Rowing (n : ℕ) (order : Order) (s : List ℕ) (from : ℕ) (table₀ table : List ℕ) (at k : ℕ) : Type 0 where
   pub passing : Passing (rows_of n order) s from at k
   pub size : length table ≡ length table₀
-  pub kept : laidFrom k (rows_of n order (lines_from s at)) table ≡ laid (rows_of n order (lines_from s from)) table₀
+  pub kept : laid_from k (rows_of n order (lines_from s at)) table ≡ laid (rows_of n order (lines_from s from)) table₀
 
 module _ (n : ℕ) (order : Order) where
   -- the rows end at a line that is none
@@ -41,7 +41,7 @@ module _ (n : ℕ) (order : Order) where
   rows_none (l ∷ ls) k e h = rw e (other-line k (rows_of n order ls) h)
 
   rows_more : (ls : List (List ℕ)) {l : List ℕ} {ms : List (List ℕ)} (w : ℕ) → ls ≡ l ∷ ms → front n order Nothing ls ≡ Row w → rows_of n order ls ≡ w ∷ rows_of n order ms
-  rows_more ls {l} {ms} w q e = ap (rows_of n order) q ∙ ap (λ (k : Line). rowThen k (rows_of n order ms)) (rw q at e)
+  rows_more ls {l} {ms} w q e = ap (rows_of n order) q ∙ ap (λ (k : Line). row_then k (rows_of n order ms)) (rw q at e)
 
 module _ {n : ℕ} {order : Order} {s : List ℕ} {from : ℕ} where
   pub row-start : {table : List ℕ} → from ≤ length s → Rowing n order s from table table from 0
@@ -65,7 +65,7 @@ module _ {n : ℕ} {order : Order} {s : List ℕ} {from : ℕ} where
     row_last h = row-end (rw (at-end s at (omega arith)))
 
     -- one row more
-    pub row_on : (r : ℕ) → at ≤ length s → Until lineFeed s at r → (w : ℕ) → front n order Nothing (lines_from s at) ≡ Row w
+    pub row_on : (r : ℕ) → at ≤ length s → Until line_feed s at r → (w : ℕ) → front n order Nothing (lines_from s at) ≡ Row w
         → Rowing n order s from table₀ (set table k w) (r + 1) (k + 1)
     row_on r h u w e =
         let d = line-closed s at r u (λ q. never (sym (line-open n order Nothing s at r h u q) ∙ e)) in

@@ -6,16 +6,16 @@ use mathlib.Core.List.{List}
 use mathlib.Core.Path.{◌≡◌, refl, sym, ◌∙◌}
 use native.Mathlib.Numerals.{add-one}
 use native.Mathlib.Omega.{arith}
-use Rattle.sheets.specs.Text.{tab, fieldsFrom}
-use Rattle.sheets.specs.Numbers.{sampleOf}
+use Rattle.sheets.specs.Text.{tab, fields_from}
+use Rattle.sheets.specs.Numbers.{sample_of}
 use Rattle.sheets.specs.Room.{laid}
-use Rattle.sheets.specs.Blocks.{samplesOf, values_of}
+use Rattle.sheets.specs.Blocks.{samples_of, values_of}
 use Rattle.sheets.specs.Readers.{FieldsRead, SamplesRead, Until}
 use Rattle.sheets.specs.declared.number.Sample.TheVariants as S
 use Rattle.sheets.specs.declared.block.Samples.{Samples}
 use Rattle.sheets.specs.declared.block.Samples.TheVariants.{Count, Bad}
 use Rattle.sheets.proofs.Parts.{from_more, from-none}
-use Rattle.sheets.proofs.Laying.{laidFrom, laid_none, laid_on}
+use Rattle.sheets.proofs.Laying.{laid_from, laid_none, laid_on}
 
 -- where the answer is a field that is no sample, nothing is asked of the room
 pub read-bad : (d : Samples) (vs room room' : List ℤ) (f : ℕ) → d ≡ Bad f → SamplesRead d vs room (Bad f) room'
@@ -29,15 +29,15 @@ pub record Sampling (lead : ℕ) (line : List ℕ) (from : ℕ) (room₀ room : 
   pub low : from + k ≤ at
   pub high : at ≤ length line + 1
   pub size : length room ≡ length room₀
-  pub counted : samplesOf lead k (fieldsFrom line at) ≡ samplesOf lead 0 (fieldsFrom line from)
-  pub kept : laidFrom k (values_of (fieldsFrom line at)) room ≡ laid (values_of (fieldsFrom line from)) room₀
+  pub counted : samples_of lead k (fields_from line at) ≡ samples_of lead 0 (fields_from line from)
+  pub kept : laid_from k (values_of (fields_from line at)) room ≡ laid (values_of (fields_from line from)) room₀
 
 pub sample-start : (lead : ℕ) (line : List ℕ) (from : ℕ) (room : List ℤ) → from ≤ length line + 1 → Sampling lead line from room room from 0
 sample-start lead line from room h = record { low = omega arith; high = h; size = refl; counted = refl; kept = refl }
 
 module _ {lead : ℕ} {line : List ℕ} {from : ℕ} {room₀ room : List ℤ} {at k : ℕ} (i : Sampling lead line from room₀ room at k) where
   -- at the end all are taken
-  pub sample-end : length line < at → FieldsRead lead (fieldsFrom line from) room₀ (Count k) room
+  pub sample-end : length line < at → FieldsRead lead (fields_from line from) room₀ (Count k) room
   sample-end h =
       let e = from-none tab line at h in
       record {
@@ -47,7 +47,7 @@ module _ {lead : ℕ} {line : List ℕ} {from : ℕ} {room₀ room : List ℤ} {
 
   module _ (r : ℕ) (h : at ≤ length line) (u : Until tab line at r) where
     -- one field more, which is a sample
-    pub sample-on : (v : ℤ) → sampleOf (take (r - at) (drop at line)) ≡ S.Is v → Sampling lead line from room₀ (set room k v) (r + 1) (k + 1)
+    pub sample-on : (v : ℤ) → sample_of (take (r - at) (drop at line)) ≡ S.Is v → Sampling lead line from room₀ (set room k v) (r + 1) (k + 1)
     sample-on v e =
         let m = from_more tab line at r h u in
         record {
@@ -59,6 +59,6 @@ module _ {lead : ℕ} {line : List ℕ} {from : ℕ} {room₀ room : List ℤ} {
         }
 
     -- a field that is none
-    pub sample-bad : sampleOf (take (r - at) (drop at line)) ≡ S.Bad
-        → FieldsRead lead (fieldsFrom line from) room₀ (Bad (k + lead)) room
+    pub sample-bad : sample_of (take (r - at) (drop at line)) ≡ S.Bad
+        → FieldsRead lead (fields_from line from) room₀ (Bad (k + lead)) room
     sample-bad e = read-bad _ _ room₀ room (k + lead) (sym i.counted ∙ rw (from_more tab line at r h u, e))

@@ -9,13 +9,13 @@ use mathlib.Core.Path.{◌≡◌, refl, ◌∙◌, ap, ap₂}
 use native.Mathlib.Omega.{arith}
 use Rattle.sheets.specs.Text.{fields, lines, onto, parts}
 use Rattle.sheets.specs.Words.{same, word_of}
-use Rattle.sheets.specs.Turning.{byPosition}
-use Rattle.sheets.specs.Numbers.{counterOf, is_number}
+use Rattle.sheets.specs.Turning.{by_position}
+use Rattle.sheets.specs.Numbers.{counter_of, is_number}
 use Rattle.sheets.specs.Rows.{row_of}
-use Rattle.sheets.specs.Blocks.{BlockFound, block, no_block, samplesOf, samplesFound, values_of, heardRest, blockBy, block_line, valuesAfter, listedIn, blockThen, blocksOf, counterBy, counterIn, countersOf, isHeard, heardLine, heardFront}
-use Rattle.sheets.specs.Lines.{lateRow, lateBlock, lateHeard, rowIs, rowRest, blockIs, heardFields, lineBy, line_of, rowThen, rows_of, after_end, endBy, endingOf}
-use Rattle.sheets.specs.Masks.{maskBy, maskFront, maskIs, mask_of}
-use Rattle.sheets.specs.Turned.{heardTurned, restTurned, fieldsTurned, other, LinesTurned}
+use Rattle.sheets.specs.Blocks.{BlockFound, block, no_block, samples_of, samples_found, values_of, heard_rest, block_by, block_line, values_after, listed_in, block_then, blocks_of, counter_by, counter_in, counters_of, is_heard, heard_line, heard_front}
+use Rattle.sheets.specs.Lines.{late_row, late_block, late_heard, row_is, row_rest, block_is, heard_fields, line_by, line_of, row_then, rows_of, after_end, end_by, ending_of}
+use Rattle.sheets.specs.Masks.{mask_by, mask_front, mask_is, mask_of}
+use Rattle.sheets.specs.Turned.{heard_turned, rest_turned, fields_turned, other, LinesTurned}
 use Rattle.sheets.specs.declared.Order.{Order}
 use Rattle.sheets.specs.declared.word.Word.{Word}
 use Rattle.sheets.specs.declared.word.Word.TheVariants as W
@@ -30,7 +30,7 @@ use Rattle.sheets.specs.declared.line.Fault.TheVariants.{Turn}
 use Rattle.sheets.specs.declared.line.Line.{Line}
 use Rattle.sheets.specs.declared.line.Line.TheVariants as L
 use Rattle.sheets.specs.declared.body.Ending.TheVariants.{Fine}
-use Rattle.sheets.proofs.TurnedLists.{bits-turned, foundTurned, other-order, samples-turned}
+use Rattle.sheets.proofs.TurnedLists.{bits-turned, found_turned, other-order, samples-turned}
 
 -- ---- rows
 
@@ -38,7 +38,7 @@ use Rattle.sheets.proofs.TurnedLists.{bits-turned, foundTurned, other-order, sam
 row-turned : (n : ℕ) (order : Order) (f : List ℕ) → row_of n (other order) (reverse f) ≡ row_of n order f
 row-turned n order f = rw (length-reverse f, bits-turned f, other-order order f)
 
-no_more : (a b : Samples) (ws : List ℕ) → rowThen (blockIs a) ws ≡ rowThen (blockIs b) ws
+no_more : (a b : Samples) (ws : List ℕ) → row_then (block_is a) ws ≡ row_then (block_is b) ws
 no_more (S.Count j) (S.Count k) ws = refl
 no_more (S.Count j) (S.Bad k) ws = refl
 no_more (S.Bad j) (S.Count k) ws = refl
@@ -46,20 +46,20 @@ no_more (S.Bad j) (S.Bad k) ws = refl
 
 -- only a row goes into the rows
 rows-by-word : (n : ℕ) (order : Order) (w : Word) (fs : List (List ℕ)) (ws : List ℕ)
-    → rowThen (lineBy n (other order) Nothing w (restTurned w fs)) ws ≡ rowThen (lineBy n order Nothing w fs) ws
+    → row_then (line_by n (other order) Nothing w (rest_turned w fs)) ws ≡ row_then (line_by n order Nothing w fs) ws
 rows-by-word n order W.Cover fs ws = refl
 rows-by-word n order W.Mask fs ws = refl
 rows-by-word n order W.Row [] ws = refl
-rows-by-word n order W.Row (f ∷ []) ws = ap (λ (r : Row). rowThen (rowIs r) ws) (row-turned n order f)
+rows-by-word n order W.Row (f ∷ []) ws = ap (λ (r : Row). row_then (row_is r) ws) (row-turned n order f)
 rows-by-word n order W.Row (f ∷ g ∷ fs) ws = refl
-rows-by-word n order W.Block fs ws = no_more (samplesOf 2 0 (reverse fs)) (samplesOf 2 0 fs) ws
+rows-by-word n order W.Block fs ws = no_more (samples_of 2 0 (reverse fs)) (samples_of 2 0 fs) ws
 rows-by-word n order W.Heard [] ws = refl
-rows-by-word n order W.Heard (f ∷ fs) ws = no_more (heardRest (f ∷ reverse fs)) (heardRest (f ∷ fs)) ws
+rows-by-word n order W.Heard (f ∷ fs) ws = no_more (heard_rest (f ∷ reverse fs)) (heard_rest (f ∷ fs)) ws
 rows-by-word n order W.End fs ws = refl
 rows-by-word n order W.Other fs ws = refl
 
 rows-by-fields : (n : ℕ) (order : Order) (fs : List (List ℕ)) (ws : List ℕ)
-    → rowThen (line_of n (other order) Nothing (fieldsTurned fs)) ws ≡ rowThen (line_of n order Nothing fs) ws
+    → row_then (line_of n (other order) Nothing (fields_turned fs)) ws ≡ row_then (line_of n order Nothing fs) ws
 rows-by-fields n order [] ws = refl
 rows-by-fields n order (w ∷ fs) ws = rows-by-word n order (word_of w) fs ws
 
@@ -71,16 +71,16 @@ rows-turned n order (l ∷ []) (m ∷ []) h = refl
 rows-turned n order (l ∷ []) (m ∷ o ∷ ms) h = absurd h.1
 rows-turned n order (l ∷ k ∷ ls) (m ∷ []) h = absurd h.1
 rows-turned n order (l ∷ k ∷ ls) (m ∷ o ∷ ms) h =
-    ap (λ (fs : List (List ℕ)). rowThen (line_of n (other order) Nothing fs) (rows_of n (other order) (o ∷ ms))) h.0
+    ap (λ (fs : List (List ℕ)). row_then (line_of n (other order) Nothing fs) (rows_of n (other order) (o ∷ ms))) h.0
     ∙ rows-by-fields n order (fields l) (rows_of n (other order) (o ∷ ms))
-    ∙ ap (rowThen (line_of n order Nothing (fields l))) (rows-turned n order (k ∷ ls) (o ∷ ms) h.1)
+    ∙ ap (row_then (line_of n order Nothing (fields l))) (rows-turned n order (k ∷ ls) (o ∷ ms) h.1)
 
 -- ---- the mask
 
-mask-by-word : (n : ℕ) (order : Order) (w : Word) (fs : List (List ℕ)) → maskBy n (other order) w (restTurned w fs) ≡ maskBy n order w fs
+mask-by-word : (n : ℕ) (order : Order) (w : Word) (fs : List (List ℕ)) → mask_by n (other order) w (rest_turned w fs) ≡ mask_by n order w fs
 mask-by-word n order W.Cover fs = refl
 mask-by-word n order W.Mask [] = refl
-mask-by-word n order W.Mask (f ∷ []) = ap (λ (r : Row). maskIs (rowIs r)) (row-turned n order f)
+mask-by-word n order W.Mask (f ∷ []) = ap (λ (r : Row). mask_is (row_is r)) (row-turned n order f)
 mask-by-word n order W.Mask (f ∷ g ∷ fs) = refl
 mask-by-word n order W.Row fs = refl
 mask-by-word n order W.Block fs = refl
@@ -88,12 +88,12 @@ mask-by-word n order W.Heard fs = refl
 mask-by-word n order W.End fs = refl
 mask-by-word n order W.Other fs = refl
 
-mask-by-fields : (n : ℕ) (order : Order) (fs : List (List ℕ)) → mask_of n (other order) (fieldsTurned fs) ≡ mask_of n order fs
+mask-by-fields : (n : ℕ) (order : Order) (fs : List (List ℕ)) → mask_of n (other order) (fields_turned fs) ≡ mask_of n order fs
 mask-by-fields n order [] = refl
 mask-by-fields n order (w ∷ fs) = mask-by-word n order (word_of w) fs
 
 -- the same mask under the other order, or the same fault
-pub mask-turned : (n : ℕ) (order : Order) (ls ms : List (List ℕ)) → LinesTurned ls ms → maskFront n (other order) ms ≡ maskFront n order ls
+pub mask-turned : (n : ℕ) (order : Order) (ls ms : List (List ℕ)) → LinesTurned ls ms → mask_front n (other order) ms ≡ mask_front n order ls
 mask-turned n order [] [] h = refl
 mask-turned n order [] (m ∷ ms) h = absurd h
 mask-turned n order (l ∷ ls) [] h = absurd h
@@ -105,16 +105,16 @@ mask-turned n order (l ∷ k ∷ ls) (m ∷ o ∷ ms) h = ap (mask_of n (other o
 -- ---- blocks
 
 heard-by-word : (fs : List (List ℕ))
-    → samplesFound (heardRest (heardTurned fs)) (values_of (drop 1 (heardTurned fs))) ≡ foundTurned (samplesFound (heardRest fs) (values_of (drop 1 fs)))
+    → samples_found (heard_rest (heard_turned fs)) (values_of (drop 1 (heard_turned fs))) ≡ found_turned (samples_found (heard_rest fs) (values_of (drop 1 fs)))
 heard-by-word [] = refl
-heard-by-word (f ∷ fs) = by (is_number (counterOf f))
+heard-by-word (f ∷ fs) = by (is_number (counter_of f))
   where
-    by : (t : Bool) → samplesFound (cond t (samplesOf 3 0 (reverse fs)) (S.Bad 2)) (values_of (reverse fs)) ≡ foundTurned (samplesFound (cond t (samplesOf 3 0 fs) (S.Bad 2)) (values_of fs))
+    by : (t : Bool) → samples_found (cond t (samples_of 3 0 (reverse fs)) (S.Bad 2)) (values_of (reverse fs)) ≡ found_turned (samples_found (cond t (samples_of 3 0 fs) (S.Bad 2)) (values_of fs))
     by true = samples-turned 3 fs
     by false = refl
 
 blocks-by-word : (heard : Bool) (word : Word) (fs : List (List ℕ))
-    → samplesFound (blockBy heard word (restTurned word fs)) (valuesAfter heard (restTurned word fs)) ≡ foundTurned (samplesFound (blockBy heard word fs) (valuesAfter heard fs))
+    → samples_found (block_by heard word (rest_turned word fs)) (values_after heard (rest_turned word fs)) ≡ found_turned (samples_found (block_by heard word fs) (values_after heard fs))
 blocks-by-word heard W.Cover fs = refl
 blocks-by-word heard W.Mask fs = refl
 blocks-by-word heard W.Row fs = refl
@@ -126,17 +126,17 @@ blocks-by-word heard W.End fs = refl
 blocks-by-word heard W.Other fs = refl
 
 blocks-by-fields : (heard : Bool) (fs : List (List ℕ))
-    → samplesFound (block_line heard (fieldsTurned fs)) (listedIn heard (fieldsTurned fs)) ≡ foundTurned (samplesFound (block_line heard fs) (listedIn heard fs))
+    → samples_found (block_line heard (fields_turned fs)) (listed_in heard (fields_turned fs)) ≡ found_turned (samples_found (block_line heard fs) (listed_in heard fs))
 blocks-by-fields heard [] = refl
 blocks-by-fields heard (w ∷ fs) = blocks-by-word heard (word_of w) fs
 
-then-turned : (order : Order) (b : BlockFound) (xs ys : List (List ℤ)) → byPosition (other order) ys ≡ byPosition order xs
-    → byPosition (other order) (blockThen (foundTurned b) ys) ≡ byPosition order (blockThen b xs)
+then-turned : (order : Order) (b : BlockFound) (xs ys : List (List ℤ)) → by_position (other order) ys ≡ by_position order xs
+    → by_position (other order) (block_then (found_turned b) ys) ≡ by_position order (block_then b xs)
 then-turned order (block vs) xs ys e = ap₂ (λ (samples : List ℤ) (blocks : List (List ℤ)). samples ∷ blocks) (other-order order vs) e
 then-turned order no_block xs ys e = refl
 
 pub blocks-turned : (heard : Bool) (order : Order) (ls ms : List (List ℕ)) → LinesTurned ls ms
-    → byPosition (other order) (blocksOf heard ms) ≡ byPosition order (blocksOf heard ls)
+    → by_position (other order) (blocks_of heard ms) ≡ by_position order (blocks_of heard ls)
 blocks-turned heard order [] [] h = refl
 blocks-turned heard order [] (m ∷ ms) h = absurd h
 blocks-turned heard order (l ∷ ls) [] h = absurd h
@@ -144,14 +144,14 @@ blocks-turned heard order (l ∷ []) (m ∷ []) h = refl
 blocks-turned heard order (l ∷ []) (m ∷ o ∷ ms) h = absurd h.1
 blocks-turned heard order (l ∷ k ∷ ls) (m ∷ []) h = absurd h.1
 blocks-turned heard order (l ∷ k ∷ ls) (m ∷ o ∷ ms) h =
-    ap (λ (fs : List (List ℕ)). byPosition (other order) (blockThen (samplesFound (block_line heard fs) (listedIn heard fs)) (blocksOf heard (o ∷ ms)))) h.0
-    ∙ ap (λ (b : BlockFound). byPosition (other order) (blockThen b (blocksOf heard (o ∷ ms)))) (blocks-by-fields heard (fields l))
-    ∙ then-turned order (samplesFound (block_line heard (fields l)) (listedIn heard (fields l))) (blocksOf heard (k ∷ ls)) (blocksOf heard (o ∷ ms))
+    ap (λ (fs : List (List ℕ)). by_position (other order) (block_then (samples_found (block_line heard fs) (listed_in heard fs)) (blocks_of heard (o ∷ ms)))) h.0
+    ∙ ap (λ (b : BlockFound). by_position (other order) (block_then b (blocks_of heard (o ∷ ms)))) (blocks-by-fields heard (fields l))
+    ∙ then-turned order (samples_found (block_line heard (fields l)) (listed_in heard (fields l))) (blocks_of heard (k ∷ ls)) (blocks_of heard (o ∷ ms))
     (blocks-turned heard order (k ∷ ls) (o ∷ ms) h.1)
 
 -- ---- counters
 
-counter-by-word : (word : Word) (fs : List (List ℕ)) → counterBy word (restTurned word fs) ≡ counterBy word fs
+counter-by-word : (word : Word) (fs : List (List ℕ)) → counter_by word (rest_turned word fs) ≡ counter_by word fs
 counter-by-word W.Cover fs = refl
 counter-by-word W.Mask fs = refl
 counter-by-word W.Row fs = refl
@@ -161,27 +161,27 @@ counter-by-word W.Heard (f ∷ fs) = refl
 counter-by-word W.End fs = refl
 counter-by-word W.Other fs = refl
 
-counter-by-fields : (fs : List (List ℕ)) → counterIn (fieldsTurned fs) ≡ counterIn fs
+counter-by-fields : (fs : List (List ℕ)) → counter_in (fields_turned fs) ≡ counter_in fs
 counter-by-fields [] = refl
 counter-by-fields (w ∷ fs) = counter-by-word (word_of w) fs
 
-pub counters-turned : (k : ℕ) (ls ms : List (List ℕ)) → LinesTurned ls ms → countersOf k ms ≡ countersOf k ls
+pub counters-turned : (k : ℕ) (ls ms : List (List ℕ)) → LinesTurned ls ms → counters_of k ms ≡ counters_of k ls
 counters-turned zero ls ms h = refl
 counters-turned (suc k) [] [] h = refl
 counters-turned (suc k) [] (m ∷ ms) h = absurd h
 counters-turned (suc k) (l ∷ ls) [] h = absurd h
 counters-turned (suc k) (l ∷ ls) (m ∷ ms) h =
-    ap₂ (λ (c : ℕ) (cs : List ℕ). c ∷ cs) (ap counterIn h.0 ∙ counter-by-fields (fields l)) (counters-turned k ls ms h.1)
+    ap₂ (λ (c : ℕ) (cs : List ℕ). c ∷ cs) (ap counter_in h.0 ∙ counter-by-fields (fields l)) (counters-turned k ls ms h.1)
 
-heard-by-fields : (fs : List (List ℕ)) → heardLine (fieldsTurned fs) ≡ heardLine fs
+heard-by-fields : (fs : List (List ℕ)) → heard_line (fields_turned fs) ≡ heard_line fs
 heard-by-fields [] = refl
 heard-by-fields (w ∷ fs) = refl
 
-pub heard-turned : (ls ms : List (List ℕ)) → LinesTurned ls ms → heardFront ms ≡ heardFront ls
+pub heard-turned : (ls ms : List (List ℕ)) → LinesTurned ls ms → heard_front ms ≡ heard_front ls
 heard-turned [] [] h = refl
 heard-turned [] (m ∷ ms) h = absurd h
 heard-turned (l ∷ ls) [] h = absurd h
-heard-turned (l ∷ ls) (m ∷ ms) h = ap heardLine h.0 ∙ heard-by-fields (fields l)
+heard-turned (l ∷ ls) (m ∷ ms) h = ap heard_line h.0 ∙ heard-by-fields (fields l)
 
 -- ---- the end
 
@@ -193,45 +193,45 @@ drop-turned (suc k) (l ∷ ls) [] h = absurd h
 drop-turned (suc k) (l ∷ ls) (m ∷ ms) h = drop-turned k ls ms h.1
 
 module _ (n : ℕ) (order : Order) (came : Came) where
-  row-no-end : (r : Row) → rowIs r ≡ L.End → ⊥
+  row-no-end : (r : Row) → row_is r ≡ L.End → ⊥
   row-no-end (R.Is w) e = let z : ◌≡◌ {A = ℕ} 0 1 = cc in omega arith
   row-no-end R.Bad e = let z : ◌≡◌ {A = ℕ} 0 1 = cc in omega arith
 
-  rest-no-end : (fs : List (List ℕ)) → rowRest n order fs ≡ L.End → ⊥
+  rest-no-end : (fs : List (List ℕ)) → row_rest n order fs ≡ L.End → ⊥
   rest-no-end [] e = let z : ◌≡◌ {A = ℕ} 0 1 = cc in omega arith
   rest-no-end (f ∷ []) e = row-no-end (row_of n order f) e
   rest-no-end (f ∷ g ∷ fs) e = let z : ◌≡◌ {A = ℕ} 0 1 = cc in omega arith
 
-  late-no-end : (t : Bool) (fs : List (List ℕ)) → cond t (L.Bad Turn) (rowRest n order fs) ≡ L.End → ⊥
+  late-no-end : (t : Bool) (fs : List (List ℕ)) → cond t (L.Bad Turn) (row_rest n order fs) ≡ L.End → ⊥
   late-no-end true fs e = let z : ◌≡◌ {A = ℕ} 0 1 = cc in omega arith
   late-no-end false fs e = rest-no-end fs e
 
-  block-no-end : (d : Samples) → blockIs d ≡ L.End → ⊥
+  block-no-end : (d : Samples) → block_is d ≡ L.End → ⊥
   block-no-end (S.Count k) e = let z : ◌≡◌ {A = ℕ} 0 1 = cc in omega arith
   block-no-end (S.Bad k) e = let z : ◌≡◌ {A = ℕ} 0 1 = cc in omega arith
 
-  heard-no-end : (fs : List (List ℕ)) → heardFields fs ≡ L.End → ⊥
+  heard-no-end : (fs : List (List ℕ)) → heard_fields fs ≡ L.End → ⊥
   heard-no-end [] e = let z : ◌≡◌ {A = ℕ} 0 1 = cc in omega arith
-  heard-no-end (f ∷ fs) e = block-no-end (heardRest (f ∷ fs)) e
+  heard-no-end (f ∷ fs) e = block-no-end (heard_rest (f ∷ fs)) e
 
   turn-no-end : (t : Bool) (line : Line) → (line ≡ L.End → ⊥) → cond t (L.Bad Turn) line ≡ L.End → ⊥
   turn-no-end true line h e = let z : ◌≡◌ {A = ℕ} 0 1 = cc in omega arith
   turn-no-end false line h e = h e
 
-  end-by-word : (w : Word) (fs : List (List ℕ)) → lineBy n order came w fs ≡ L.End → lineBy n (other order) came w (restTurned w fs) ≡ L.End
+  end-by-word : (w : Word) (fs : List (List ℕ)) → line_by n order came w fs ≡ L.End → line_by n (other order) came w (rest_turned w fs) ≡ L.End
   end-by-word W.Cover fs e = e
   end-by-word W.Mask fs e = e
-  end-by-word W.Row fs e = absurd (late-no-end (lateRow came) fs e)
-  end-by-word W.Block fs e = absurd (turn-no-end (lateBlock came) (blockIs (samplesOf 2 0 fs)) (block-no-end (samplesOf 2 0 fs)) e)
-  end-by-word W.Heard fs e = absurd (turn-no-end (lateHeard came) (heardFields fs) (heard-no-end fs) e)
+  end-by-word W.Row fs e = absurd (late-no-end (late_row came) fs e)
+  end-by-word W.Block fs e = absurd (turn-no-end (late_block came) (block_is (samples_of 2 0 fs)) (block-no-end (samples_of 2 0 fs)) e)
+  end-by-word W.Heard fs e = absurd (turn-no-end (late_heard came) (heard_fields fs) (heard-no-end fs) e)
   end-by-word W.End fs e = e
   end-by-word W.Other fs e = e
 
-  end-by-fields : (fs : List (List ℕ)) → line_of n order came fs ≡ L.End → line_of n (other order) came (fieldsTurned fs) ≡ L.End
+  end-by-fields : (fs : List (List ℕ)) → line_of n order came fs ≡ L.End → line_of n (other order) came (fields_turned fs) ≡ L.End
   end-by-fields [] e = e
   end-by-fields (w ∷ fs) e = end-by-word (word_of w) fs e
 
-fine-by-line : (k : Line) (rest : List (List ℕ)) → endBy k rest ≡ Fine → (k ≡ L.End) × (after_end rest ≡ Fine)
+fine-by-line : (k : Line) (rest : List (List ℕ)) → end_by k rest ≡ Fine → (k ≡ L.End) × (after_end rest ≡ Fine)
 fine-by-line (L.Row w) rest e = let z : ◌≡◌ {A = ℕ} 0 1 = cc in absurd (omega arith)
 fine-by-line L.Block rest e = let z : ◌≡◌ {A = ℕ} 0 1 = cc in absurd (omega arith)
 fine-by-line L.End rest e = (refl, e)
@@ -264,8 +264,8 @@ after-turned (l ∷ []) (m ∷ o ∷ ms) h e = absurd h.1
 after-turned (l ∷ k ∷ ls) (m ∷ ms) h e = let z : ◌≡◌ {A = ℕ} 0 1 = cc in absurd (omega arith)
 
 -- lines that end as they should do so turned
-pub fine-turned : (n : ℕ) (order : Order) (came : Came) (ls ms : List (List ℕ)) → LinesTurned ls ms → endingOf n order came ls ≡ Fine
-    → endingOf n (other order) came ms ≡ Fine
+pub fine-turned : (n : ℕ) (order : Order) (came : Came) (ls ms : List (List ℕ)) → LinesTurned ls ms → ending_of n order came ls ≡ Fine
+    → ending_of n (other order) came ms ≡ Fine
 fine-turned n order came [] ms h e = let z : ◌≡◌ {A = ℕ} 0 1 = cc in absurd (omega arith)
 fine-turned n order came (l ∷ []) ms h e = let z : ◌≡◌ {A = ℕ} 0 1 = cc in absurd (omega arith)
 fine-turned n order came (l ∷ k ∷ ls) [] h e = absurd h
@@ -273,4 +273,4 @@ fine-turned n order came (l ∷ k ∷ ls) (m ∷ []) h e = absurd h.1
 fine-turned n order came (l ∷ k ∷ ls) (m ∷ o ∷ ms) h e =
     let f = fine-by-line (line_of n order came (fields l)) (k ∷ ls) e in
     let g : line_of n (other order) came (fields m) ≡ L.End = ap (line_of n (other order) came) h.0 ∙ end-by-fields n order came (fields l) f.0 in
-    ap (λ (line : Line). endBy line (o ∷ ms)) g ∙ after-turned (k ∷ ls) (o ∷ ms) h.1 f.1
+    ap (λ (line : Line). end_by line (o ∷ ms)) g ∙ after-turned (k ∷ ls) (o ∷ ms) h.1 f.1

@@ -6,9 +6,9 @@ use mathlib.Core.Bool.{Bool, true, false, cond}
 use mathlib.Core.List.{List, [], ◌∷◌, ◌++◌, reverse, reverse-cons}
 use mathlib.Core.Path.{◌≡◌, refl, sym, subst, ◌∙◌, ap}
 use native.Mathlib.Omega.{arith}
-use Rattle.sheets.specs.Text.{tab, lineFeed, onto, parts, fields, lines}
+use Rattle.sheets.specs.Text.{tab, line_feed, onto, parts, fields, lines}
 use Rattle.sheets.specs.Words.{same, first, last, word_of}
-use Rattle.sheets.specs.Turned.{joinedBy, coverTurned, restTurned, fieldsTurned, linesTurned, textTurned, LinesTurned, IsTurned}
+use Rattle.sheets.specs.Turned.{joined_by, cover_turned, rest_turned, fields_turned, lines_turned, text_turned, LinesTurned, IsTurned}
 use Rattle.sheets.specs.declared.word.Word.{Word}
 use Rattle.sheets.specs.declared.word.Word.TheVariants as W
 use Rattle.sheets.proofs.TurnedLines.{some-part}
@@ -62,11 +62,11 @@ module _ (b : ℕ) where
   part-more [] s h = rw (eq-eqb b b refl)
   part-more (x ∷ xs) s h = rw (h.0, part-more xs s h.1)
 
-  parts-joined : (p : List ℕ) (ps : List (List ℕ)) → AllFree b (p ∷ ps) → parts b (joinedBy b (p ∷ ps)) ≡ p ∷ ps
+  parts-joined : (p : List ℕ) (ps : List (List ℕ)) → AllFree b (p ∷ ps) → parts b (joined_by b (p ∷ ps)) ≡ p ∷ ps
   parts-joined p [] h = part-one p h.0
-  parts-joined p (q ∷ ps) h = part-more p (joinedBy b (q ∷ ps)) h.0 ∙ ap (λ (rest : List (List ℕ)). p ∷ rest) (parts-joined q ps h.1)
+  parts-joined p (q ∷ ps) h = part-more p (joined_by b (q ∷ ps)) h.0 ∙ ap (λ (rest : List (List ℕ)). p ∷ rest) (parts-joined q ps h.1)
 
-  pub joined-parts : (ps : List (List ℕ)) → (ps ≡ [] → ⊥) → AllFree b ps → parts b (joinedBy b ps) ≡ ps
+  pub joined-parts : (ps : List (List ℕ)) → (ps ≡ [] → ⊥) → AllFree b ps → parts b (joined_by b ps) ≡ ps
   joined-parts [] n h = absurd (n refl)
   joined-parts (p ∷ ps) n h = parts-joined p ps h
 
@@ -78,13 +78,13 @@ module _ (b : ℕ) where
     word-free h false true k = no-first
     word-free h false false k = k
 
-    cover-free : (fs : List (List ℕ)) → AllFree b fs → AllFree b (coverTurned fs)
+    cover-free : (fs : List (List ℕ)) → AllFree b fs → AllFree b (cover_turned fs)
     cover-free [] k = k
     cover-free (f ∷ []) k = k
     cover-free (f ∷ g ∷ []) k = k
     cover-free (f ∷ g ∷ h ∷ fs) k = (k.0, (k.1.0, (word-free h (same h first) (same h last) k.1.1.0, k.1.1.1)))
 
-    rest-free : (w : Word) (fs : List (List ℕ)) → AllFree b fs → AllFree b (restTurned w fs)
+    rest-free : (w : Word) (fs : List (List ℕ)) → AllFree b fs → AllFree b (rest_turned w fs)
     rest-free W.Cover fs k = cover-free fs k
     rest-free W.Mask [] k = k
     rest-free W.Mask (f ∷ fs) k = (free-reverse f k.0, k.1)
@@ -96,7 +96,7 @@ module _ (b : ℕ) where
     rest-free W.End fs k = k
     rest-free W.Other fs k = k
 
-    fields_free : (fs : List (List ℕ)) → AllFree b fs → AllFree b (fieldsTurned fs)
+    fields_free : (fs : List (List ℕ)) → AllFree b fs → AllFree b (fields_turned fs)
     fields_free [] k = k
     fields_free (w ∷ fs) k = (k.0, rest-free (word_of w) fs k.1)
 
@@ -109,46 +109,46 @@ parts-keep : (b c : ℕ) (s : List ℕ) → Free c s → AllFree c (parts b s)
 parts-keep b c [] h = (tt, tt)
 parts-keep b c (x ∷ xs) h = keep-case c x (parts b xs) h.0 (parts-keep b c xs h.1) (eqb x b)
 
-joined_free : (b c : ℕ) → eqb b c ≡ false → (ps : List (List ℕ)) → AllFree c ps → Free c (joinedBy b ps)
+joined_free : (b c : ℕ) → eqb b c ≡ false → (ps : List (List ℕ)) → AllFree c ps → Free c (joined_by b ps)
 joined_free b c e [] h = tt
 joined_free b c e (p ∷ []) h = h.0
-joined_free b c e (p ∷ q ∷ ps) h = free-append c p (b ∷ joinedBy b (q ∷ ps)) h.0 (e, joined_free b c e (q ∷ ps) h.1)
+joined_free b c e (p ∷ q ∷ ps) h = free-append c p (b ∷ joined_by b (q ∷ ps)) h.0 (e, joined_free b c e (q ∷ ps) h.1)
 
-abbrev lineTurned : List ℕ → List ℕ
-lineTurned l = joinedBy tab (fieldsTurned (fields l))
+abbrev line_turned : List ℕ → List ℕ
+line_turned l = joined_by tab (fields_turned (fields l))
 
-some-turned : (fs : List (List ℕ)) → (fs ≡ [] → ⊥) → fieldsTurned fs ≡ [] → ⊥
+some-turned : (fs : List (List ℕ)) → (fs ≡ [] → ⊥) → fields_turned fs ≡ [] → ⊥
 some-turned [] n e = n refl
 some-turned (w ∷ fs) n e = let z : ◌≡◌ {A = ℕ} 0 1 = cc in omega arith
 
-fields-there : (l : List ℕ) → fields (lineTurned l) ≡ fieldsTurned (fields l)
+fields-there : (l : List ℕ) → fields (line_turned l) ≡ fields_turned (fields l)
 fields-there l =
-    joined-parts tab (fieldsTurned (fields l)) (some-turned (fields l) (some-part tab l))
+    joined-parts tab (fields_turned (fields l)) (some-turned (fields l) (some-part tab l))
     (fields_free tab (refl, (refl, (refl, (refl, (refl, tt))))) (refl, (refl, (refl, (refl, tt)))) (fields l) (parts_free tab l))
 
-line-free : (l : List ℕ) → Free lineFeed l → Free lineFeed (lineTurned l)
+line-free : (l : List ℕ) → Free line_feed l → Free line_feed (line_turned l)
 line-free l h =
-    joined_free tab lineFeed refl (fieldsTurned (fields l))
-    (fields_free lineFeed (refl, (refl, (refl, (refl, (refl, tt))))) (refl, (refl, (refl, (refl, tt)))) (fields l) (parts-keep tab lineFeed l h))
+    joined_free tab line_feed refl (fields_turned (fields l))
+    (fields_free line_feed (refl, (refl, (refl, (refl, (refl, tt))))) (refl, (refl, (refl, (refl, tt)))) (fields l) (parts-keep tab line_feed l h))
 
 -- ---- the lines of the turned text
 
-lines-free : (ls : List (List ℕ)) → AllFree lineFeed ls → AllFree lineFeed (linesTurned ls)
+lines-free : (ls : List (List ℕ)) → AllFree line_feed ls → AllFree line_feed (lines_turned ls)
 lines-free [] h = tt
 lines-free (l ∷ ls) h = (line-free l h.0, lines-free ls h.1)
 
-lines-there : (ls : List (List ℕ)) → LinesTurned ls (linesTurned ls)
+lines-there : (ls : List (List ℕ)) → LinesTurned ls (lines_turned ls)
 lines-there [] = tt
 lines-there (l ∷ ls) = (fields-there l, lines-there ls)
 
-some-lines : (ls : List (List ℕ)) → (ls ≡ [] → ⊥) → linesTurned ls ≡ [] → ⊥
+some-lines : (ls : List (List ℕ)) → (ls ≡ [] → ⊥) → lines_turned ls ≡ [] → ⊥
 some-lines [] n e = n refl
 some-lines (l ∷ ls) n e = let z : ◌≡◌ {A = ℕ} 0 1 = cc in omega arith
 
 -- every text has its turned text
-pub text-turned : (s : List ℕ) → IsTurned s (textTurned s)
+pub text-turned : (s : List ℕ) → IsTurned s (text_turned s)
 text-turned s = record {
   turned = subst (LinesTurned (lines s))
-      (sym (joined-parts lineFeed (linesTurned (lines s)) (some-lines (lines s) (some-part lineFeed s)) (lines-free (lines s) (parts_free lineFeed s))))
+      (sym (joined-parts line_feed (lines_turned (lines s)) (some-lines (lines s) (some-part line_feed s)) (lines-free (lines s) (parts_free line_feed s))))
       (lines-there (lines s));
 }

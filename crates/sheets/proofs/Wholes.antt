@@ -10,11 +10,11 @@ use Rattle.plates.specs.declared.Refusal.{Refusal}
 use Rattle.plates.specs.declared.Refusal.TheVariants.{InputTooLong}
 use Rattle.plates.specs.declared.Verdict.{Verdict}
 use Rattle.plates.specs.declared.Verdict.TheVariants as J
-use Rattle.sheets.specs.Text.{lineFeed, lines, lines_from, begins}
-use Rattle.sheets.specs.Masks.{maskFront, maskIn, masksIn}
-use Rattle.sheets.specs.Sheet.{Contents, coverFront, coverIn, contentsWith, contentsOf, contents, coverBad, lengthBad, badBy, lineBad, rowsTooMany}
-use Rattle.sheets.specs.Sheet.{firstRefusal, verdict, readingBy, sheetAt, start_of, sheetReply, tableAfter, ReadsSheet}
-use Rattle.sheets.specs.Readers.{BodyBy, BodyRead, HeadIs, replyBy, tableBy}
+use Rattle.sheets.specs.Text.{line_feed, lines, lines_from, begins}
+use Rattle.sheets.specs.Masks.{mask_front, mask_in, masks_in}
+use Rattle.sheets.specs.Sheet.{Contents, cover_front, cover_in, contents_with, contents_of, contents, cover_bad, length_bad, bad_by, line_bad, rows_too_many}
+use Rattle.sheets.specs.Sheet.{first_refusal, verdict, reading_by, sheet_at, start_of, sheet_reply, table_after, ReadsSheet}
+use Rattle.sheets.specs.Readers.{BodyBy, BodyRead, HeadIs, reply_by, table_by}
 use Rattle.sheets.specs.declared.Sheet.{Sheet}
 use Rattle.sheets.specs.declared.SheetReply.{SheetReply}
 use Rattle.sheets.specs.declared.SheetReply.TheVariants.{Refused}
@@ -26,11 +26,11 @@ use Rattle.sheets.proofs.Passing.{line-split, line-length}
 
 -- ---- the reply and the table by the verdict
 
-reply-by : (s : List ℕ) (v : Verdict) (c : Contents) → sheetReply s (readingBy v c) ≡ replyBy v (sheetAt (start_of s c) c)
+reply-by : (s : List ℕ) (v : Verdict) (c : Contents) → sheet_reply s (reading_by v c) ≡ reply_by v (sheet_at (start_of s c) c)
 reply-by s J.Accepted c = refl
 reply-by s (J.Refused q) c = refl
 
-table-by : (table : List ℕ) (v : Verdict) (c : Contents) (sheet : Sheet) → tableAfter table (readingBy v c) ≡ tableBy (replyBy v sheet) c.rows table
+table-by : (table : List ℕ) (v : Verdict) (c : Contents) (sheet : Sheet) → table_after table (reading_by v c) ≡ table_by (reply_by v sheet) c.rows table
 table-by table J.Accepted c sheet = refl
 table-by table (J.Refused q) c sheet = refl
 
@@ -39,7 +39,7 @@ refused-reads : (s table : List ℕ) (q : Refusal) → verdict s ≡ J.Refused q
 refused-reads s table q e = record { reply = rw e; rows = rw e }
 
 -- further conditions do not matter after a refusal
-first-of-two : (v w : Verdict) (vs : List Verdict) (q : Refusal) → firstRefusal (v ∷ w ∷ []) ≡ J.Refused q → firstRefusal (v ∷ w ∷ vs) ≡ J.Refused q
+first-of-two : (v w : Verdict) (vs : List Verdict) (q : Refusal) → first_refusal (v ∷ w ∷ []) ≡ J.Refused q → first_refusal (v ∷ w ∷ vs) ≡ J.Refused q
 first-of-two J.Accepted J.Accepted vs q e = cc
 first-of-two J.Accepted (J.Refused p) vs q e = e
 first-of-two (J.Refused p) w vs q e = e
@@ -54,14 +54,14 @@ begins-after (l ∷ ls) k = let z : 1 + k ≡ suc k = omega arith in rw z (omega
 
 module _ (from : ℕ) (cover : Cover) (ls : List (List ℕ)) (table : List ℕ) (r : SheetReply) (table' : List ℕ) where
   -- the reply and the table by the line after the cover
-  by_mask : (found : MaskLine) → BodyBy found from cover ls table r table' → let c = contentsWith cover (maskIn found) (drop (masksIn found) ls) in
-      (r ≡ replyBy (firstRefusal (badBy found c ls ∷ rowsTooMany (length c.rows) ∷ [])) (sheetAt (from + begins ls (masksIn found + length c.rows)) c))
-      × (table' ≡ tableBy r c.rows table)
+  by_mask : (found : MaskLine) → BodyBy found from cover ls table r table' → let c = contents_with cover (mask_in found) (drop (masks_in found) ls) in
+      (r ≡ reply_by (first_refusal (bad_by found c ls ∷ rows_too_many (length c.rows) ∷ [])) (sheet_at (from + begins ls (masks_in found + length c.rows)) c))
+      × (table' ≡ table_by r c.rows table)
   by_mask (M.Is w) b =
-      let k = length (contentsWith cover w (drop 1 ls)).rows in
+      let k = length (contents_with cover w (drop 1 ls)).rows in
       let e : from + begins ls 1 + begins (drop 1 ls) k ≡ from + begins ls (1 + k) = omega (arith, begins-after ls k) in
       (rw e at b.reply, b.kept)
-  by_mask M.NoMask b = let e = zero-add (length (contentsWith cover 0 ls).rows) in (rw e b.reply, b.kept)
+  by_mask M.NoMask b = let e = zero-add (length (contents_with cover 0 ls).rows) in (rw e b.reply, b.kept)
   by_mask (M.Bad fault) b = (b.0, rw b.0 b.1)
 
 -- ---- the cases of a sheet
@@ -74,47 +74,47 @@ sheet-long s table h = refused-reads s table InputTooLong (rw (lt-ltb 32768 (len
 module _ (s table : List ℕ) (h : length s ≤ 32768) where
   -- its head is refused
   pub sheet-head : (q : Refusal)
-      → firstRefusal (coverBad (coverFront (lines s)) ∷ lengthBad (coverIn (coverFront (lines s))).n ∷ []) ≡ J.Refused q
+      → first_refusal (cover_bad (cover_front (lines s)) ∷ length_bad (cover_in (cover_front (lines s))).n ∷ []) ≡ J.Refused q
       → ReadsSheet s table (Refused q) table
   unfolding verdict contents
   sheet-head q e =
       let c = contents s in
-      let more = lineBad c (drop 1 (lines s)) ∷ rowsTooMany (length c.rows) ∷ [] in
-      refused-reads s table q (rw (le-ltb 32768 (length s) h) (first-of-two (coverBad (coverFront (lines s))) (lengthBad c.n) more q e))
+      let more = line_bad c (drop 1 (lines s)) ∷ rows_too_many (length c.rows) ∷ [] in
+      refused-reads s table q (rw (le-ltb 32768 (length s) h) (first-of-two (cover_bad (cover_front (lines s))) (length_bad c.n) more q e))
 
   module _ (cover : Cover) (from : ℕ) (i : HeadIs s cover from) where
     -- the lines are the cover and those after it
     split : lines s ≡ take (from - 1 - 0) (drop 0 s) ∷ lines_from s from
-    split = sym (from_start lineFeed s) ∙ line-split i.ended
+    split = sym (from_start line_feed s) ∙ line-split i.ended
 
     abbrev said : Contents
-    said = contentsOf cover (lines_from s from)
+    said = contents_of cover (lines_from s from)
 
     contents-are : contents s ≡ said
     unfolding contents
     contents-are = rw (i.form, split)
 
     abbrev left : Verdict
-    left = firstRefusal (lineBad said (lines_from s from) ∷ rowsTooMany (length said.rows) ∷ [])
+    left = first_refusal (line_bad said (lines_from s from) ∷ rows_too_many (length said.rows) ∷ [])
 
     verdict-is : verdict s ≡ left
     unfolding verdict
     verdict-is = rw (le-ltb 32768 (length s) h, contents-are, i.form, split, i.range)
 
     abbrev found : MaskLine
-    found = maskFront cover.n cover.order (lines_from s from)
+    found = mask_front cover.n cover.order (lines_from s from)
 
-    start_is : start_of s said ≡ from + begins (lines_from s from) (masksIn found + length said.rows)
+    start_is : start_of s said ≡ from + begins (lines_from s from) (masks_in found + length said.rows)
     start_is = let n = line-length i.ended in rw split (omega arith)
 
     -- its head is read, and what follows decides
     pub sheet-body : (r : SheetReply) (table' : List ℕ) → BodyRead s from cover table r table' → ReadsSheet s table r table'
     sheet-body r table' b =
         let w = by_mask from cover (lines_from s from) table r table' found b.by in
-        let start = from + begins (lines_from s from) (masksIn found + length said.rows) in
+        let start = from + begins (lines_from s from) (masks_in found + length said.rows) in
         record {
-          reply = rw (contents-are, verdict-is) (w.0 ∙ sym (reply-by s left said ∙ ap (λ (p : ℕ). replyBy left (sheetAt p said)) start_is));
+          reply = rw (contents-are, verdict-is) (w.0 ∙ sym (reply-by s left said ∙ ap (λ (p : ℕ). reply_by left (sheet_at p said)) start_is));
           rows =
               rw (contents-are, verdict-is)
-              (w.1 ∙ ap (λ (q : SheetReply). tableBy q said.rows table) w.0 ∙ sym (table-by table left said (sheetAt start said)));
+              (w.1 ∙ ap (λ (q : SheetReply). table_by q said.rows table) w.0 ∙ sym (table-by table left said (sheet_at start said)));
         }

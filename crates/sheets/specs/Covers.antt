@@ -25,35 +25,35 @@ abbrev pub order_of : List ℕ → OrderField
 order_of f = cond (same f first) (O.Is First) (cond (same f last) (O.Is Last) O.Bad)
 
 -- the three fields after the word: the first that is bad, or the cover
-abbrev pub coverIs : Number → KindField → OrderField → CoverLine
-coverIs N.Bad kind order = Bad (Value 2)
-coverIs (N.Is n) K.Bad order = Bad (Value 3)
-coverIs (N.Is n) (K.Is kind) O.Bad = Bad (Value 4)
-coverIs (N.Is n) (K.Is kind) (O.Is order) = Is (record { n = n; kind = kind; order = order })
+abbrev pub cover_is : Number → KindField → OrderField → CoverLine
+cover_is N.Bad kind order = Bad (Value 2)
+cover_is (N.Is n) K.Bad order = Bad (Value 3)
+cover_is (N.Is n) (K.Is kind) O.Bad = Bad (Value 4)
+cover_is (N.Is n) (K.Is kind) (O.Is order) = Is (record { n = n; kind = kind; order = order })
 
 -- by their fields; n has one to three digits
-unfoldable pub coverFields : List ℕ → List ℕ → List ℕ → CoverLine
-coverFields f g h = coverIs (number_of 3 f) (kind_of g) (order_of h)
+unfoldable pub cover_fields : List ℕ → List ℕ → List ℕ → CoverLine
+cover_fields f g h = cover_is (number_of 3 f) (kind_of g) (order_of h)
 
 -- exactly three fields after the word
-abbrev pub coverRest : List (List ℕ) → CoverLine
-coverRest [] = Bad (Count 2)
-coverRest (f ∷ []) = Bad (Count 3)
-coverRest (f ∷ g ∷ []) = Bad (Count 4)
-coverRest (f ∷ g ∷ h ∷ []) = coverFields f g h
-coverRest (f ∷ g ∷ h ∷ i ∷ fs) = Bad (Count 5)
+abbrev pub cover_rest : List (List ℕ) → CoverLine
+cover_rest [] = Bad (Count 2)
+cover_rest (f ∷ []) = Bad (Count 3)
+cover_rest (f ∷ g ∷ []) = Bad (Count 4)
+cover_rest (f ∷ g ∷ h ∷ []) = cover_fields f g h
+cover_rest (f ∷ g ∷ h ∷ i ∷ fs) = Bad (Count 5)
 
 -- another word than cover is out of its turn
-abbrev pub coverBy : Word → List (List ℕ) → CoverLine
-coverBy W.Cover fs = coverRest fs
-coverBy W.Mask fs = Bad Turn
-coverBy W.Row fs = Bad Turn
-coverBy W.Block fs = Bad Turn
-coverBy W.Heard fs = Bad Turn
-coverBy W.End fs = Bad Turn
-coverBy W.Other fs = Bad Turn
+abbrev pub cover_by : Word → List (List ℕ) → CoverLine
+cover_by W.Cover fs = cover_rest fs
+cover_by W.Mask fs = Bad Turn
+cover_by W.Row fs = Bad Turn
+cover_by W.Block fs = Bad Turn
+cover_by W.Heard fs = Bad Turn
+cover_by W.End fs = Bad Turn
+cover_by W.Other fs = Bad Turn
 
 -- a line by its fields: the first decides
-abbrev pub coverOf : List (List ℕ) → CoverLine
-coverOf [] = Bad Turn
-coverOf (w ∷ fs) = coverBy (word_of w) fs
+abbrev pub cover_of : List (List ℕ) → CoverLine
+cover_of [] = Bad Turn
+cover_of (w ∷ fs) = cover_by (word_of w) fs

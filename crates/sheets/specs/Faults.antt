@@ -6,10 +6,10 @@ use Rattle.plates.specs.declared.Refusal.{Refusal}
 use Rattle.plates.specs.declared.Refusal.TheVariants.{InputTooLong, Length, TooManyRows}
 use Rattle.sheets.specs.Text.{fields, lines}
 use Rattle.sheets.specs.Words.{word_of}
-use Rattle.sheets.specs.Numbers.{counterOf, is_number, number_of}
-use Rattle.sheets.specs.Rows.{bitsOnly}
-use Rattle.sheets.specs.Blocks.{isSample}
-use Rattle.sheets.specs.Numbers.{sampleOf}
+use Rattle.sheets.specs.Numbers.{counter_of, is_number, number_of}
+use Rattle.sheets.specs.Rows.{bits_only}
+use Rattle.sheets.specs.Blocks.{is_sample}
+use Rattle.sheets.specs.Numbers.{sample_of}
 use Rattle.sheets.specs.Covers.{kind_of, order_of}
 use Rattle.sheets.specs.declared.cover.KindField.{KindField}
 use Rattle.sheets.specs.declared.cover.KindField.TheVariants as K
@@ -23,61 +23,61 @@ use Rattle.sheets.specs.declared.word.Word.TheVariants.{Cover, Mask, Row, Block,
 -- the parts of a sheet: the cover; a mask, which may only come right after the cover; rows, until a block or heard line has come; blocks; heard lines;
 -- nothing after end
 pub data Part : Type 0 where
-  onCover : Part
-  onMask : Part
-  onRows : Part
-  onBlocks : Part
-  onHeard : Part
-  onNothing : Part
+  on_cover : Part
+  on_mask : Part
+  on_rows : Part
+  on_blocks : Part
+  on_heard : Part
+  on_nothing : Part
 
 -- the words that are in their turn
 abbrev pub in_turn : Part → Word → Bool
-in_turn onCover Cover = true
-in_turn onCover Mask = false
-in_turn onCover Row = false
-in_turn onCover Block = false
-in_turn onCover Heard = false
-in_turn onCover End = false
-in_turn onCover Other = false
-in_turn onMask Cover = false
-in_turn onMask Mask = true
-in_turn onMask Row = true
-in_turn onMask Block = true
-in_turn onMask Heard = true
-in_turn onMask End = true
-in_turn onMask Other = false
-in_turn onRows Cover = false
-in_turn onRows Mask = false
-in_turn onRows Row = true
-in_turn onRows Block = true
-in_turn onRows Heard = true
-in_turn onRows End = true
-in_turn onRows Other = false
-in_turn onBlocks Cover = false
-in_turn onBlocks Mask = false
-in_turn onBlocks Row = false
-in_turn onBlocks Block = true
-in_turn onBlocks Heard = false
-in_turn onBlocks End = true
-in_turn onBlocks Other = false
-in_turn onHeard Cover = false
-in_turn onHeard Mask = false
-in_turn onHeard Row = false
-in_turn onHeard Block = false
-in_turn onHeard Heard = true
-in_turn onHeard End = true
-in_turn onHeard Other = false
-in_turn onNothing word = false
+in_turn on_cover Cover = true
+in_turn on_cover Mask = false
+in_turn on_cover Row = false
+in_turn on_cover Block = false
+in_turn on_cover Heard = false
+in_turn on_cover End = false
+in_turn on_cover Other = false
+in_turn on_mask Cover = false
+in_turn on_mask Mask = true
+in_turn on_mask Row = true
+in_turn on_mask Block = true
+in_turn on_mask Heard = true
+in_turn on_mask End = true
+in_turn on_mask Other = false
+in_turn on_rows Cover = false
+in_turn on_rows Mask = false
+in_turn on_rows Row = true
+in_turn on_rows Block = true
+in_turn on_rows Heard = true
+in_turn on_rows End = true
+in_turn on_rows Other = false
+in_turn on_blocks Cover = false
+in_turn on_blocks Mask = false
+in_turn on_blocks Row = false
+in_turn on_blocks Block = true
+in_turn on_blocks Heard = false
+in_turn on_blocks End = true
+in_turn on_blocks Other = false
+in_turn on_heard Cover = false
+in_turn on_heard Mask = false
+in_turn on_heard Row = false
+in_turn on_heard Block = false
+in_turn on_heard Heard = true
+in_turn on_heard End = true
+in_turn on_heard Other = false
+in_turn on_nothing word = false
 
 -- the part after a line that is in its turn
 abbrev pub after : Word → Part
-after Cover = onMask
-after Mask = onRows
-after Row = onRows
-after Block = onBlocks
-after Heard = onHeard
-after End = onNothing
-after Other = onNothing
+after Cover = on_mask
+after Mask = on_rows
+after Row = on_rows
+after Block = on_blocks
+after Heard = on_heard
+after End = on_nothing
+after Other = on_nothing
 
 -- ---- fields
 
@@ -92,13 +92,13 @@ due End k = 1
 due Other k = k
 
 -- the first missing where there are fewer, the first extra where there are more
-abbrev pub firstOff : ℕ → ℕ → ℕ
-firstOff k d = suc (cond (ltb k d) k d)
+abbrev pub first_off : ℕ → ℕ → ℕ
+first_off k d = suc (cond (ltb k d) k d)
 
 -- whether a field was G or H
-abbrev pub isKind : KindField → Bool
-isKind (K.Is kind) = true
-isKind K.Bad = false
+abbrev pub is_kind : KindField → Bool
+is_kind (K.Is kind) = true
+is_kind K.Bad = false
 
 -- whether it was first or last
 abbrev pub is_order : OrderField → Bool
@@ -106,24 +106,24 @@ is_order (O.Is order) = true
 is_order O.Bad = false
 
 -- whether field `at` of a line of this word, from 1, is of its form, on a sheet of length n
-abbrev pub goodField : ℕ → Word → ℕ → List ℕ → Bool
-goodField n Cover at f = cond (eqb at 2) (is_number (number_of 3 f)) (cond (eqb at 3) (isKind (kind_of f)) (cond (eqb at 4) (is_order (order_of f)) true))
-goodField n Mask at f = cond (eqb at 2) (eqb (length f) n && bitsOnly f) true
-goodField n Row at f = cond (eqb at 2) (eqb (length f) n && bitsOnly f) true
-goodField n Block at f = cond (eqb at 1) true (isSample (sampleOf f))
-goodField n Heard at f = cond (eqb at 1) true (cond (eqb at 2) (is_number (counterOf f)) (isSample (sampleOf f)))
-goodField n End at f = true
-goodField n Other at f = true
+abbrev pub good_field : ℕ → Word → ℕ → List ℕ → Bool
+good_field n Cover at f = cond (eqb at 2) (is_number (number_of 3 f)) (cond (eqb at 3) (is_kind (kind_of f)) (cond (eqb at 4) (is_order (order_of f)) true))
+good_field n Mask at f = cond (eqb at 2) (eqb (length f) n && bits_only f) true
+good_field n Row at f = cond (eqb at 2) (eqb (length f) n && bits_only f) true
+good_field n Block at f = cond (eqb at 1) true (is_sample (sample_of f))
+good_field n Heard at f = cond (eqb at 1) true (cond (eqb at 2) (is_number (counter_of f)) (is_sample (sample_of f)))
+good_field n End at f = true
+good_field n Other at f = true
 
 -- the number of a field that is not: 20 on a mask or row, and else 19
-abbrev pub formNumber : Word → ℕ
-formNumber Cover = 19
-formNumber Mask = 20
-formNumber Row = 20
-formNumber Block = 19
-formNumber Heard = 19
-formNumber End = 19
-formNumber Other = 19
+abbrev pub form_number : Word → ℕ
+form_number Cover = 19
+form_number Mask = 20
+form_number Row = 20
+form_number Block = 19
+form_number Heard = 19
+form_number End = 19
+form_number Other = 19
 
 -- ---- faults
 
@@ -139,21 +139,21 @@ first_word fs = word_of (field_at fs 1)
 -- what is wrong with an ended line, by its fields. 17: its first is unknown or out of its turn; 18: their number, at the first missing or extra;
 -- 19 or 20: the form of one
 pub data Wrong (n : ℕ) (part : Part) (fs : List (List ℕ)) (number at : ℕ) : Type 0 where
-  outOfTurn : in_turn part (first_word fs) ≡ false → number ≡ 17 → at ≡ 1 → Wrong n part fs number at
-  miscounted : (length fs ≡ due (first_word fs) (length fs) → ⊥) → number ≡ 18 → at ≡ firstOff (length fs) (due (first_word fs) (length fs))
+  out_of_turn : in_turn part (first_word fs) ≡ false → number ≡ 17 → at ≡ 1 → Wrong n part fs number at
+  miscounted : (length fs ≡ due (first_word fs) (length fs) → ⊥) → number ≡ 18 → at ≡ first_off (length fs) (due (first_word fs) (length fs))
       → Wrong n part fs number at
-  malformed : 1 ≤ at → at ≤ length fs → goodField n (first_word fs) at (field_at fs at) ≡ false → number ≡ formNumber (first_word fs)
+  malformed : 1 ≤ at → at ≤ length fs → good_field n (first_word fs) at (field_at fs at) ≡ false → number ≡ form_number (first_word fs)
       → Wrong n part fs number at
 
 -- 10, field 0: a line that is missing or not ended, of which only this text stands; after end nothing is missing
 abbrev pub Open : Part → List ℕ → ℕ → ℕ → Type 0
-Open onCover text number at = (number ≡ 10) × (at ≡ 0)
-Open onMask text number at = (number ≡ 10) × (at ≡ 0)
-Open onRows text number at = (number ≡ 10) × (at ≡ 0)
-Open onBlocks text number at = (number ≡ 10) × (at ≡ 0)
-Open onHeard text number at = (number ≡ 10) × (at ≡ 0)
-Open onNothing [] number at = ⊥
-Open onNothing (x ∷ xs) number at = (number ≡ 10) × (at ≡ 0)
+Open on_cover text number at = (number ≡ 10) × (at ≡ 0)
+Open on_mask text number at = (number ≡ 10) × (at ≡ 0)
+Open on_rows text number at = (number ≡ 10) × (at ≡ 0)
+Open on_blocks text number at = (number ≡ 10) × (at ≡ 0)
+Open on_heard text number at = (number ≡ 10) × (at ≡ 0)
+Open on_nothing [] number at = ⊥
+Open on_nothing (x ∷ xs) number at = (number ≡ 10) × (at ≡ 0)
 
 -- what is wrong with the first of some lines: what follows the last line feed is no line
 abbrev pub WrongHere : ℕ → Part → List (List ℕ) → ℕ → ℕ → Type 0
@@ -186,7 +186,7 @@ pub record FirstFault (n : ℕ) (part : Part) (ls : List (List ℕ)) (line numbe
 -- why an input of length n is refused: it is too long; or it has a fault, and the first is told; or n is out of its range, the cover having no
 -- fault; or it has too many rows, no line having a fault
 pub data RefusedFor (s : List ℕ) (n : ℕ) (q : Refusal) : Type 0 where
-  tooLong : q ≡ InputTooLong → RefusedFor s n q
-  fault : FirstFault n onCover (lines s) (place q) (number q) (field q) → RefusedFor s n q
-  badLength : q ≡ Length → ((number at : ℕ) → WrongAt n onCover (lines s) 1 number at → ⊥) → RefusedFor s n q
-  manyRows : q ≡ TooManyRows → ((line number at : ℕ) → WrongAt n onCover (lines s) line number at → ⊥) → RefusedFor s n q
+  too_long : q ≡ InputTooLong → RefusedFor s n q
+  fault : FirstFault n on_cover (lines s) (place q) (number q) (field q) → RefusedFor s n q
+  bad_length : q ≡ Length → ((number at : ℕ) → WrongAt n on_cover (lines s) 1 number at → ⊥) → RefusedFor s n q
+  many_rows : q ≡ TooManyRows → ((line number at : ℕ) → WrongAt n on_cover (lines s) line number at → ⊥) → RefusedFor s n q

@@ -4,7 +4,7 @@ use Rattle.std.specs.Prelude.{ℕ, zero, suc, drop, Bool, true, false, cond, Lis
 use Rattle.sheets.specs.Text.{fields}
 use Rattle.sheets.specs.Words.{word_of}
 use Rattle.sheets.specs.Rows.{row_of}
-use Rattle.sheets.specs.Blocks.{heardRest, samplesOf}
+use Rattle.sheets.specs.Blocks.{heard_rest, samples_of}
 use Rattle.sheets.specs.declared.Order.{Order}
 use Rattle.sheets.specs.declared.word.Word.{Word}
 use Rattle.sheets.specs.declared.word.Word.TheVariants as W
@@ -38,73 +38,73 @@ field_of (F.Value at) = at
 field_of (F.Row at) = at
 
 -- the field after row makes the line
-abbrev pub rowIs : Row → Line
-rowIs (R.Is w) = L.Row w
-rowIs R.Bad = L.Bad (F.Row 2)
+abbrev pub row_is : Row → Line
+row_is (R.Is w) = L.Row w
+row_is R.Bad = L.Bad (F.Row 2)
 
 -- exactly one field after row
-abbrev pub rowRest : ℕ → Order → List (List ℕ) → Line
-rowRest n order [] = L.Bad (F.Count 2)
-rowRest n order (f ∷ []) = rowIs (row_of n order f)
-rowRest n order (f ∷ g ∷ fs) = L.Bad (F.Count 3)
+abbrev pub row_rest : ℕ → Order → List (List ℕ) → Line
+row_rest n order [] = L.Bad (F.Count 2)
+row_rest n order (f ∷ []) = row_is (row_of n order f)
+row_rest n order (f ∷ g ∷ fs) = L.Bad (F.Count 3)
 
 -- the samples after block make the line
-abbrev pub blockIs : Samples → Line
-blockIs (S.Count k) = L.Block
-blockIs (S.Bad f) = L.Bad (F.Value f)
+abbrev pub block_is : Samples → Line
+block_is (S.Count k) = L.Block
+block_is (S.Bad f) = L.Bad (F.Value f)
 
 -- any number of samples after block
-abbrev pub blockRest : List (List ℕ) → Line
-blockRest fs = blockIs (samplesOf 2 0 fs)
+abbrev pub block_rest : List (List ℕ) → Line
+block_rest fs = block_is (samples_of 2 0 fs)
 
 -- after heard: a counter, and any number of samples
-abbrev pub heardFields : List (List ℕ) → Line
-heardFields [] = L.Bad (F.Count 2)
-heardFields (f ∷ fs) = blockIs (heardRest (f ∷ fs))
+abbrev pub heard_fields : List (List ℕ) → Line
+heard_fields [] = L.Bad (F.Count 2)
+heard_fields (f ∷ fs) = block_is (heard_rest (f ∷ fs))
 
 -- nothing after end
-abbrev pub endRest : List (List ℕ) → Line
-endRest [] = L.End
-endRest (f ∷ fs) = L.Bad (F.Count 2)
+abbrev pub end_rest : List (List ℕ) → Line
+end_rest [] = L.End
+end_rest (f ∷ fs) = L.Bad (F.Count 2)
 
 -- where a block or heard line has come, a row is out of its turn
-abbrev pub lateRow : Came → Bool
-lateRow Nothing = false
-lateRow Blocks = true
-lateRow Heards = true
+abbrev pub late_row : Came → Bool
+late_row Nothing = false
+late_row Blocks = true
+late_row Heards = true
 
 -- where a heard line has come, a block
-abbrev pub lateBlock : Came → Bool
-lateBlock Nothing = false
-lateBlock Blocks = false
-lateBlock Heards = true
+abbrev pub late_block : Came → Bool
+late_block Nothing = false
+late_block Blocks = false
+late_block Heards = true
 
 -- where a block has come, a heard line
-abbrev pub lateHeard : Came → Bool
-lateHeard Nothing = false
-lateHeard Blocks = true
-lateHeard Heards = false
+abbrev pub late_heard : Came → Bool
+late_heard Nothing = false
+late_heard Blocks = true
+late_heard Heards = false
 
 -- by what has come before the line; a second cover is always out of its turn, and so is a second mask or one later in the sheet
-abbrev pub lineBy : ℕ → Order → Came → Word → List (List ℕ) → Line
-lineBy n order came W.Cover fs = L.Bad F.Turn
-lineBy n order came W.Mask fs = L.Bad F.Turn
-lineBy n order came W.Row fs = cond (lateRow came) (L.Bad F.Turn) (rowRest n order fs)
-lineBy n order came W.Block fs = cond (lateBlock came) (L.Bad F.Turn) (blockRest fs)
-lineBy n order came W.Heard fs = cond (lateHeard came) (L.Bad F.Turn) (heardFields fs)
-lineBy n order came W.End fs = endRest fs
-lineBy n order came W.Other fs = L.Bad F.Turn
+abbrev pub line_by : ℕ → Order → Came → Word → List (List ℕ) → Line
+line_by n order came W.Cover fs = L.Bad F.Turn
+line_by n order came W.Mask fs = L.Bad F.Turn
+line_by n order came W.Row fs = cond (late_row came) (L.Bad F.Turn) (row_rest n order fs)
+line_by n order came W.Block fs = cond (late_block came) (L.Bad F.Turn) (block_rest fs)
+line_by n order came W.Heard fs = cond (late_heard came) (L.Bad F.Turn) (heard_fields fs)
+line_by n order came W.End fs = end_rest fs
+line_by n order came W.Other fs = L.Bad F.Turn
 
 -- what has come after so many block lines, or heard lines
-abbrev pub cameAfter : Bool → ℕ → Came
-cameAfter heard zero = Nothing
-cameAfter false (suc k) = Blocks
-cameAfter true (suc k) = Heards
+abbrev pub came_after : Bool → ℕ → Came
+came_after heard zero = Nothing
+came_after false (suc k) = Blocks
+came_after true (suc k) = Heards
 
 -- a line by its fields
 abbrev pub line_of : ℕ → Order → Came → List (List ℕ) → Line
 line_of n order came [] = L.Bad F.Turn
-line_of n order came (w ∷ fs) = lineBy n order came (word_of w) fs
+line_of n order came (w ∷ fs) = line_by n order came (word_of w) fs
 
 -- the line at the front of some lines: what follows the last line feed is no line, so that the line is missing or not ended
 abbrev pub front : ℕ → Order → Came → List (List ℕ) → Line
@@ -113,16 +113,16 @@ front n order came (l ∷ []) = L.Bad F.Missing
 front n order came (l ∷ m ∷ ls) = line_of n order came (fields l)
 
 -- one row more, or no more
-abbrev pub rowThen : Line → List ℕ → List ℕ
-rowThen (L.Row w) ws = w ∷ ws
-rowThen L.Block ws = []
-rowThen L.End ws = []
-rowThen (L.Bad f) ws = []
+abbrev pub row_then : Line → List ℕ → List ℕ
+row_then (L.Row w) ws = w ∷ ws
+row_then L.Block ws = []
+row_then L.End ws = []
+row_then (L.Bad f) ws = []
 
 -- the words of the row lines at the front of some lines
 abbrev pub rows_of : ℕ → Order → List (List ℕ) → List ℕ
 rows_of n order [] = []
-rows_of n order (l ∷ ls) = rowThen (front n order Nothing (l ∷ ls)) (rows_of n order ls)
+rows_of n order (l ∷ ls) = row_then (front n order Nothing (l ∷ ls)) (rows_of n order ls)
 
 -- after end: nothing, so that what follows the last line feed is empty
 abbrev pub after_end : List (List ℕ) → Ending
@@ -132,12 +132,12 @@ after_end ((x ∷ xs) ∷ []) = After F.Missing
 after_end (l ∷ m ∷ ls) = After F.Turn
 
 -- another line than end: a row, block or heard line here is out of its turn
-abbrev pub endBy : Line → List (List ℕ) → Ending
-endBy (L.Row w) ls = NoEnd F.Turn
-endBy L.Block ls = NoEnd F.Turn
-endBy L.End ls = after_end ls
-endBy (L.Bad f) ls = NoEnd f
+abbrev pub end_by : Line → List (List ℕ) → Ending
+end_by (L.Row w) ls = NoEnd F.Turn
+end_by L.Block ls = NoEnd F.Turn
+end_by L.End ls = after_end ls
+end_by (L.Bad f) ls = NoEnd f
 
 -- how lines end that are to be end and nothing after
-abbrev pub endingOf : ℕ → Order → Came → List (List ℕ) → Ending
-endingOf n order came ls = endBy (front n order came ls) (drop 1 ls)
+abbrev pub ending_of : ℕ → Order → Came → List (List ℕ) → Ending
+ending_of n order came ls = end_by (front n order came ls) (drop 1 ls)

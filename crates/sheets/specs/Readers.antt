@@ -3,13 +3,13 @@ use Rattle.std.specs.Prelude.{ℕ, ◌+◌, ◌-◌, ◌≤◌, ◌<◌, ℤ, le
 use Rattle.plates.specs.declared.Refusal.{Refusal}
 use Rattle.plates.specs.declared.Verdict.{Verdict}
 use Rattle.plates.specs.declared.Verdict.TheVariants as J
-use Rattle.sheets.specs.Text.{lineFeed, till, lines, lines_from, begins}
+use Rattle.sheets.specs.Text.{line_feed, till, lines, lines_from, begins}
 use Rattle.sheets.specs.Room.{laid}
-use Rattle.sheets.specs.Blocks.{samplesOf, values_of, blockBy, block_line, valuesAfter, listedIn, heardRest, blocksOf, blockAt, nextLine, blockReply}
+use Rattle.sheets.specs.Blocks.{samples_of, values_of, block_by, block_line, values_after, listed_in, heard_rest, blocks_of, block_at, next_line, block_reply}
 use Rattle.sheets.specs.Lines.{rows_of}
-use Rattle.sheets.specs.Masks.{maskFront}
-use Rattle.sheets.specs.Sheet.{coverFront, coverIn, contentsWith, sheetAt}
-use Rattle.sheets.specs.Sheet.{refusalOf, coverBad, lengthBad, endingAfter, lineVerdict, rowsTooMany, firstRefusal}
+use Rattle.sheets.specs.Masks.{mask_front}
+use Rattle.sheets.specs.Sheet.{cover_front, cover_in, contents_with, sheet_at}
+use Rattle.sheets.specs.Sheet.{refusal_of, cover_bad, length_bad, ending_after, line_verdict, rows_too_many, first_refusal}
 use Rattle.sheets.specs.declared.Order.{Order}
 use Rattle.sheets.specs.declared.Order.TheVariants.{First, Last}
 use Rattle.sheets.specs.declared.BlockReply.{BlockReply}
@@ -58,19 +58,19 @@ pub record SamplesRead (d : Samples) (vs : List ℤ) (room : List ℤ) (r : Samp
 
 -- the fields from the first sample on, which is field `lead`
 abbrev pub FieldsRead : ℕ → List (List ℕ) → List ℤ → Samples → List ℤ → Type 0
-FieldsRead lead fs room r room' = SamplesRead (samplesOf lead 0 fs) (values_of fs) room r room'
+FieldsRead lead fs room r room' = SamplesRead (samples_of lead 0 fs) (values_of fs) room r room'
 
 -- the fields after heard
 abbrev pub HeardRead : List (List ℕ) → List ℤ → Samples → List ℤ → Type 0
-HeardRead fs room r room' = SamplesRead (heardRest fs) (values_of (drop 1 fs)) room r room'
+HeardRead fs room r room' = SamplesRead (heard_rest fs) (values_of (drop 1 fs)) room r room'
 
 -- the fields after a word
 abbrev pub RestRead : Bool → Word → List (List ℕ) → List ℤ → Samples → List ℤ → Type 0
-RestRead heard word fs room r room' = SamplesRead (blockBy heard word fs) (valuesAfter heard fs) room r room'
+RestRead heard word fs room r room' = SamplesRead (block_by heard word fs) (values_after heard fs) room r room'
 
 -- the fields of a whole line
 abbrev pub LineRead : Bool → List (List ℕ) → List ℤ → Samples → List ℤ → Type 0
-LineRead heard fs room r room' = SamplesRead (block_line heard fs) (listedIn heard fs) room r room'
+LineRead heard fs room r room' = SamplesRead (block_line heard fs) (listed_in heard fs) room r room'
 
 -- where the sample of a position is listed among n
 abbrev pub listed_at : Order → ℕ → ℕ → ℕ
@@ -81,19 +81,19 @@ listed_at Last n position = n - 1 - position
 pub record Ended (s : List ℕ) (at next : ℕ) : Type 0 where
   pub low : at < next
   pub high : next ≤ length s
-  pub until : Until lineFeed s at (next - 1)
+  pub until : Until line_feed s at (next - 1)
 
 -- r is the reply for the block line at a place
 pub record BlockRead (heard : Bool) (s : List ℕ) (at : ℕ) (r : BlockReply) : Type 0 where
-  pub reply : r ≡ blockReply (nextLine s at) (blockAt heard s at)
+  pub reply : r ≡ block_reply (next_line s at) (block_at heard s at)
   pub place : (k next : ℕ) → r ≡ B.Read k next → Ended s at next
 
 -- ---- the cover
 
 -- it is read and in its range, and the next line begins at `next`
 pub record HeadIs (s : List ℕ) (cover : Cover) (next : ℕ) : Type 0 where
-  pub form : coverFront (lines s) ≡ C.Is cover
-  pub range : lengthBad cover.n ≡ J.Accepted
+  pub form : cover_front (lines s) ≡ C.Is cover
+  pub range : length_bad cover.n ≡ J.Accepted
   pub most : cover.n ≤ 64
   pub ended : Ended s 0 next
 
@@ -101,7 +101,7 @@ pub record HeadIs (s : List ℕ) (cover : Cover) (next : ℕ) : Type 0 where
 pub record HeadRead (s : List ℕ) (r : Head) : Type 0 where
   pub is : (cover : Cover) (next : ℕ) → r ≡ H.Is cover next → HeadIs s cover next
   pub not : (q : Refusal) → r ≡ H.Refused q
-      → firstRefusal (coverBad (coverFront (lines s)) ∷ lengthBad (coverIn (coverFront (lines s))).n ∷ []) ≡ J.Refused q
+      → first_refusal (cover_bad (cover_front (lines s)) ∷ length_bad (cover_in (cover_front (lines s))).n ∷ []) ≡ J.Refused q
 
 -- ---- the lines after the cover
 
@@ -120,40 +120,40 @@ pub record RowsRead (n : ℕ) (order : Order) (s : List ℕ) (from : ℕ) (table
 
 -- the blocks from a place on
 abbrev pub BlocksRead : Bool → List ℕ → ℕ → Run → Type 0
-BlocksRead heard s from r = Passed (blocksOf heard (lines_from s from)) s from r
+BlocksRead heard s from r = Passed (blocks_of heard (lines_from s from)) s from r
 
 -- the reply by the verdict, a sheet being read
-abbrev pub replyBy : Verdict → Sheet → SheetReply
-replyBy J.Accepted sheet = Read sheet
-replyBy (J.Refused q) sheet = Refused q
+abbrev pub reply_by : Verdict → Sheet → SheetReply
+reply_by J.Accepted sheet = Read sheet
+reply_by (J.Refused q) sheet = Refused q
 
 -- the reply by how the lines end after the rows and blocks, the first row, or what stands in its place, being line `line`
 abbrev pub closed : ℕ → Sheet → Ending → SheetReply
 closed line sheet ending =
-    replyBy (firstRefusal (lineVerdict (line + sheet.rows + sheet.blocks) ending ∷ rowsTooMany sheet.rows ∷ [])) sheet
+    reply_by (first_refusal (line_verdict (line + sheet.rows + sheet.blocks) ending ∷ rows_too_many sheet.rows ∷ [])) sheet
 
 -- the reply by the cover, the mask and the lines after them, which begin at `from` with line `line`
-abbrev pub linesReply : ℕ → ℕ → Cover → ℕ → List (List ℕ) → SheetReply
-linesReply from line cover mask ls =
-    let c = contentsWith cover mask ls in
-    closed line (sheetAt (from + begins ls (length c.rows)) c) (endingAfter c ls)
+abbrev pub lines_reply : ℕ → ℕ → Cover → ℕ → List (List ℕ) → SheetReply
+lines_reply from line cover mask ls =
+    let c = contents_with cover mask ls in
+    closed line (sheet_at (from + begins ls (length c.rows)) c) (ending_after c ls)
 
 -- the table by the reply
-abbrev pub tableBy : SheetReply → List ℕ → List ℕ → List ℕ
-tableBy (Read sheet) rows table = laid rows table
-tableBy (Refused q) rows table = table
+abbrev pub table_by : SheetReply → List ℕ → List ℕ → List ℕ
+table_by (Read sheet) rows table = laid rows table
+table_by (Refused q) rows table = table
 
 -- r is that reply, and the rows are laid into the table where it is a sheet
 pub record LinesRead (from line : ℕ) (cover : Cover) (mask : ℕ) (ls : List (List ℕ)) (table : List ℕ) (r : SheetReply) (table' : List ℕ) : Type 0 where
-  pub reply : r ≡ linesReply from line cover mask ls
-  pub kept : table' ≡ tableBy r (rows_of cover.n cover.order ls) table
+  pub reply : r ≡ lines_reply from line cover mask ls
+  pub kept : table' ≡ table_by r (rows_of cover.n cover.order ls) table
 
 -- the same by the line after the cover, which is line 2 and begins at `from`: a mask, or none, or a bad one
 abbrev pub BodyBy : MaskLine → ℕ → Cover → List (List ℕ) → List ℕ → SheetReply → List ℕ → Type 0
 BodyBy (M.Is w) from cover ls table r table' = LinesRead (from + begins ls 1) 3 cover w (drop 1 ls) table r table'
 BodyBy M.NoMask from cover ls table r table' = LinesRead from 2 cover 0 ls table r table'
-BodyBy (M.Bad fault) from cover ls table r table' = (r ≡ Refused (refusalOf 2 fault)) × (table' ≡ table)
+BodyBy (M.Bad fault) from cover ls table r table' = (r ≡ Refused (refusal_of 2 fault)) × (table' ≡ table)
 
 -- the lines after the cover, which begin at `from`
 pub record BodyRead (s : List ℕ) (from : ℕ) (cover : Cover) (table : List ℕ) (r : SheetReply) (table' : List ℕ) : Type 0 where
-  pub by : BodyBy (maskFront cover.n cover.order (lines_from s from)) from cover (lines_from s from) table r table'
+  pub by : BodyBy (mask_front cover.n cover.order (lines_from s from)) from cover (lines_from s from) table r table'

@@ -6,8 +6,8 @@ abbrev pub tab : ℕ
 tab = 9
 
 -- the byte that ends a line
-abbrev pub lineFeed : ℕ
-lineFeed = 10
+abbrev pub line_feed : ℕ
+line_feed = 10
 
 -- how many bytes stand before the first b: all of them, where there is none
 abbrev pub till : ℕ → List ℕ → ℕ
@@ -30,19 +30,19 @@ fields line = parts tab line
 
 -- the lines of a text; what follows the last line feed stands last, and is no line
 abbrev pub lines : List ℕ → List (List ℕ)
-lines s = parts lineFeed s
+lines s = parts line_feed s
 
 -- the parts from a place on: none where it is past the end
-abbrev pub partsFrom : ℕ → List ℕ → ℕ → List (List ℕ)
-partsFrom b s at = cond (leb at (length s)) (parts b (drop at s)) []
+abbrev pub parts_from : ℕ → List ℕ → ℕ → List (List ℕ)
+parts_from b s at = cond (leb at (length s)) (parts b (drop at s)) []
 
 -- the fields of a line from a place on
-abbrev pub fieldsFrom : List ℕ → ℕ → List (List ℕ)
-fieldsFrom line at = partsFrom tab line at
+abbrev pub fields_from : List ℕ → ℕ → List (List ℕ)
+fields_from line at = parts_from tab line at
 
 -- the lines of a text from a place on
 abbrev pub lines_from : List ℕ → ℕ → List (List ℕ)
-lines_from s at = partsFrom lineFeed s at
+lines_from s at = parts_from line_feed s at
 
 -- where line k begins, the first being line 0: each line before it takes its bytes and its line feed
 abbrev pub begins : List (List ℕ) → ℕ → ℕ

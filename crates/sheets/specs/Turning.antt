@@ -5,11 +5,11 @@ use Rattle.sheets.specs.declared.Order.TheVariants.{First, Last}
 
 module _ {A : Type 0} where
   -- what is listed, in order of position; turned twice it is as it was, so that it also gives what is in order of position as it is to be listed
-  abbrev pub inOrder : Order → List A → List A
-  inOrder First xs = xs
-  inOrder Last xs = reverse xs
+  abbrev pub in_order : Order → List A → List A
+  in_order First xs = xs
+  in_order Last xs = reverse xs
 
 -- the samples of each block line, in order of position
-abbrev pub byPosition : Order → List (List ℤ) → List (List ℤ)
-byPosition order [] = []
-byPosition order (listed ∷ blocks) = inOrder order listed ∷ byPosition order blocks
+abbrev pub by_position : Order → List (List ℤ) → List (List ℤ)
+by_position order [] = []
+by_position order (listed ∷ blocks) = in_order order listed ∷ by_position order blocks

@@ -3,7 +3,7 @@ use Rattle.std.specs.Prelude.{ℕ, zero, suc, leb, cond, List, [], ◌∷◌, �
 use Rattle.plates.specs.Refusals.{field, number, place}
 use Rattle.sheets.specs.Text.{tab, lines}
 use Rattle.sheets.specs.Words.{mask}
-use Rattle.sheets.specs.Sheet.{contents, masksOf, Reading, says, refused}
+use Rattle.sheets.specs.Sheet.{contents, masks_of, Reading, says, refused}
 
 -- n characters 0
 abbrev pub zeros : ℕ → List ℕ
@@ -11,8 +11,8 @@ zeros zero = []
 zeros (suc n) = 48 ∷ zeros n
 
 -- the mask line of n zeros
-abbrev pub zeroMask : ℕ → List ℕ
-zeroMask n = mask ++ tab ∷ zeros n
+abbrev pub zero_mask : ℕ → List ℕ
+zero_mask n = mask ++ tab ∷ zeros n
 
 -- s has no mask line, and t is the sheet s with a mask line of zeros after its cover, which is ended
 pub record ZeroMasked (s t : List ℕ) : Type 0 where
@@ -20,8 +20,8 @@ pub record ZeroMasked (s t : List ℕ) : Type 0 where
   pub next : List ℕ
   pub others : List (List ℕ)
   pub without : lines s ≡ cover ∷ next ∷ others
-  pub masked : lines t ≡ cover ∷ zeroMask (contents s).n ∷ next ∷ others
-  pub none : masksOf s (contents s) ≡ 0
+  pub masked : lines t ≡ cover ∷ zero_mask (contents s).n ∷ next ∷ others
+  pub none : masks_of s (contents s) ≡ 0
 
 -- a line after the cover is one line later
 abbrev pub moved : ℕ → ℕ

@@ -1,6 +1,6 @@
 // A block line or a heard line, and its samples.
 ghost use Rattle.std.specs.Prelude.{◌+◌, ◌≤◌, length, set, ◌≡◌};
-ghost use Rattle.sheets.specs.Text.{fields, fieldsFrom};
+ghost use Rattle.sheets.specs.Text.{fields, fields_from};
 ghost use Rattle.sheets.specs.Readers.{FieldsRead, HeardRead, RestRead, LineRead, BlockRead};
 
 use crate::BlockReply;
@@ -30,7 +30,7 @@ pub fn put_sample(room: &mut [i16], k: usize, value: i16)
 pub fn read_samples(line: &[u8], from: usize, lead: usize, room: &mut [i16]) -> Samples
     requires from_in_bounds { from ≤ length line.now + 1 }
     requires lead_bound { lead ≤ 3 }
-    ensures { FieldsRead lead (fieldsFrom line.now from) room.old result room.new }
+    ensures { FieldsRead lead (fields_from line.now from) room.old result room.new }
 {
     let mut at = from;
     let mut k: usize = 0;
@@ -50,7 +50,7 @@ pub fn read_samples(line: &[u8], from: usize, lead: usize, room: &mut [i16]) -> 
 // The fields after heard, which ends at a: a counter, and samples.
 pub fn read_heard(line: &[u8], a: usize, room: &mut [i16]) -> Samples
     requires { a ≤ length line.now }
-    ensures { HeardRead (fieldsFrom line.now (a + 1)) room.old result room.new }
+    ensures { HeardRead (fields_from line.now (a + 1)) room.old result room.new }
 {
     if a == line.len() {
         return Samples::Bad(2);
@@ -67,7 +67,7 @@ pub fn read_heard(line: &[u8], a: usize, room: &mut [i16]) -> Samples
 // The fields after block, or after heard on a sheet of heard lines; the word ends at a.
 fn read_rest(heard: bool, word: Word, line: &[u8], a: usize, room: &mut [i16]) -> Samples
     requires { a ≤ length line.now }
-    ensures { RestRead heard word (fieldsFrom line.now (a + 1)) room.old result room.new }
+    ensures { RestRead heard word (fields_from line.now (a + 1)) room.old result room.new }
 {
     if heard {
         let Word::Heard = word else {

@@ -1,9 +1,9 @@
 // The lines after the cover: mask, rows, blocks or heard lines, end.
 ghost use Rattle.std.specs.Prelude.{◌+◌, ◌≤◌, length, set, ◌≡◌};
 ghost use Rattle.sheets.specs.Text.{fields, lines_from};
-ghost use Rattle.sheets.specs.Lines.{after_end, cameAfter, endingOf};
-ghost use Rattle.sheets.specs.Blocks.{heardFront, heardLine, isHeard};
-ghost use Rattle.sheets.specs.Readers.{closed, linesReply, RowsRead, BlocksRead, LinesRead, BodyRead};
+ghost use Rattle.sheets.specs.Lines.{after_end, came_after, ending_of};
+ghost use Rattle.sheets.specs.Blocks.{heard_front, heard_line, is_heard};
+ghost use Rattle.sheets.specs.Readers.{closed, lines_reply, RowsRead, BlocksRead, LinesRead, BodyRead};
 
 use crate::block::block_at;
 use crate::cover::Cover;
@@ -70,7 +70,7 @@ pub fn read_rows(input: &[u8], from: usize, n: usize, order: Order, table: &mut 
 
 // Whether a word is heard.
 fn is_heard(word: Word) -> bool
-    ensures { result ≡ isHeard word }
+    ensures { result ≡ is_heard word }
 {
     match word {
         Word::Heard => true,
@@ -85,7 +85,7 @@ fn is_heard(word: Word) -> bool
 
 // Whether a line begins with heard.
 fn begins_heard(line: &[u8]) -> bool
-    ensures { result ≡ heardLine (fields line.now) }
+    ensures { result ≡ heard_line (fields line.now) }
 {
     let end = until(line, 0, b'\t');
     let word = read_word(&line[..end]);
@@ -95,7 +95,7 @@ fn begins_heard(line: &[u8]) -> bool
 // Whether the line at a place does.
 fn heard_at(input: &[u8], at: usize) -> bool
     requires { at ≤ length input.now }
-    ensures { result ≡ heardFront (lines_from input.now at) }
+    ensures { result ≡ heard_front (lines_from input.now at) }
 {
     let end = until(input, at, b'\n');
     begins_heard(&input[at..end])
@@ -103,7 +103,7 @@ fn heard_at(input: &[u8], at: usize) -> bool
 
 // What has come after so many blocks or heard lines.
 fn came_after(heard: bool, count: usize) -> Came
-    ensures { result ≡ cameAfter heard count }
+    ensures { result ≡ came_after heard count }
 {
     if count == 0 {
         return Came::Nothing;
@@ -157,7 +157,7 @@ fn after_end(input: &[u8], at: usize) -> Ending
 fn read_end(input: &[u8], at: usize, n: usize, order: Order, came: Came) -> Ending
     requires at_in_bounds { at ≤ length input.now }
     requires n_bound { n ≤ 64 }
-    ensures { result ≡ endingOf n order came (lines_from input.now at) }
+    ensures { result ≡ ending_of n order came (lines_from input.now at) }
 {
     let end = until(input, at, b'\n');
     let line = line_between(input, at, end, n, order, came);
@@ -195,7 +195,7 @@ fn check_lines(input: &[u8], from: usize, first: usize, cover: Cover, mask: u64)
     requires first_bound { first ≤ 3 }
     requires input_len_bound { length input.now ≤ 32768 }
     requires n_bound { cover.n ≤ 64 }
-    ensures { result ≡ linesReply from first cover mask (lines_from input.now from) }
+    ensures { result ≡ lines_reply from first cover mask (lines_from input.now from) }
 {
     let n = cover.n;
     let kind = cover.kind;

@@ -1,6 +1,6 @@
 // The counter of a heard line.
 ghost use Rattle.std.specs.Prelude.{◌<◌, ◌≡◌};
-ghost use Rattle.sheets.specs.Blocks.{counterIn, counterFront};
+ghost use Rattle.sheets.specs.Blocks.{counter_in, counter_front};
 ghost use Rattle.sheets.specs.Numbers.{worth};
 ghost use Rattle.sheets.specs.Readers.{Below};
 ghost use Rattle.sheets.specs.Text.{fields, lines_from};
@@ -30,7 +30,7 @@ fn worth(number: Number) -> u16
 
 // The counter of a line: 0 where it is no heard line or has none.
 pub fn counter_in(line: &[u8]) -> u16
-    ensures { result ≡ counterIn (fields line.now) }
+    ensures { result ≡ counter_in (fields line.now) }
 {
     let a = until(line, 0, b'\t');
     let word = read_word(&line[..a]);
@@ -47,7 +47,7 @@ pub fn counter_in(line: &[u8]) -> u16
 
 // The counter of the line at a place: 0 where there is no line.
 pub fn counter_at(input: &[u8], at: usize) -> u16
-    ensures { result ≡ counterFront (lines_from input.now at) }
+    ensures { result ≡ counter_front (lines_from input.now at) }
 {
     if input.len() < at {
         return 0;

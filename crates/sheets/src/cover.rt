@@ -1,7 +1,7 @@
 // The cover line.
 ghost use Rattle.std.specs.Prelude.{◌+◌, ◌≤◌, length, ◌≡◌};
-ghost use Rattle.sheets.specs.Text.{fields, fieldsFrom};
-ghost use Rattle.sheets.specs.Covers.{kind_of, order_of, coverIs, coverFields, coverRest, coverBy, coverOf};
+ghost use Rattle.sheets.specs.Text.{fields, fields_from};
+ghost use Rattle.sheets.specs.Covers.{kind_of, order_of, cover_is, cover_fields, cover_rest, cover_by, cover_of};
 
 use crate::Order;
 use crate::line::Fault;
@@ -67,7 +67,7 @@ fn read_order(f: &[u8]) -> OrderField
 
 // The first of the three fields that is bad, or the cover.
 fn cover_of(number: Number, kind: KindField, order: OrderField) -> CoverLine
-    ensures { result ≡ coverIs number kind order }
+    ensures { result ≡ cover_is number kind order }
 {
     let Number::Is(n) = number else {
         return CoverLine::Bad(Fault::Value(2));
@@ -87,7 +87,7 @@ fn cover_of(number: Number, kind: KindField, order: OrderField) -> CoverLine
 
 // The three fields after the word.
 fn cover_fields(f: &[u8], g: &[u8], h: &[u8]) -> CoverLine
-    ensures { result ≡ coverFields f.now g.now h.now }
+    ensures { result ≡ cover_fields f.now g.now h.now }
 {
     let number = read_number(f, 3);
     let kind = read_kind(g);
@@ -98,7 +98,7 @@ fn cover_fields(f: &[u8], g: &[u8], h: &[u8]) -> CoverLine
 // The fields after the word, which ends at a.
 fn cover_rest(line: &[u8], a: usize) -> CoverLine
     requires { a ≤ length line.now }
-    ensures { result ≡ coverRest (fieldsFrom line.now (a + 1)) }
+    ensures { result ≡ cover_rest (fields_from line.now (a + 1)) }
 {
     if a == line.len() {
         return CoverLine::Bad(Fault::Count(2));
@@ -124,7 +124,7 @@ fn cover_rest(line: &[u8], a: usize) -> CoverLine
 // The fields after the first, which is the word and ends at a.
 fn cover_by(word: Word, line: &[u8], a: usize) -> CoverLine
     requires { a ≤ length line.now }
-    ensures { result ≡ coverBy word (fieldsFrom line.now (a + 1)) }
+    ensures { result ≡ cover_by word (fields_from line.now (a + 1)) }
 {
     match word {
         Word::Cover => cover_rest(line, a),
@@ -139,7 +139,7 @@ fn cover_by(word: Word, line: &[u8], a: usize) -> CoverLine
 
 // A whole cover line.
 pub fn read_cover(line: &[u8]) -> CoverLine
-    ensures { result ≡ coverOf (fields line.now) }
+    ensures { result ≡ cover_of (fields line.now) }
 {
     let a = until(line, 0, b'\t');
     let word = read_word(&line[..a]);

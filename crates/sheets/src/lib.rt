@@ -1,6 +1,6 @@
 // The sheet: its grammar as definitions, and its reader.
 ghost use Rattle.std.specs.Prelude.{◌≡◌};
-ghost use Rattle.sheets.specs.Blocks.{ReadsBlock, counterAt};
+ghost use Rattle.sheets.specs.Blocks.{ReadsBlock, counter_at};
 ghost use Rattle.sheets.specs.Sheet.{ReadsSheet};
 
 use block::block_at;
@@ -95,7 +95,7 @@ pub fn read_block(
 
 // Reads the counter of the heard line that begins at a place: 0 where none begins there.
 pub fn read_counter(input: &[u8], at: usize) -> u16
-    ensures { result ≡ counterAt input.now at }
+    ensures { result ≡ counter_at input.now at }
 {
     counter_at(input, at)
 }

@@ -1,9 +1,9 @@
 // A line after the cover.
 ghost use Rattle.std.specs.Prelude.{◌+◌, ◌≤◌, length, ◌≡◌};
-ghost use Rattle.sheets.specs.Text.{lineFeed, fields, fieldsFrom, lines_from};
+ghost use Rattle.sheets.specs.Text.{line_feed, fields, fields_from, lines_from};
 ghost use Rattle.sheets.specs.Readers.{Until};
-ghost use Rattle.sheets.specs.Sheet.{refusalOf};
-ghost use Rattle.sheets.specs.Lines.{rowIs, rowRest, blockIs, blockRest, heardFields, endRest, lateRow, lateBlock, lateHeard, lineBy, line_of, front};
+ghost use Rattle.sheets.specs.Sheet.{refusal_of};
+ghost use Rattle.sheets.specs.Lines.{row_is, row_rest, block_is, block_rest, heard_fields, end_rest, late_row, late_block, late_heard, line_by, line_of, front};
 
 use crate::Order;
 use crate::block::{Samples, read_heard, read_samples};
@@ -37,7 +37,7 @@ pub enum Fault {
 
 // The refusal of a line with such a fault.
 pub fn refusal_of(line: usize, fault: Fault) -> Refusal
-    ensures { result ≡ refusalOf line fault }
+    ensures { result ≡ refusal_of line fault }
 {
     match fault {
         Fault::Count(field) => Refusal::FieldCount(line, field),
@@ -59,7 +59,7 @@ pub enum Line {
 
 // A row's word makes the line.
 fn row_is(row: Row) -> Line
-    ensures { result ≡ rowIs row }
+    ensures { result ≡ row_is row }
 {
     match row {
         Row::Is(word) => Line::Row(word),
@@ -71,7 +71,7 @@ fn row_is(row: Row) -> Line
 pub fn row_rest(line: &[u8], a: usize, n: usize, order: Order) -> Line
     requires a_in_bounds { a ≤ length line.now }
     requires n_bound { n ≤ 64 }
-    ensures { result ≡ rowRest n order (fieldsFrom line.now (a + 1)) }
+    ensures { result ≡ row_rest n order (fields_from line.now (a + 1)) }
 {
     if a == line.len() {
         return Line::Bad(Fault::Count(2));
@@ -86,7 +86,7 @@ pub fn row_rest(line: &[u8], a: usize, n: usize, order: Order) -> Line
 
 // Samples make the line.
 fn block_is(samples: Samples) -> Line
-    ensures { result ≡ blockIs samples }
+    ensures { result ≡ block_is samples }
 {
     match samples {
         Samples::Count(_) => Line::Block,
@@ -97,7 +97,7 @@ fn block_is(samples: Samples) -> Line
 // The fields after block, which ends at a.
 fn block_rest(line: &[u8], a: usize) -> Line
     requires { a ≤ length line.now }
-    ensures { result ≡ blockRest (fieldsFrom line.now (a + 1)) }
+    ensures { result ≡ block_rest (fields_from line.now (a + 1)) }
 {
     let mut scratch = [0i16; 1];
     let samples = read_samples(line, a + 1, 2, &mut scratch);
@@ -107,7 +107,7 @@ fn block_rest(line: &[u8], a: usize) -> Line
 // The fields after heard, which ends at a.
 fn heard_rest(line: &[u8], a: usize) -> Line
     requires { a ≤ length line.now }
-    ensures { result ≡ heardFields (fieldsFrom line.now (a + 1)) }
+    ensures { result ≡ heard_fields (fields_from line.now (a + 1)) }
 {
     if a == line.len() {
         return Line::Bad(Fault::Count(2));
@@ -120,7 +120,7 @@ fn heard_rest(line: &[u8], a: usize) -> Line
 // The fields after end, which ends at a.
 fn end_rest(line: &[u8], a: usize) -> Line
     requires { a ≤ length line.now }
-    ensures { result ≡ endRest (fieldsFrom line.now (a + 1)) }
+    ensures { result ≡ end_rest (fields_from line.now (a + 1)) }
 {
     if a == line.len() {
         return Line::End;
@@ -130,7 +130,7 @@ fn end_rest(line: &[u8], a: usize) -> Line
 
 // Whether a row is out of its turn.
 fn late_row(came: Came) -> bool
-    ensures { result ≡ lateRow came }
+    ensures { result ≡ late_row came }
 {
     match came {
         Came::Nothing => false,
@@ -141,7 +141,7 @@ fn late_row(came: Came) -> bool
 
 // Whether a block is.
 fn late_block(came: Came) -> bool
-    ensures { result ≡ lateBlock came }
+    ensures { result ≡ late_block came }
 {
     match came {
         Came::Nothing => false,
@@ -152,7 +152,7 @@ fn late_block(came: Came) -> bool
 
 // Whether a heard line is.
 fn late_heard(came: Came) -> bool
-    ensures { result ≡ lateHeard came }
+    ensures { result ≡ late_heard came }
 {
     match came {
         Came::Nothing => false,
@@ -165,7 +165,7 @@ fn late_heard(came: Came) -> bool
 fn line_by(word: Word, line: &[u8], a: usize, n: usize, order: Order, came: Came) -> Line
     requires a_in_bounds { a ≤ length line.now }
     requires n_bound { n ≤ 64 }
-    ensures { result ≡ lineBy n order came word (fieldsFrom line.now (a + 1)) }
+    ensures { result ≡ line_by n order came word (fields_from line.now (a + 1)) }
 {
     match word {
         Word::Cover => Line::Bad(Fault::Turn),
@@ -206,7 +206,7 @@ fn read_line(line: &[u8], n: usize, order: Order, came: Came) -> Line
 // The line from `at` to `end`, which is missing or not ended where `end` is the end of the input.
 pub fn line_between(input: &[u8], at: usize, end: usize, n: usize, order: Order, came: Came) -> Line
     requires at_in_bounds { at ≤ length input.now }
-    requires until { Until lineFeed input.now at end }
+    requires until { Until line_feed input.now at end }
     requires n_bound { n ≤ 64 }
     ensures { result ≡ front n order came (lines_from input.now at) }
 {

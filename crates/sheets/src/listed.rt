@@ -1,7 +1,7 @@
 // A line of a supplier's listing of branches.
 ghost use Rattle.std.specs.Prelude.{◌+◌, ◌≤◌, length, ◌≡◌};
-ghost use Rattle.sheets.specs.Text.{fields, fieldsFrom};
-ghost use Rattle.sheets.specs.Listed.{branchFields, branchIn, branchIs, branchOf, branchRest, entry_at};
+ghost use Rattle.sheets.specs.Text.{fields, fields_from};
+ghost use Rattle.sheets.specs.Listed.{branch_fields, branch_in, branch_is, branch_of, branch_rest, entry_at};
 
 use crate::number::{Number, read_number};
 use crate::scan::until;
@@ -32,7 +32,7 @@ pub struct Entry {
 
 // Four numbers in their ranges.
 fn branch_in(branch: Branch, n: usize) -> BranchLine
-    ensures { result ≡ branchIn n branch }
+    ensures { result ≡ branch_in n branch }
 {
     if n <= branch.depth {
         return BranchLine::Bad;
@@ -51,7 +51,7 @@ fn branch_in(branch: Branch, n: usize) -> BranchLine
 
 // The four numbers after the word.
 fn branch_is(depth: Number, from: Number, bit: Number, to: Number, n: usize) -> BranchLine
-    ensures { result ≡ branchIs n depth from bit to }
+    ensures { result ≡ branch_is n depth from bit to }
 {
     let Number::Is(d) = depth else {
         return BranchLine::Bad;
@@ -78,7 +78,7 @@ fn branch_is(depth: Number, from: Number, bit: Number, to: Number, n: usize) -> 
 
 // The four fields after the word.
 fn branch_fields(f: &[u8], g: &[u8], h: &[u8], k: &[u8], n: usize) -> BranchLine
-    ensures { result ≡ branchFields n f.now g.now h.now k.now }
+    ensures { result ≡ branch_fields n f.now g.now h.now k.now }
 {
     let depth = read_number(f, 4);
     let from = read_number(g, 4);
@@ -90,7 +90,7 @@ fn branch_fields(f: &[u8], g: &[u8], h: &[u8], k: &[u8], n: usize) -> BranchLine
 // The fields after the word, which ends at a.
 fn branch_rest(line: &[u8], a: usize, n: usize) -> BranchLine
     requires { a ≤ length line.now }
-    ensures { result ≡ branchRest n (fieldsFrom line.now (a + 1)) }
+    ensures { result ≡ branch_rest n (fields_from line.now (a + 1)) }
 {
     if a == line.len() {
         return BranchLine::Bad;
@@ -120,7 +120,7 @@ fn branch_rest(line: &[u8], a: usize, n: usize) -> BranchLine
 
 // A whole line.
 fn read_branch(line: &[u8], n: usize) -> BranchLine
-    ensures { result ≡ branchOf n (fields line.now) }
+    ensures { result ≡ branch_of n (fields line.now) }
 {
     let a = until(line, 0, b'\t');
     if is_text(&line[..a], b"branch") {

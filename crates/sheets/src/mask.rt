@@ -1,8 +1,8 @@
 // The mask line, which may stand right after the cover and is read as a row is.
 ghost use Rattle.std.specs.Prelude.{◌+◌, ◌≤◌, length, ◌≡◌};
-ghost use Rattle.sheets.specs.Text.{lineFeed, fields, fieldsFrom, lines_from};
+ghost use Rattle.sheets.specs.Text.{line_feed, fields, fields_from, lines_from};
 ghost use Rattle.sheets.specs.Readers.{Until};
-ghost use Rattle.sheets.specs.Masks.{maskIs, maskBy, mask_of, maskFront};
+ghost use Rattle.sheets.specs.Masks.{mask_is, mask_by, mask_of, mask_front};
 
 use crate::Order;
 use crate::line::{Fault, Line, row_rest};
@@ -19,7 +19,7 @@ pub enum MaskLine {
 
 // A row's line as that of a mask.
 fn mask_is(line: Line) -> MaskLine
-    ensures { result ≡ maskIs line }
+    ensures { result ≡ mask_is line }
 {
     match line {
         Line::Row(word) => MaskLine::Is(word),
@@ -33,7 +33,7 @@ fn mask_is(line: Line) -> MaskLine
 fn mask_by(word: Word, line: &[u8], a: usize, n: usize, order: Order) -> MaskLine
     requires a_in_bounds { a ≤ length line.now }
     requires n_bound { n ≤ 64 }
-    ensures { result ≡ maskBy n order word (fieldsFrom line.now (a + 1)) }
+    ensures { result ≡ mask_by n order word (fields_from line.now (a + 1)) }
 {
     let Word::Mask = word else {
         return MaskLine::NoMask;
@@ -55,9 +55,9 @@ fn read_mask(line: &[u8], n: usize, order: Order) -> MaskLine
 // The line from `at` to `end`, which is none where `end` is the end of the input.
 pub fn mask_between(input: &[u8], at: usize, end: usize, n: usize, order: Order) -> MaskLine
     requires at_in_bounds { at ≤ length input.now }
-    requires until { Until lineFeed input.now at end }
+    requires until { Until line_feed input.now at end }
     requires n_bound { n ≤ 64 }
-    ensures { result ≡ maskFront n order (lines_from input.now at) }
+    ensures { result ≡ mask_front n order (lines_from input.now at) }
 {
     if end == input.len() {
         return MaskLine::NoMask;

@@ -1,6 +1,6 @@
 // The numbers of a sheet: n on the cover, counters and samples.
 ghost use Rattle.std.specs.Prelude.{◌+◌, ◌-◌, ◌^◌, ◌≤◌, ◌<◌, pos, neg_ℤ, length, ◌≡◌};
-ghost use Rattle.sheets.specs.Numbers.{counterIs, counterOf, leadingZero, digitsOf, number_of, plain, negated, sampleOf};
+ghost use Rattle.sheets.specs.Numbers.{counter_is, counter_of, leading_zero, digits_of, number_of, plain, negated, sample_of};
 ghost use Rattle.sheets.specs.Readers.{Below, NumberRead};
 
 use crate::scan::within;
@@ -30,7 +30,7 @@ fn digit(x: u8) -> usize
 // The value of a run of at most five digits.
 fn read_digits(f: &[u8]) -> Number
     requires { length f.now ≤ 5 }
-    ensures { NumberRead (digitsOf 0 f.now) (10 ^ length f.now) result }
+    ensures { NumberRead (digits_of 0 f.now) (10 ^ length f.now) result }
 {
     let mut value: usize = 0;
     let mut i = 0;
@@ -47,7 +47,7 @@ fn read_digits(f: &[u8]) -> Number
 
 // Whether a zero stands before something.
 fn leading_zero(f: &[u8]) -> bool
-    ensures { result ≡ leadingZero f.now }
+    ensures { result ≡ leading_zero f.now }
 {
     1 < f.len() && f[0] == b'0'
 }
@@ -72,7 +72,7 @@ pub fn read_number(f: &[u8], most: usize) -> Number
 
 // A number that is at most 65535.
 fn as_counter(number: Number) -> Number
-    ensures value { result ≡ counterIs number }
+    ensures value { result ≡ counter_is number }
     ensures below { Below 65536 result }
 {
     match number {
@@ -88,7 +88,7 @@ fn as_counter(number: Number) -> Number
 
 // A counter: a number of one to five digits, at most 65535.
 pub fn read_counter_field(f: &[u8]) -> Number
-    ensures value { result ≡ counterOf f.now }
+    ensures value { result ≡ counter_of f.now }
     ensures below { Below 65536 result }
 {
     as_counter(read_number(f, 5))
@@ -139,7 +139,7 @@ fn after_minus(number: Number) -> Sample
 
 // A sample: a number of one to four digits, or a minus and one that is not 0.
 pub fn read_sample(f: &[u8]) -> Sample
-    ensures { result ≡ sampleOf f.now }
+    ensures { result ≡ sample_of f.now }
 {
     if f.len() == 0 {
         return Sample::Bad;

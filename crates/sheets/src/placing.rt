@@ -1,10 +1,10 @@
 // The samples of a block or heard line in their places by position.
 ghost use Rattle.std.specs.Prelude.{◌<◌, ◌≤◌, length, ◌≡◌};
-ghost use Rattle.sheets.specs.Blocks.{block_line, placed, listedIn};
+ghost use Rattle.sheets.specs.Blocks.{block_line, placed, listed_in};
 ghost use Rattle.sheets.specs.Readers.{listed_at};
 ghost use Rattle.sheets.specs.Room.{laid};
 ghost use Rattle.sheets.specs.Text.{fields};
-ghost use Rattle.sheets.specs.Turning.{inOrder};
+ghost use Rattle.sheets.specs.Turning.{in_order};
 ghost use Rattle.sheets.specs.declared.block.Samples.TheVariants.{Count};
 
 use crate::Order;
@@ -24,7 +24,7 @@ fn listed_at(order: Order, n: usize, position: usize) -> usize
 
 // Listed samples into the places of their positions; beyond the room they are dropped.
 fn place_listed(listed: &[i16], order: Order, room: &mut [i16])
-    ensures { room.new ≡ laid (inOrder order listed.now) room.old }
+    ensures { room.new ≡ laid (in_order order listed.now) room.old }
 {
     let n = listed.len();
     let mut k: usize = 0;
@@ -39,7 +39,7 @@ fn place_listed(listed: &[i16], order: Order, room: &mut [i16])
 // The samples of a block or heard line that has `count` of them, which are left out where they are more than 64.
 pub fn place_samples(heard: bool, line: &[u8], count: usize, order: Order, room: &mut [i16])
     requires { block_line heard (fields line.now) ≡ Count count }
-    ensures { room.new ≡ placed order (listedIn heard (fields line.now)) room.old }
+    ensures { room.new ≡ placed order (listed_in heard (fields line.now)) room.old }
 {
     if 64 < count {
         return;

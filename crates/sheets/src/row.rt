@@ -1,7 +1,7 @@
 // A row's characters and the word that they are.
 ghost use Rattle.std.specs.Prelude.{◌≤◌, length, ◌≡◌};
-ghost use Rattle.sheets.specs.Rows.{bit_of, bitsOnly, wordFrom, row_of};
-ghost use Rattle.sheets.specs.Turning.{inOrder};
+ghost use Rattle.sheets.specs.Rows.{bit_of, bits_only, word_from, row_of};
+ghost use Rattle.sheets.specs.Turning.{in_order};
 
 use crate::Order;
 use crate::scan::within;
@@ -22,7 +22,7 @@ fn bit_of(x: u8) -> u64
 
 // Whether each character is 0 or 1.
 fn bits_only(f: &[u8]) -> bool
-    ensures { result ≡ bitsOnly f.now }
+    ensures { result ≡ bits_only f.now }
 {
     let mut i = 0;
     while i < f.len() {
@@ -37,7 +37,7 @@ fn bits_only(f: &[u8]) -> bool
 // The word whose position 0 is the leftmost character.
 fn from_left(f: &[u8]) -> u64
     requires { length f.now ≤ 64 }
-    ensures { result ≡ wordFrom (inOrder Order.First f.now) }
+    ensures { result ≡ word_from (in_order Order.First f.now) }
 {
     let mut i = f.len();
     let mut word: u64 = 0;
@@ -51,7 +51,7 @@ fn from_left(f: &[u8]) -> u64
 // The word whose position 0 is the rightmost character.
 fn from_right(f: &[u8]) -> u64
     requires { length f.now ≤ 64 }
-    ensures { result ≡ wordFrom (inOrder Order.Last f.now) }
+    ensures { result ≡ word_from (in_order Order.Last f.now) }
 {
     let mut i = 0;
     let mut word: u64 = 0;
@@ -65,7 +65,7 @@ fn from_right(f: &[u8]) -> u64
 // The word of a row's characters in the cover's order.
 fn word_of(f: &[u8], order: Order) -> u64
     requires { length f.now ≤ 64 }
-    ensures { result ≡ wordFrom (inOrder order f.now) }
+    ensures { result ≡ word_from (in_order order f.now) }
 {
     match order {
         Order::First => from_left(f),

@@ -17,7 +17,7 @@ use Rattle.plates.specs.declared.Refusal.{Refusal}
 use Rattle.plates.specs.declared.Refusal.TheVariants.{RowBeyond}
 use Rattle.plates.specs.declared.Verdict.TheVariants.{Accepted}
 use Rattle.plates.specs.Heads.{RowsOf}
-use Rattle.plates.specs.Prepare.{IsPrepared, PlateOf, Prepares, PreparesAs, RowOver, Wide, prepareConditions, rows_of}
+use Rattle.plates.specs.Prepare.{IsPrepared, PlateOf, Prepares, PreparesAs, RowOver, Wide, prepare_conditions, rows_of}
 use Rattle.plates.specs.Refusals.{Passes}
 use Rattle.trellises.proofs.PlateGenerates.{code-closed, code-zero, plate-generates}
 use Rattle.words.proofs.Sums.{all-zero}
@@ -57,26 +57,26 @@ rows_same C D e rows f l p = record {
 -- and the same plate
 pub plate-same : (C D : ℕ → Type 0) → ((w : ℕ) → C w ↔ D w) → (n mask : ℕ) (plate : Plate) → PlateOf C n mask plate → PlateOf D n mask plate
 plate-same C D e n mask plate a = record {
-  length-n = a.length-n;
+  length_n = a.length_n;
   mask_is = a.mask_is;
   few = a.few;
   table = a.table;
   rows = rows_same C D e (rows_of plate) _ _ a.rows;
-  unused-rows = a.unused-rows;
+  unused_rows = a.unused_rows;
   entries = a.entries;
   profile = a.profile;
-  unused-entries = a.unused-entries;
+  unused_entries = a.unused_entries;
 }
 
 -- a matrix, and what preparing it replies where it accepts
 module _ (n : ℕ) (kind : Kind) (rows : List ℕ) (mask : ℕ) (r : Prepared) (p : Prepares n kind rows mask r) (e : r.verdict ≡ Accepted) where
   -- the reply by its case
-  pub accepted : Passes (prepareConditions n kind rows mask) × PlateOf (InCode kind n rows) n mask r.plate
-  accepted = subst (PreparesAs (prepareConditions n kind rows mask) (InCode kind n rows) n mask r.plate) e p.reply
+  pub accepted : Passes (prepare_conditions n kind rows mask) × PlateOf (InCode kind n rows) n mask r.plate
+  accepted = subst (PreparesAs (prepare_conditions n kind rows mask) (InCode kind n rows) n mask r.plate) e p.reply
 
   -- the plate has the matrix's length
   pub accepted-length : r.plate.n ≡ n
-  accepted-length = accepted.1.length-n
+  accepted-length = accepted.1.length_n
 
   -- and the mask
   pub accepted-mask : r.plate.mask ≡ mask
@@ -117,7 +117,7 @@ module _ (n : ℕ) (kind : Kind) (rows : List ℕ) (mask : ℕ) (r : Prepared) (
             is = w.is;
           })
 
-      pass : Passes (prepareConditions n G (rows_of r.plate) mask)
+      pass : Passes (prepare_conditions n G (rows_of r.plate) mask)
       pass = (accepted.0.0, ((λ q b. omega (arith, b.0, used-rows r.plate accepted.1.few accepted.1.table, accepted.1.few)), (over, (accepted.0.1.1.1.0, (wide, tt)))))
 
       answer : PlateOf (IsSum (rows_of r.plate)) n mask r.plate

@@ -8,7 +8,7 @@ use mathlib.Core.Path.{ap, ap₂, refl, sym, ◌∙◌, ◌≡◌}
 use native.Mathlib.Decide.{dec_lt}
 use native.Mathlib.Omega.{arith}
 use Prim.Native.Nat.{◌<◌, suc, suc-le-suc, zero, zero-le, ℕ, ◌≤◌}
-use Rattle.plates.proofs.Live.{is_live, live-is}
+use Rattle.plates.proofs.Live.{is_live, live_is}
 use Rattle.plates.specs.Profile.{live}
 use Rattle.trellises.proofs.Active.{active-is, is-active}
 use Rattle.trellises.specs.States.{active}
@@ -49,7 +49,7 @@ module _ (rows : List ℕ) (f l : ℕ → ℕ) (s : Spans rows f l) (t : ℕ) wh
   other i d =
       same_test (active f l t i) (live f l t i)
       (λ a. let b = active-is f l t i a in is_live f l t i (go (dec_lt (f i) t) b.0) b.1)
-      (λ a. let b = live-is f l t i a in is-active f l t i (omega arith) b.1)
+      (λ a. let b = live_is f l t i a in is-active f l t i (omega arith) b.1)
     where
       go : Dec (f i < t) → f i ≤ t → f i < t
       go (yes a) b = a
@@ -64,7 +64,7 @@ module _ (rows : List ℕ) (f l : ℕ → ℕ) (s : Spans rows f l) (t : ℕ) wh
   active-more j k e =
       count-more (length rows) (active f l t) (live f l t) j k
       (same_test (active f l t j) true (λ a. tt) (λ a. is-active f l t j (omega arith) (ends (dec_lt (l j) (f j)))))
-      (same_test (live f l t j) false (λ a. let b = live-is f l t j a in omega arith) (λ a. absurd a))
+      (same_test (live f l t j) false (λ a. let b = live_is f l t j a in omega arith) (λ a. absurd a))
       (λ i m d. other i (λ q. d (rising-apart (length rows) f s.rising i j m k (q ∙ sym e))))
     where
       ends : Dec (l j < f j) → t ≤ l j

@@ -11,10 +11,10 @@ use Rattle.trellises.proofs.MaskedGraph.{has-off}
 use Rattle.trellises.proofs.PathsOnce.{one-branch}
 use Rattle.trellises.proofs.PlateTrellis.{plate-kept}
 use Rattle.trellises.proofs.TrellisSpells.{Kept, spans-kept}
-use Rattle.trellises.specs.Branching.{Branches, branchConditions, codeTrellis}
+use Rattle.trellises.specs.Branching.{Branches, branch_conditions, code_trellis}
 use Rattle.trellises.specs.declared.Next.{Next}
 use Rattle.trellises.specs.declared.Next.TheVariants.{NoBranch, Refused, State}
-use Rattle.trellises.specs.Graph.{Has, branchAt}
+use Rattle.trellises.specs.Graph.{Has, branch_at}
 use Rattle.trellises.specs.States.{trellis}
 use Rattle.words.specs.Span.{Spans}
 use Rattle.words.specs.Word.{bit}
@@ -24,14 +24,14 @@ next-kept : (rows : List ℕ) (f l : ℕ → ℕ) → Kept rows f l → (t a b x
     → x ≡ y
 next-kept rows f l s t a b x y h k =
     let e : h.place ≡ k.place = one-branch rows f l s t h.place k.place h.there k.there (h.leaves ∙ sym k.leaves) (h.spells ∙ sym k.spells) in
-    sym h.leads ∙ ap (λ (i : ℕ). (branchAt (trellis rows f l) t i).to) e ∙ k.leads
+    sym h.leads ∙ ap (λ (i : ℕ). (branch_at (trellis rows f l) t i).to) e ∙ k.leads
 
 pub next-determined : (rows : List ℕ) (f l : ℕ → ℕ) → Spans rows f l → (t a b x y : ℕ) → Has (trellis rows f l) t a b x
     → Has (trellis rows f l) t a b y → x ≡ y
 next-determined rows f l s = next-kept rows f l (spans-kept s)
 
 module _ (plate : Plate) (depth state bit : ℕ) where
-  conditions-single : Single (branchConditions plate depth state bit)
+  conditions-single : Single (branch_conditions plate depth state bit)
   conditions-single = ((λ p q x y. x.1 ∙ sym y.1), ((λ p q x y. x.1 ∙ sym y.1), tt))
 
   pub branch-determined : (r s : Next) → Branches plate depth state bit r → Branches plate depth state bit s → r ≡ s
@@ -42,14 +42,14 @@ module _ (plate : Plate) (depth state bit : ℕ) where
       go (no n) =
           absurd (p.0.0 NotPrepared (
             (λ g. n (next-kept (rows_of plate) _ _ (plate-kept plate g) depth state _ x y
-                (has-off plate.mask (codeTrellis plate) p.1) (has-off plate.mask (codeTrellis plate) q.1))),
+                (has-off plate.mask (code_trellis plate) p.1) (has-off plate.mask (code_trellis plate) q.1))),
             refl,
           ))
   branch-determined (State x) NoBranch p q = absurd (q.1 x p.1)
-  branch-determined (State x) (Refused b) p q = absurd (never_both (branchConditions plate depth state bit) p.0 b (q))
+  branch-determined (State x) (Refused b) p q = absurd (never_both (branch_conditions plate depth state bit) p.0 b (q))
   branch-determined NoBranch (State y) p q = absurd (p.1 y q.1)
   branch-determined NoBranch NoBranch p q = refl
-  branch-determined NoBranch (Refused b) p q = absurd (never_both (branchConditions plate depth state bit) p.0 b (q))
-  branch-determined (Refused a) (State y) p q = absurd (never_both (branchConditions plate depth state bit) q.0 a (p))
-  branch-determined (Refused a) NoBranch p q = absurd (never_both (branchConditions plate depth state bit) q.0 a (p))
-  branch-determined (Refused a) (Refused b) p q = ap Refused (refuses-once (branchConditions plate depth state bit) conditions-single a b p q)
+  branch-determined NoBranch (Refused b) p q = absurd (never_both (branch_conditions plate depth state bit) p.0 b (q))
+  branch-determined (Refused a) (State y) p q = absurd (never_both (branch_conditions plate depth state bit) q.0 a (p))
+  branch-determined (Refused a) NoBranch p q = absurd (never_both (branch_conditions plate depth state bit) q.0 a (p))
+  branch-determined (Refused a) (Refused b) p q = ap Refused (refuses-once (branch_conditions plate depth state bit) conditions-single a b p q)

@@ -15,7 +15,7 @@ use Rattle.plates.specs.Code.{Checked, InCode}
 use Rattle.plates.specs.Counts.{before}
 use Rattle.plates.specs.declared.Kind.TheVariants.{G, H}
 use Rattle.plates.specs.Heads.{RowsOf}
-use Rattle.plates.specs.Profile.{live, liveAt}
+use Rattle.plates.specs.Profile.{live, live_at}
 use Rattle.trellises.proofs.AcceptedIsPrepared.{code_below}
 use Rattle.trellises.proofs.DualPositions.{fill-up}
 use Rattle.trellises.proofs.PlateGenerates.{code-closed, code-zero, plate-generates}
@@ -40,7 +40,7 @@ count-all (suc k) P h = go (P 0) (h 0 (suc-le-suc zero-le)) (count-all k (λ j. 
     go false t e = absurd t
 
 -- with equal profiles up to n the first depth is the same
-first-carried : (n : ℕ) (a b : List ℕ) → ((t : ℕ) → t ≤ n → liveAt a t ≡ liveAt b t) → (d : ℕ) → FirstWide a n d → FirstWide b n d
+first-carried : (n : ℕ) (a b : List ℕ) → ((t : ℕ) → t ≤ n → live_at a t ≡ live_at b t) → (d : ℕ) → FirstWide a n d → FirstWide b n d
 first-carried n a b same d w = record {
   within = w.within;
   over = omega (arith, same d w.within, w.over);
@@ -122,7 +122,7 @@ module _ (n : ℕ) (matrix : List ℕ) (below : (j : ℕ) → j < length matrix 
 
   module _ (a b : List ℕ) (p : RowsOf (InCode G n matrix) a (firsts a) (lasts a)) (q : RowsOf (InCode H n matrix) b (firsts b) (lasts b)) where
     -- the profiles are equal
-    pub dual-profiles : (t : ℕ) → t ≤ n → liveAt a t ≡ liveAt b t
+    pub dual-profiles : (t : ℕ) → t ≤ n → live_at a t ≡ live_at b t
     dual-profiles = same_live a b (firsts a) (lasts a) (firsts b) (lasts b) p q
 
     -- and so is the first depth at which more than 12 rows are live

@@ -22,8 +22,8 @@ use Rattle.plates.specs.declared.Refusal.TheVariants.{TooWide}
 use Rattle.plates.specs.declared.Verdict.{Verdict}
 use Rattle.plates.specs.declared.Verdict.TheVariants.{Accepted, Refused}
 use Rattle.plates.specs.Heads.{RowsOf}
-use Rattle.plates.specs.Prepare.{Prepares, PreparesAs, RowOver, Wide, badLength, maskBeyond, prepareConditions, rows_of, tooManyRows}
-use Rattle.plates.specs.Profile.{liveAt}
+use Rattle.plates.specs.Prepare.{Prepares, PreparesAs, RowOver, Wide, bad_length, mask_beyond, prepare_conditions, rows_of, too_many_rows}
+use Rattle.plates.specs.Profile.{live_at}
 use Rattle.plates.specs.Refusals.{Passes, Refuses, number, place}
 use Rattle.trellises.proofs.AcceptedIsPrepared.{accepted, all-below}
 use Rattle.trellises.proofs.DualProfiles.{dual-dimensions, dual-profiles}
@@ -55,14 +55,14 @@ dual H = G
 -- two replies have the same verdict, and plates of the same length with the same profile
 record SameProfile (r s : Prepared) : Type 0 where
   verdict : r.verdict ≡ s.verdict
-  length-n : r.plate.n ≡ s.plate.n
+  length_n : r.plate.n ≡ s.plate.n
   profile : r.plate.profile ≡ s.plate.profile
 
 -- equal replies have all of it alike
 same-reply : (r s : Prepared) → r ≡ s → SameProfile r s
 same-reply r s e = record {
   verdict = ap (λ (x : Prepared). x.verdict) e;
-  length-n = ap (λ (x : Prepared). x.plate.n) e;
+  length_n = ap (λ (x : Prepared). x.plate.n) e;
   profile = ap (λ (x : Prepared). x.plate.profile) e;
 }
 
@@ -74,26 +74,26 @@ record Plated (C : ℕ → Type 0) : Type 0 where
 module _ (n : ℕ) (matrix : List ℕ) where
   -- the conditions of refusals 1 to 3 and 23, which do not ask whether the matrix is G or H, and that of 4, which does
   abbrev early : List (Refusal → Type 0)
-  early = badLength n ∷ tooManyRows matrix ∷ RowOver n matrix ∷ maskBeyond n 0 ∷ []
+  early = bad_length n ∷ too_many_rows matrix ∷ RowOver n matrix ∷ mask_beyond n 0 ∷ []
 
   abbrev wide : Kind → Refusal → Type 0
   wide kind = Wide (InCode kind n matrix) n
 
   -- what preparing may reply
   abbrev Reply : Kind → Plate → Verdict → Type 0
-  Reply kind = PreparesAs (prepareConditions n kind matrix 0) (InCode kind n matrix) n 0
+  Reply kind = PreparesAs (prepare_conditions n kind matrix 0) (InCode kind n matrix) n 0
 
   -- past refusal 3 each row is below 2 ^ n
   below : Passes early → (j : ℕ) → j < length matrix → get_or matrix j 0 < 2 ^ n
   below v j = all-below n matrix v.1.1.0 (suc j) j (omega arith)
 
   -- what passes all conditions passes these
-  first_three : (kind : Kind) → Passes (prepareConditions n kind matrix 0) → Passes early
+  first_three : (kind : Kind) → Passes (prepare_conditions n kind matrix 0) → Passes early
   first_three kind p = (p.0, (p.1.0, (p.1.1.0, (p.1.1.1.0, tt))))
 
   -- the profiles are equal, whichever of the two is G
   profiles : Passes early → (kind : Kind) (a b : List ℕ) → RowsOf (InCode kind n matrix) a (firsts a) (lasts a)
-      → RowsOf (InCode (dual kind) n matrix) b (firsts b) (lasts b) → (t : ℕ) → t ≤ n → liveAt a t ≡ liveAt b t
+      → RowsOf (InCode (dual kind) n matrix) b (firsts b) (lasts b) → (t : ℕ) → t ≤ n → live_at a t ≡ live_at b t
   profiles v G a b p q t h = dual-profiles n matrix (below v) a b p q t h
   profiles v H a b p q t h = sym (dual-profiles n matrix (below v) b a q p t h)
 
@@ -107,12 +107,12 @@ module _ (n : ℕ) (matrix : List ℕ) where
       go (inr x) = let c : wide kind q = by_only (wide kind) q x.1 in record { rows = c.rows; plate = c.plate }
 
   -- what refuses the one refuses the other
-  refused-both : (kind : Kind) (q : Refusal) (b : Plate) (w : Verdict) → Refuses (prepareConditions n kind matrix 0) q → Reply (dual kind) b w
-      → Refuses (prepareConditions n (dual kind) matrix 0) q
+  refused-both : (kind : Kind) (q : Refusal) (b : Plate) (w : Verdict) → Refuses (prepare_conditions n kind matrix 0) q → Reply (dual kind) b w
+      → Refuses (prepare_conditions n (dual kind) matrix 0) q
   refused-both kind q b w r y = go (by_first early (wide kind ∷ []) q r)
     where
       go : ((es : List (Refusal → Type 0)) → Refuses (early ++ es) q) ⊎ (Passes early × Refuses (wide kind ∷ []) q)
-          → Refuses (prepareConditions n (dual kind) matrix 0) q
+          → Refuses (prepare_conditions n (dual kind) matrix 0) q
       go (inl e) = e (wide (dual kind) ∷ [])
       go (inr x) =
           let c : wide kind q = by_only (wide kind) q x.1 in
@@ -143,12 +143,12 @@ module _ (n : ℕ) (matrix : List ℕ) where
   by_cases : (a b : Plate) (v w : Verdict) → Reply G a v → Reply H b w → SameProfile (record { verdict = v; plate = a }) (record { verdict = w; plate = b })
   by_cases a b Accepted Accepted x y = record {
     verdict = refl;
-    length-n = x.1.length-n ∙ sym y.1.length-n;
+    length_n = x.1.length_n ∙ sym y.1.length_n;
     profile = ext_get_or 0 a.profile b.profile (x.1.entries ∙ sym y.1.entries) (λ t h. entry t (dec_lt n t));
   }
     where
       entry : (t : ℕ) → Dec (n < t) → get_or a.profile t 0 ≡ get_or b.profile t 0
-      entry t (yes h) = x.1.unused-entries t h ∙ sym (y.1.unused-entries t h)
+      entry t (yes h) = x.1.unused_entries t h ∙ sym (y.1.unused_entries t h)
       entry t (no h) =
           let l : t ≤ n = omega arith in
           x.1.profile t l ∙ profiles (first_three G x.0) G (rows_of a) (rows_of b) x.1.rows y.1.rows t l ∙ sym (y.1.profile t l)
@@ -174,13 +174,13 @@ module _ (n : ℕ) (matrix : List ℕ) where
   not-early d (inl c) = omega (arith, ap number c.1)
   not-early d (inr x) = second x.1
     where
-      second : Refuses (tooManyRows matrix ∷ RowOver n matrix ∷ maskBeyond n 0 ∷ []) (TooWide d) → ⊥
+      second : Refuses (too_many_rows matrix ∷ RowOver n matrix ∷ mask_beyond n 0 ∷ []) (TooWide d) → ⊥
       second (inl c) = omega (arith, ap number c.1)
       second (inr z) = third z.1
         where
-          third : Refuses (RowOver n matrix ∷ maskBeyond n 0 ∷ []) (TooWide d) → ⊥
+          third : Refuses (RowOver n matrix ∷ mask_beyond n 0 ∷ []) (TooWide d) → ⊥
           third (inl c) = omega (arith, ap number c.is)
-          third (inr y) = omega (arith, ap number (by_only (maskBeyond n 0) (TooWide d) y.1).1)
+          third (inr y) = omega (arith, ap number (by_only (mask_beyond n 0) (TooWide d) y.1).1)
 
   -- the place of refusal 4 is the first depth over 12 of the code's plate
   refused-at : (kind : Kind) (d : ℕ) (a : Plate) (v : Verdict) → Reply kind a v → v ≡ Refused (TooWide d) → TooWideAt (InCode kind n matrix) n d
@@ -210,12 +210,12 @@ module _ (n : ℕ) (matrix : List ℕ) where
     same-verdict = both.verdict
 
     -- the profiles are equal
-    pub same-profile : r.plate.profile ≡ s.plate.profile
-    same-profile = both.profile
+    pub same_profile : r.plate.profile ≡ s.plate.profile
+    same_profile = both.profile
 
     -- the plates have the same length
     pub same_length : r.plate.n ≡ s.plate.n
-    same_length = both.length-n
+    same_length = both.length_n
 
     -- a valid matrix is accepted both times, or refused with 4 both times, at the same depth
     pub accepted-or-refused-both : 1 ≤ n → n ≤ 64 → length matrix ≤ 64 → ((j : ℕ) → j < length matrix → get_or matrix j 0 < 2 ^ n)

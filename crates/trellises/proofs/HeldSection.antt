@@ -19,8 +19,8 @@ use Rattle.trellises.proofs.OneMoreRow.{and-false, taking, with-row}
 use Rattle.trellises.proofs.SectionAgrees.{live-count}
 use Rattle.trellises.proofs.SectionFits.{column-below, count-at-most, ending-at-most}
 use Rattle.trellises.specs.declared.Section.{Section}
-use Rattle.trellises.specs.SectionOf.{HasRoom, held, isActive, quiet, sectionOf, withActive, with_row}
-use Rattle.trellises.specs.Smallest.{activeAt}
+use Rattle.trellises.specs.SectionOf.{HasRoom, held, is_active, quiet, section_of, with_active, with_row}
+use Rattle.trellises.specs.Smallest.{active_at}
 use Rattle.trellises.specs.States.{active}
 use Rattle.words.proofs.Ends.{first-one-is, last-one-is}
 use Rattle.words.proofs.Word.{bit-div, bit-lt}
@@ -40,11 +40,11 @@ some_word zero f g h = absurd (omega (arith, g.none refl))
 some_word (suc w) f g h = suc-le-suc zero-le
 
 -- a section with another column
-abbrev withColumn : Section → ℕ → Section
-withColumn c n = record { live = c.live; begins = c.begins; ends = c.ends; ending = c.ending; column = n }
+abbrev with_column : Section → ℕ → Section
+with_column c n = record { live = c.live; begins = c.begins; ends = c.ends; ending = c.ending; column = n }
 
 pub held_same : (c : Section) → c.column < 2 ^ 64 → held c ≡ c
-held_same c h = ap (withColumn c) (mod-eq_of_lt h)
+held_same c h = ap (with_column c) (mod-eq_of_lt h)
 
 -- a digit appended to a 64-bit word
 doubled-mod : (x d : ℕ) → d < 2 → (x * 2 + d) % 2 ^ 64 ≡ x * 2 % 2 ^ 64 + d
@@ -78,7 +78,7 @@ module _ (t row : ℕ) (c : Section) (room : HasRoom t c) (word : row < 2 ^ 64) 
         → begins' ≡ (eqb f t || c.begins) → ends' ≡ (eqb l t || c.ends) → ending' ≡ cond (eqb l t) 0 (c.ending + 1)
         → ◌≡◌ {A = Section} (record { live = live'; begins = begins'; ends = ends'; ending = ending'; column = bit_or (c.column * 2 % 2 ^ 64) digit })
         (held (with_row t row c))
-    unfolding with_row withActive
+    unfolding with_row with_active
     held-active h {digit = digit} {live' = live'} {ending' = ending'} g a b d e =
         rw (le-leb (first row) t (omega (arith, first_word row f word is-first)), le-leb t (last row) (omega (arith, last_word)), ← (first_word row f word is-first), ← last_word)
         (λ i. record { live = lives i; begins = b i; ends = d i; ending = endings i; column = columns i })
@@ -99,7 +99,7 @@ module _ (t row : ℕ) (c : Section) (room : HasRoom t c) (word : row < 2 ^ 64) 
 -- ---- all rows
 
 -- at 64 and beyond no row is active
-pub quiet-past : (rows : List ℕ) (t : ℕ) → 64 ≤ t → sectionOf rows t ≡ quiet
+pub quiet-past : (rows : List ℕ) (t : ℕ) → 64 ≤ t → section_of rows t ≡ quiet
 unfolding with_row last
 quiet-past [] t h = refl
 quiet-past (row ∷ rows) t h =
@@ -108,31 +108,31 @@ quiet-past (row ∷ rows) t h =
 -- what a 64-bit column does not hold does not come back
 pub held-row : (t row : ℕ) (c : Section) → held (with_row t row (held c)) ≡ held (with_row t row c)
 held-row t row c =
-    rw (with-row t row c, with-row t row (held c)) (go (isActive t row) (ltb (first row) t) (ltb t (last row)))
+    rw (with-row t row c, with-row t row (held c)) (go (is_active t row) (ltb (first row) t) (ltb t (last row)))
   where
     columns : (x d : ℕ) → (x % 2 ^ 64 * 2 + d) % 2 ^ 64 ≡ (x * 2 + d) % 2 ^ 64
     columns x d = omega arith
 
     go : (a b g : Bool) → held (taking a b g (bit row t) (held c)) ≡ held (taking a b g (bit row t) c)
-    go false b g = ap (withColumn c) (mod-mod c.column (2 ^ 64))
-    go true b g = ap (withColumn (taking true b g (bit row t) c)) (columns c.column (bit row t))
+    go false b g = ap (with_column c) (mod-mod c.column (2 ^ 64))
+    go true b g = ap (with_column (taking true b g (bit row t) c)) (columns c.column (bit row t))
 
 -- rows that are taken in leave room for one more
-pub has_room : (rows : List ℕ) (t : ℕ) → t < 64 → length rows + 1 < 2 ^ 64 → HasRoom t (held (sectionOf rows t))
+pub has_room : (rows : List ℕ) (t : ℕ) → t < 64 → length rows + 1 < 2 ^ 64 → HasRoom t (held (section_of rows t))
 has_room rows t h l = record {
   position = h;
   live = omega (arith, live-count t rows, count-at-most (length rows) (live (firsts rows) (lasts rows) t));
   ending = omega (arith, ending-at-most t rows, count-at-most (length rows) (active (firsts rows) (lasts rows) t));
-  column = mod-lt (sectionOf rows t).column (pow_pos 64);
+  column = mod-lt (section_of rows t).column (pow_pos 64);
 }
 
 -- from the rows behind row j to those from row j on
 pub held_on : (rows : List ℕ) (t j : ℕ) → j < length rows
-    → held (with_row t (get_or rows j 0) (held (sectionOf (drop (suc j) rows) t))) ≡ held (sectionOf (drop j rows) t)
-held_on rows t j h = rw (drop-cons rows j 0 h) (held-row t (get_or rows j 0) (sectionOf (drop (suc j) rows) t))
+    → held (with_row t (get_or rows j 0) (held (section_of (drop (suc j) rows) t))) ≡ held (section_of (drop j rows) t)
+held_on rows t j h = rw (drop-cons rows j 0 h) (held-row t (get_or rows j 0) (section_of (drop (suc j) rows) t))
 
 -- up to 64 rows the column holds them all
-pub held_whole : (rows : List ℕ) (t : ℕ) → length rows ≤ 64 → held (sectionOf rows t) ≡ sectionOf rows t
+pub held_whole : (rows : List ℕ) (t : ℕ) → length rows ≤ 64 → held (section_of rows t) ≡ section_of rows t
 held_whole rows t h =
-    let a : activeAt rows t ≤ 64 = omega (arith, count-at-most (length rows) (active (firsts rows) (lasts rows) t)) in
-    held_same (sectionOf rows t) (lt_of_lt_of_le (column-below t rows) (pow_mono a))
+    let a : active_at rows t ≤ 64 = omega (arith, count-at-most (length rows) (active (firsts rows) (lasts rows) t)) in
+    held_same (section_of rows t) (lt_of_lt_of_le (column-below t rows) (pow_mono a))

@@ -6,8 +6,8 @@ use mathlib.Core.Path.{ap, refl, subst, sym, ◌∙◌, ◌≡◌}
 use native.Mathlib.Omega.{arith}
 use Prim.Native.Nat.{◌<◌, ◌^◌, suc, zero, ℕ, ◌≤◌}
 use Rattle.plates.specs.Code.{Masked}
-use Rattle.trellises.specs.Graph.{Branch, Graph, Has, Path, Spells, branchAt, noBranch}
-use Rattle.trellises.specs.Masking.{masked, turned, turnedAll, turnedBranch}
+use Rattle.trellises.specs.Graph.{Branch, Graph, Has, Path, Spells, branch_at, no_branch}
+use Rattle.trellises.specs.Masking.{masked, turned, turned_all, turned_branch}
 use Rattle.trellises.specs.Smallest.{Different, HasAll, Proper, SamePath, Smallest}
 use Rattle.words.proofs.Word.{bit-lt, bit-xor, xor-cancel}
 use Rattle.words.specs.Word.{bit}
@@ -58,16 +58,16 @@ xor-twice w mask = xor_comm (bit_xor w mask) mask ∙ ap (bit_xor mask) (xor_com
 
 -- ---- branches turned
 
-pub turned-length : (d : ℕ) (bs : List Branch) → length (turnedAll d bs) ≡ length bs
+pub turned-length : (d : ℕ) (bs : List Branch) → length (turned_all d bs) ≡ length bs
 turned-length d [] = refl
 turned-length d (b ∷ bs) = ap suc (turned-length d bs)
 
-turned-at : (d : ℕ) (bs : List Branch) (i : ℕ) → i < length bs → get_or (turnedAll d bs) i noBranch ≡ turnedBranch d (get_or bs i noBranch)
+turned-at : (d : ℕ) (bs : List Branch) (i : ℕ) → i < length bs → get_or (turned_all d bs) i no_branch ≡ turned_branch d (get_or bs i no_branch)
 turned-at d [] i h = absurd (omega arith)
 turned-at d (b ∷ bs) zero h = refl
 turned-at d (b ∷ bs) (suc i) h = turned-at d bs i (omega arith)
 
-branch-twice : (d : ℕ) (b : Branch) → turnedBranch d (turnedBranch d b) ≡ b
+branch-twice : (d : ℕ) (b : Branch) → turned_branch d (turned_branch d b) ≡ b
 branch-twice d b = ap (λ (x : ℕ). record { from = b.from; out = x; to = b.to }) (turned-twice d b.out)
 
 module _ (mask : ℕ) (g : Graph) where
@@ -76,7 +76,7 @@ module _ (mask : ℕ) (g : Graph) where
   masked-branches t = turned-length (bit mask t) (g.branches t)
 
   -- the branch at a place
-  pub masked-branch : (t i : ℕ) → i < length (g.branches t) → branchAt (masked mask g) t i ≡ turnedBranch (bit mask t) (branchAt g t i)
+  pub masked-branch : (t i : ℕ) → i < length (g.branches t) → branch_at (masked mask g) t i ≡ turned_branch (bit mask t) (branch_at g t i)
   masked-branch t i h = turned-at (bit mask t) (g.branches t) i h
 
   -- a branch with a bit is one with the turned bit
@@ -93,11 +93,11 @@ module _ (mask : ℕ) (g : Graph) where
   abbrev pub has-off : {t a b c : ℕ} → Has (masked mask g) t a b c → Has g t a (turned (bit mask t) b) c
   has-off {t} {a} {b} {c} h =
       let l : h.place < length (g.branches t) = omega (arith, h.there, masked-branches t) in
-      let e : branchAt (masked mask g) t h.place ≡ turnedBranch (bit mask t) (branchAt g t h.place) = masked-branch t h.place l in record {
+      let e : branch_at (masked mask g) t h.place ≡ turned_branch (bit mask t) (branch_at g t h.place) = masked-branch t h.place l in record {
         place = h.place;
         there = l;
         leaves = sym (ap (λ (x : Branch). x.from) e) ∙ h.leaves;
-        spells = sym (turned-twice (bit mask t) (branchAt g t h.place).out)
+        spells = sym (turned-twice (bit mask t) (branch_at g t h.place).out)
             ∙ ap (turned (bit mask t)) (sym (ap (λ (x : Branch). x.out) e) ∙ h.spells);
         leads = sym (ap (λ (x : Branch). x.to) e) ∙ h.leads;
       }
@@ -151,16 +151,16 @@ module _ (mask : ℕ) (g : Graph) where
       let h' : i < length (g.branches t) = omega (arith, h, masked-branches t) in
       let k' : j < length (g.branches t) = omega (arith, k, masked-branches t) in
       d i j h' k'
-      (sym (branch-twice (bit mask t) (branchAt g t i))
-      ∙ ap (turnedBranch (bit mask t)) (sym (masked-branch t i h') ∙ e ∙ masked-branch t j k') ∙ branch-twice (bit mask t) (branchAt g t j))
+      (sym (branch-twice (bit mask t) (branch_at g t i))
+      ∙ ap (turned_branch (bit mask t)) (sym (masked-branch t i h') ∙ e ∙ masked-branch t j k') ∙ branch-twice (bit mask t) (branch_at g t j))
 
-  all-masked : (t : ℕ) (once : List Branch) → HasAll g t once → HasAll (masked mask g) t (turnedAll (bit mask t) once)
+  all-masked : (t : ℕ) (once : List Branch) → HasAll g t once → HasAll (masked mask g) t (turned_all (bit mask t) once)
   all-masked t once all i h =
       let h' : i < length (g.branches t) = omega (arith, h, masked-branches t) in
       let x = all i h' in (
         x.0,
         omega (arith, x.1, turned-length (bit mask t) once),
-        turned-at (bit mask t) once x.0 x.1 ∙ ap (turnedBranch (bit mask t)) x.2 ∙ sym (masked-branch t i h'),
+        turned-at (bit mask t) once x.0 x.1 ∙ ap (turned_branch (bit mask t)) x.2 ∙ sym (masked-branch t i h'),
       )
 
 -- ---- the smallest graph of a code becomes the smallest of the words that a mask makes of it
@@ -170,11 +170,11 @@ smallest-masked mask g {n} {C} short s = record {
   spells = spells-masked mask g short s.spells;
   once = λ w p q. once-masked mask g (s.once (bit_xor w mask)) p q;
   different = λ t. different-masked mask g t (s.different t);
-  states-least = λ other r. s.states-least (masked mask other) (spells-code mask other short r);
-  branches-least = λ other r t h once all.
+  states_least = λ other r. s.states_least (masked mask other) (spells-code mask other short r);
+  branches_least = λ other r t h once all.
       omega (
         arith,
-        s.branches-least (masked mask other) (spells-code mask other short r) t h (turnedAll (bit mask t) once) (all-masked mask other t once all),
+        s.branches_least (masked mask other) (spells-code mask other short r) t h (turned_all (bit mask t) once) (all-masked mask other t once all),
         masked-branches mask g t,
         turned-length (bit mask t) once,
       );
@@ -183,15 +183,15 @@ smallest-masked mask g {n} {C} short s = record {
 pub proper-masked : (mask : ℕ) (g : Graph) {n : ℕ} → Proper g n → Proper (masked mask g) n
 proper-masked mask g {n} s = record {
   root = s.root;
-  state-used = λ t a h k. let x = s.state-used t a h k in (bit_xor x.0 mask, path-on mask g x.1, x.2);
-  branch-used = λ t i h k. let x = s.branch-used t i h (omega (arith, k, masked-branches mask g t)) in (bit_xor x.0 mask, path-on mask g x.1, x.2);
+  state_used = λ t a h k. let x = s.state_used t a h k in (bit_xor x.0 mask, path-on mask g x.1, x.2);
+  branch_used = λ t i h k. let x = s.branch_used t i h (omega (arith, k, masked-branches mask g t)) in (bit_xor x.0 mask, path-on mask g x.1, x.2);
   parted = λ t i j h k e f.
       let h' : i < length (g.branches t) = omega (arith, h, masked-branches mask g t) in
       let k' : j < length (g.branches t) = omega (arith, k, masked-branches mask g t) in
       let a = masked-branch mask g t i h' in
       let b = masked-branch mask g t j k' in
       s.parted t i j h' k' (sym (ap (λ (x : Branch). x.from) a) ∙ e ∙ ap (λ (x : Branch). x.from) b)
-      (sym (turned-twice (bit mask t) (branchAt g t i).out)
+      (sym (turned-twice (bit mask t) (branch_at g t i).out)
       ∙ ap (turned (bit mask t)) (sym (ap (λ (x : Branch). x.out) a) ∙ f ∙ ap (λ (x : Branch). x.out) b)
-      ∙ turned-twice (bit mask t) (branchAt g t j).out);
+      ∙ turned-twice (bit mask t) (branch_at g t j).out);
 }

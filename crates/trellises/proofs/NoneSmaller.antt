@@ -6,12 +6,12 @@ use mathlib.Core.Path.{ap, refl, subst, sym, ◌∙◌, ◌≡◌}
 use native.Mathlib.Decide.{dec_lt}
 use native.Mathlib.Omega.{arith}
 use Prim.Native.Nat.{◌<◌, ◌^◌, suc, suc-le-suc, ℕ, ◌≤◌}
-use Rattle.plates.proofs.Live.{live-is}
+use Rattle.plates.proofs.Live.{live_is}
 use Rattle.plates.specs.Profile.{live}
 use Rattle.trellises.proofs.Active.{active-is}
 use Rattle.trellises.proofs.Gluing.{splice-below, splice-high, splice-low, spliced}
 use Rattle.trellises.specs.Beginnings.{splice}
-use Rattle.trellises.specs.Graph.{Branch, Graph, Has, Path, Spells, branchAt, noBranch}
+use Rattle.trellises.specs.Graph.{Branch, Graph, Has, Path, Spells, branch_at, no_branch}
 use Rattle.trellises.specs.States.{active}
 use Rattle.words.proofs.Choice.{spread-injective}
 use Rattle.words.proofs.Pigeonhole.{pigeonhole}
@@ -57,21 +57,21 @@ module _ (g : Graph) (n : ℕ) (rows : List ℕ) (f l : ℕ → ℕ) (s : Spans 
       (λ v d. (word (spread (length rows) (live f l t) v)).1.inside t h)
       (λ v w d e q. spread-injective (length rows) (live f l t) v w d e
       (λ j k a. meet t t (spread (length rows) (live f l t) v) (spread (length rows) (live f l t) w) h q (λ i m o. absurd (omega arith)) j k
-      (live-is f l t j a).0 (live-is f l t j a).1))
+      (live_is f l t j a).0 (live_is f l t j a).1))
 
   -- At least 2 ^ (number of rows active in section t) branches in section t, counting each once: any list that has them all is as long
   module _ (t : ℕ) (h : t < n) (once : List Branch)
-      (all : (i : ℕ) → i < length (g.branches t) → (j : ℕ) × (j < length once) × (get_or once j noBranch ≡ branchAt g t i)) where
+      (all : (i : ℕ) → i < length (g.branches t) → (j : ℕ) × (j < length once) × (get_or once j no_branch ≡ branch_at g t i)) where
     step : (x : ℕ) → Has g t (at t x) (bit (sum_of rows x) t) (at (suc t) x)
     unfolding at
     step x = (word x).1.branch t h
 
     -- where the branch that x takes stands among them
-    stands : (x : ℕ) → (j : ℕ) × (j < length once) × (get_or once j noBranch ≡ branchAt g t (step x).place)
+    stands : (x : ℕ) → (j : ℕ) × (j < length once) × (get_or once j no_branch ≡ branch_at g t (step x).place)
     stands x = all (step x).place (step x).there
 
-    same_branch : (x y : ℕ) → (stands x).0 ≡ (stands y).0 → branchAt g t (step x).place ≡ branchAt g t (step y).place
-    same_branch x y q = sym (stands x).2 ∙ ap (λ (j : ℕ). get_or once j noBranch) q ∙ (stands y).2
+    same_branch : (x y : ℕ) → (stands x).0 ≡ (stands y).0 → branch_at g t (step x).place ≡ branch_at g t (step y).place
+    same_branch x y q = sym (stands x).2 ∙ ap (λ (j : ℕ). get_or once j no_branch) q ∙ (stands y).2
 
     same_from : (x y : ℕ) → (stands x).0 ≡ (stands y).0 → at t x ≡ at t y
     same_from x y q = sym (step x).leaves ∙ ap (λ (b : Branch). b.from) (same_branch x y q) ∙ (step y).leaves

@@ -9,14 +9,14 @@ use native.Mathlib.Decide.{dec_lt, ℕ_discrete}
 use native.Mathlib.Nat.{pow-suc}
 use native.Mathlib.Omega.{arith}
 use Prim.Native.Nat.{◌%◌, ◌/◌, ◌<◌, ◌^◌, suc, zero, zero-le, ℕ, ◌≤◌}
-use Rattle.plates.proofs.Live.{is_live, live-is}
+use Rattle.plates.proofs.Live.{is_live, live_is}
 use Rattle.plates.proofs.OneCheck.{pow-here, pow-other}
 use Rattle.plates.specs.Profile.{live}
 use Rattle.trellises.proofs.Active.{active-is}
 use Rattle.trellises.proofs.TrellisSpells.{Kept, spans-kept, table_at, table-length, trellis-spells}
-use Rattle.trellises.specs.Graph.{Branch, Has, Path, branchAt}
+use Rattle.trellises.specs.Graph.{Branch, Has, Path, branch_at}
 use Rattle.trellises.specs.Smallest.{Different, SamePath}
-use Rattle.trellises.specs.States.{active, branchOf, state_of, trellis}
+use Rattle.trellises.specs.States.{active, branch_of, state_of, trellis}
 use Rattle.words.proofs.Choice.{count_none, gather-lt, gather-same, gather-shows, spread-injective}
 use Rattle.words.proofs.Span.{lt-tri, rising-apart, sum-skip, zero_one}
 use Rattle.words.proofs.Sums.{sum-agree, sum-xor, sum-zero}
@@ -85,19 +85,19 @@ module _ (rows : List ℕ) (f l : ℕ → ℕ) (s : Kept rows f l) where
 
   -- the number of branches of section t
   size : (t : ℕ) → length ((trellis rows f l).branches t) ≡ 2 ^ count (length rows) (active f l t)
-  size t = table-length (2 ^ count (length rows) (active f l t)) (λ v. branchOf rows f l t (spread (length rows) (active f l t) v))
+  size t = table-length (2 ^ count (length rows) (active f l t)) (λ v. branch_of rows f l t (spread (length rows) (active f l t) v))
 
   -- branch v of section t takes the active rows that the digits of v say
   pub kept-branch : (t v : ℕ) → v < length ((trellis rows f l).branches t)
-      → branchAt (trellis rows f l) t v ≡ branchOf rows f l t (spread (length rows) (active f l t) v)
+      → branch_at (trellis rows f l) t v ≡ branch_of rows f l t (spread (length rows) (active f l t) v)
   kept-branch t v h =
-      table_at (2 ^ count (length rows) (active f l t)) (λ v. branchOf rows f l t (spread (length rows) (active f l t) v)) v
+      table_at (2 ^ count (length rows) (active f l t)) (λ v. branch_of rows f l t (spread (length rows) (active f l t) v)) v
       (subst (λ (z : ℕ). v < z) (size t) h)
 
   -- the state that a branch leaves and its bit decide the branch
   pub one-branch : (t i j : ℕ) → i < length ((trellis rows f l).branches t) → j < length ((trellis rows f l).branches t)
-      → (branchAt (trellis rows f l) t i).from ≡ (branchAt (trellis rows f l) t j).from
-      → (branchAt (trellis rows f l) t i).out ≡ (branchAt (trellis rows f l) t j).out → i ≡ j
+      → (branch_at (trellis rows f l) t i).from ≡ (branch_at (trellis rows f l) t j).from
+      → (branch_at (trellis rows f l) t i).out ≡ (branch_at (trellis rows f l) t j).out → i ≡ j
   one-branch t i j hi hj from out =
       spread-injective (length rows) (active f l t) i j (subst (λ (z : ℕ). i < z) (size t) hi) (subst (λ (z : ℕ). j < z) (size t) hj)
       (λ m k a. decided t _ _ (sym (ap (λ (b : Branch). b.from) (kept-branch t i hi)) ∙ from ∙ ap (λ (b : Branch). b.from) (kept-branch t j hj))
@@ -110,7 +110,7 @@ module _ (rows : List ℕ) (f l : ℕ → ℕ) (s : Kept rows f l) where
 
   -- there is one state at depth 0, since no row is live
   nothing-live : 2 ^ count (length rows) (live f l 0) ≡ 1
-  nothing-live = ap (λ (x : ℕ). 2 ^ x) (count_none (length rows) (live f l 0) (λ j k a. omega (arith, live-is f l 0 j a)))
+  nothing-live = ap (λ (x : ℕ). 2 ^ x) (count_none (length rows) (live f l 0) (λ j k a. omega (arith, live_is f l 0 j a)))
 
   -- so every path begins in state 0
   start-zero : (n w : ℕ) (p : Path (trellis rows f l) n w) → p.state 0 ≡ 0
@@ -127,7 +127,7 @@ module _ (rows : List ℕ) (f l : ℕ → ℕ) (s : Kept rows f l) where
     same-state : (t : ℕ) → t ≤ n → p.state t ≡ q.state t
     same-state zero h = start-zero n w p ∙ sym (start-zero n w q)
     same-state (suc t) h =
-        sym (p.branch t h).leads ∙ ap (λ (i : ℕ). (branchAt (trellis rows f l) t i).to) (same_place t h (same-state t (omega arith))) ∙ (q.branch t h).leads
+        sym (p.branch t h).leads ∙ ap (λ (i : ℕ). (branch_at (trellis rows f l) t i).to) (same_place t h (same-state t (omega arith))) ∙ (q.branch t h).leads
 
     -- each word is spelled by at most one path
     pub paths-once : SamePath (trellis rows f l) n w p q
@@ -140,12 +140,12 @@ module _ (rows : List ℕ) (f l : ℕ → ℕ) (s : Kept rows f l) where
       x : ℕ
       x = spread (length rows) (active f l t) b.place
 
-      mine : branchAt (trellis rows f l) t b.place ≡ branchOf rows f l t x
+      mine : branch_at (trellis rows f l) t b.place ≡ branch_of rows f l t x
       mine = kept-branch t b.place b.there
 
       alike : (j : ℕ) → j < length rows → T (live f l (suc t) j) → bit x j ≡ bit u j
       alike j k a =
-          let g = live-is f l (suc t) j a in
+          let g = live_is f l (suc t) j a in
           decided t x u (sym (ap (λ (b : Branch). b.from) mine) ∙ b.leaves ∙ e) (sym (ap (λ (b : Branch). b.out) mine) ∙ b.spells) j k
           (omega arith) (omega arith)
 
@@ -157,7 +157,7 @@ module _ (rows : List ℕ) (f l : ℕ → ℕ) (s : Kept rows f l) where
 -- the same of rows that are kept to their last ones
 module _ (rows : List ℕ) (f l : ℕ → ℕ) (s : Spans rows f l) where
   pub nth-branch : (t v : ℕ) → v < length ((trellis rows f l).branches t)
-      → branchAt (trellis rows f l) t v ≡ branchOf rows f l t (spread (length rows) (active f l t) v)
+      → branch_at (trellis rows f l) t v ≡ branch_of rows f l t (spread (length rows) (active f l t) v)
   nth-branch = kept-branch rows f l (spans-kept s)
 
   pub path-state : (n u : ℕ) (p : Path (trellis rows f l) n (sum_of rows u)) (t : ℕ) → t ≤ n → p.state t ≡ state_of rows f l t u

@@ -10,14 +10,14 @@ use Prim.Native.Nat.{◌*◌, ◌<◌, ◌^◌, zero-le, ℕ, ◌≤◌}
 use Rattle.plates.proofs.SoundIsPrepared.{sound, used-row, used-rows}
 use Rattle.plates.specs.declared.Plate.{Plate}
 use Rattle.plates.specs.Prepare.{IsPrepared, rows_of}
-use Rattle.plates.specs.Profile.{liveAt}
+use Rattle.plates.specs.Profile.{live_at}
 use Rattle.trellises.proofs.ActiveNumber.{active-more, active-same}
 use Rattle.trellises.proofs.NoneSmaller.{branches-bound, states-bound}
 use Rattle.trellises.proofs.PathsOnce.{branches-differ, paths-once}
 use Rattle.trellises.proofs.TrellisSpells.{Kept, own-branches, trellis-spells}
-use Rattle.trellises.specs.Branching.{codeTrellis, kept_to}
+use Rattle.trellises.specs.Branching.{code_trellis, kept_to}
 use Rattle.trellises.specs.Graph.{Branch, Graph, Path, Spells}
-use Rattle.trellises.specs.Smallest.{Begins, Different, HasAll, SamePath, Smallest, activeAt}
+use Rattle.trellises.specs.Smallest.{Begins, Different, HasAll, SamePath, Smallest, active_at}
 use Rattle.words.proofs.Span.{zero_one}
 use Rattle.words.proofs.Word.{bits_below}
 use Rattle.words.specs.Ends.{firsts, lasts}
@@ -57,62 +57,62 @@ module _ (plate : Plate) (given : IsPrepared plate) where
   plate-within j k = omega (arith, plate-fits j k)
 
   -- full paths spell exactly the codewords
-  pub plate-spells : Spells (codeTrellis plate) plate.n (IsSum (rows_of plate))
+  pub plate-spells : Spells (code_trellis plate) plate.n (IsSum (rows_of plate))
   plate-spells = trellis-spells plate.n (rows_of plate) _ _ plate-kept plate-within
 
   -- which begins and ends in state 0
-  pub plate-path-ends : (w : ℕ) (p : Path (codeTrellis plate) plate.n w) → (p.state 0 ≡ 0) × (p.state plate.n ≡ 0)
-  plate-path-ends = full-path-ends (codeTrellis plate) plate.n (IsSum (rows_of plate)) plate-spells
+  pub plate-path-ends : (w : ℕ) (p : Path (code_trellis plate) plate.n w) → (p.state 0 ≡ 0) × (p.state plate.n ≡ 0)
+  plate-path-ends = full-path-ends (code_trellis plate) plate.n (IsSum (rows_of plate)) plate-spells
 
   -- depth t has 2 ^ s(t) states
-  pub states-number : (t : ℕ) → (codeTrellis plate).states t ≡ 2 ^ liveAt (rows_of plate) t
+  pub states-number : (t : ℕ) → (code_trellis plate).states t ≡ 2 ^ live_at (rows_of plate) t
   states-number t = refl
 
   -- and no graph for the code has fewer there
-  pub states-minimal : (g : Graph) → Spells g plate.n (IsSum (rows_of plate)) → (t : ℕ) → t ≤ plate.n → 2 ^ liveAt (rows_of plate) t ≤ g.states t
+  pub states-minimal : (g : Graph) → Spells g plate.n (IsSum (rows_of plate)) → (t : ℕ) → t ≤ plate.n → 2 ^ live_at (rows_of plate) t ≤ g.states t
   states-minimal g = states-bound g plate.n (rows_of plate) _ _ plate-spans
 
   -- section t has a branch for each choice among the active rows
-  pub branches-number : (t : ℕ) → length ((codeTrellis plate).branches t) ≡ 2 ^ activeAt (rows_of plate) t
+  pub branches-number : (t : ℕ) → length ((code_trellis plate).branches t) ≡ 2 ^ active_at (rows_of plate) t
   branches-number = own-branches plate.n (rows_of plate) _ _ plate-kept plate-within
 
   -- all different
-  pub branches-different : (t : ℕ) → Different (codeTrellis plate) t
+  pub branches-different : (t : ℕ) → Different (code_trellis plate) t
   branches-different = branches-differ (rows_of plate) _ _ plate-kept
 
   -- and no graph for the code has fewer there, counting each once
   pub branches-minimal : (g : Graph) → Spells g plate.n (IsSum (rows_of plate)) → (t : ℕ) → t < plate.n → (once : List Branch) → HasAll g t once
-      → 2 ^ activeAt (rows_of plate) t ≤ length once
+      → 2 ^ active_at (rows_of plate) t ≤ length once
   branches-minimal g = branches-bound g plate.n (rows_of plate) _ _ plate-spans
 
   -- that number is 2 ^ s(t), doubled where a row begins at t
-  pub branches-doubled : (t : ℕ) → Begins (rows_of plate) t → 2 ^ activeAt (rows_of plate) t ≡ 2 * 2 ^ liveAt (rows_of plate) t
+  pub branches-doubled : (t : ℕ) → Begins (rows_of plate) t → 2 ^ active_at (rows_of plate) t ≡ 2 * 2 ^ live_at (rows_of plate) t
   branches-doubled t b =
-      ap (λ (x : ℕ). 2 ^ x) (active-more (rows_of plate) _ _ plate-spans t b.row b.there b.here) ∙ pow-succ' 2 (liveAt (rows_of plate) t)
+      ap (λ (x : ℕ). 2 ^ x) (active-more (rows_of plate) _ _ plate-spans t b.row b.there b.here) ∙ pow-succ' 2 (live_at (rows_of plate) t)
 
   -- and just 2 ^ s(t) where none begins
-  pub branches-single : (t : ℕ) → (Begins (rows_of plate) t → ⊥) → 2 ^ activeAt (rows_of plate) t ≡ 2 ^ liveAt (rows_of plate) t
+  pub branches-single : (t : ℕ) → (Begins (rows_of plate) t → ⊥) → 2 ^ active_at (rows_of plate) t ≡ 2 ^ live_at (rows_of plate) t
   branches-single t none =
       ap (λ (x : ℕ). 2 ^ x) (active-same (rows_of plate) _ _ plate-spans t (λ j k e. none (record { row = j; there = k; here = e })))
 
   -- so none has fewer states than the trellis at any depth
-  pub states-least : (other : Graph) → Spells other plate.n (IsSum (rows_of plate)) → (t : ℕ) → t ≤ plate.n
-      → (codeTrellis plate).states t ≤ other.states t
-  states-least = states-minimal
+  pub states_least : (other : Graph) → Spells other plate.n (IsSum (rows_of plate)) → (t : ℕ) → t ≤ plate.n
+      → (code_trellis plate).states t ≤ other.states t
+  states_least = states-minimal
 
   -- or fewer branches in any section
-  pub branches-least : (other : Graph) → Spells other plate.n (IsSum (rows_of plate)) → (t : ℕ) → t < plate.n → (once : List Branch)
-      → HasAll other t once → length ((codeTrellis plate).branches t) ≤ length once
-  branches-least other r t h once all =
+  pub branches_least : (other : Graph) → Spells other plate.n (IsSum (rows_of plate)) → (t : ℕ) → t < plate.n → (once : List Branch)
+      → HasAll other t once → length ((code_trellis plate).branches t) ≤ length once
+  branches_least other r t h once all =
       subst (λ (x : ℕ). x ≤ length once) (sym (own-branches plate.n (rows_of plate) _ _ plate-kept plate-within t))
       (branches-minimal other r t h once all)
 
   -- all of it
-  pub plate-smallest : Smallest (codeTrellis plate) plate.n (IsSum (rows_of plate))
+  pub plate-smallest : Smallest (code_trellis plate) plate.n (IsSum (rows_of plate))
   plate-smallest = record {
     spells = plate-spells;
     once = paths-once (rows_of plate) _ _ plate-kept plate.n;
     different = branches-different;
-    states-least = states-least;
-    branches-least = branches-least;
+    states_least = states_least;
+    branches_least = branches_least;
   }

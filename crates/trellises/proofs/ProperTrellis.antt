@@ -12,7 +12,7 @@ use Rattle.plates.specs.Profile.{live}
 use Rattle.trellises.proofs.PathsOnce.{kept-branch, kept-state, one-branch}
 use Rattle.trellises.proofs.PlateTrellis.{plate-kept, plate-within}
 use Rattle.trellises.proofs.TrellisSpells.{Kept, trellis-spells}
-use Rattle.trellises.specs.Branching.{codeTrellis}
+use Rattle.trellises.specs.Branching.{code_trellis}
 use Rattle.trellises.specs.Graph.{Branch, Path}
 use Rattle.trellises.specs.Smallest.{Proper}
 use Rattle.trellises.specs.States.{active, trellis}
@@ -34,10 +34,10 @@ module _ (n : ℕ) (rows : List ℕ) (f l : ℕ → ℕ) (s : Kept rows f l) (fi
   pub trellis-proper : Proper (trellis rows f l) n
   trellis-proper = record {
     root = (trellis-spells n rows f l s fit).start;
-    state-used = λ t a h k.
+    state_used = λ t a h k.
         let u : ℕ = spread (length rows) (live f l t) a in
         (sum_of rows u, path-of u, kept-state rows f l s n u (path-of u) t h ∙ gather-spread (length rows) (live f l t) a k);
-    branch-used = λ t i h k.
+    branch_used = λ t i h k.
         let u : ℕ = spread (length rows) (active f l t) i in
         let b = (path-of u).branch t h in (
           sum_of rows u,
@@ -50,5 +50,5 @@ module _ (n : ℕ) (rows : List ℕ) (f l : ℕ → ℕ) (s : Kept rows f l) (fi
   }
 
 -- the same of a prepared plate
-pub plate-proper : (plate : Plate) → IsPrepared plate → Proper (codeTrellis plate) plate.n
+pub plate-proper : (plate : Plate) → IsPrepared plate → Proper (code_trellis plate) plate.n
 plate-proper plate given = trellis-proper plate.n (rows_of plate) _ _ (plate-kept plate given) (plate-within plate given)

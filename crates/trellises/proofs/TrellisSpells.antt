@@ -10,11 +10,11 @@ use native.Mathlib.Decide.{dec_lt}
 use native.Mathlib.Nat.{le_refl}
 use native.Mathlib.Omega.{arith}
 use Prim.Native.Nat.{◌%◌, ◌*◌, ◌+◌, ◌/◌, ◌<◌, ◌^◌, suc, zero, ℕ, ◌≤◌}
-use Rattle.plates.proofs.Live.{is_live, live-is}
+use Rattle.plates.proofs.Live.{is_live, live_is}
 use Rattle.plates.specs.Profile.{live}
 use Rattle.trellises.proofs.Active.{is-active}
-use Rattle.trellises.specs.Graph.{Branch, Has, Path, Spells, branchAt, noBranch}
-use Rattle.trellises.specs.States.{active, branchOf, state_of, table, trellis}
+use Rattle.trellises.specs.Graph.{Branch, Has, Path, Spells, branch_at, no_branch}
+use Rattle.trellises.specs.States.{active, branch_of, state_of, table, trellis}
 use Rattle.words.proofs.Choice.{count_none, gather-lt, gather-same, gather-shows, spread-gather}
 use Rattle.words.proofs.Sums.{all-zero, sum-agree}
 use Rattle.words.proofs.Word.{below-bits, below-ext, half}
@@ -50,7 +50,7 @@ pub table-length : (n : ℕ) (F : ℕ → Branch) → length (table n F) ≡ n
 table-length zero F = refl
 table-length (suc n) F = ap suc (table-length n (λ i. F (suc i)))
 
-pub table_at : (n : ℕ) (F : ℕ → Branch) (i : ℕ) → i < n → get_or (table n F) i noBranch ≡ F i
+pub table_at : (n : ℕ) (F : ℕ → Branch) (i : ℕ) → i < n → get_or (table n F) i no_branch ≡ F i
 table_at zero F i h = absurd (omega arith)
 table_at (suc n) F zero h = refl
 table_at (suc n) F (suc i) h = table_at n (λ i. F (suc i)) i (omega arith)
@@ -97,10 +97,10 @@ module _ (n : ℕ) (rows : List ℕ) (f l : ℕ → ℕ) (s : Kept rows f l) (fi
   X t v = spread (length rows) (active f l t) v
 
   pub own-branches : (t : ℕ) → length ((trellis rows f l).branches t) ≡ 2 ^ count (length rows) (active f l t)
-  own-branches t = table-length (2 ^ count (length rows) (active f l t)) (λ v. branchOf rows f l t (X t v))
+  own-branches t = table-length (2 ^ count (length rows) (active f l t)) (λ v. branch_of rows f l t (X t v))
 
-  own-branch : (t v : ℕ) → v < 2 ^ count (length rows) (active f l t) → branchAt (trellis rows f l) t v ≡ branchOf rows f l t (X t v)
-  own-branch t v h = table_at (2 ^ count (length rows) (active f l t)) (λ v. branchOf rows f l t (X t v)) v h
+  own-branch : (t v : ℕ) → v < 2 ^ count (length rows) (active f l t) → branch_at (trellis rows f l) t v ≡ branch_of rows f l t (X t v)
+  own-branch t v h = table_at (2 ^ count (length rows) (active f l t)) (λ v. branch_of rows f l t (X t v)) v h
 
   -- ---- each codeword has its path: at depth t the live rows that it takes
 
@@ -115,15 +115,15 @@ module _ (n : ℕ) (rows : List ℕ) (f l : ℕ → ℕ) (s : Kept rows f l) (fi
       has t =
           let v : ℕ = gather (length rows) (active f l t) u in
           let h : v < 2 ^ count (length rows) (active f l t) = gather-lt (length rows) (active f l t) u in
-          let e : branchAt (trellis rows f l) t v ≡ branchOf rows f l t (X t v) = own-branch t v h in
+          let e : branch_at (trellis rows f l) t v ≡ branch_of rows f l t (X t v) = own-branch t v h in
           let a : (j : ℕ) → j < length rows → f j ≤ t → t ≤ l j → bit (X t v) j ≡ bit u j =
           λ j k p q. spread-gather (length rows) (active f l t) u j k (is-active f l t j p q) in
           record {
             place = v;
             there = subst (λ (z : ℕ). v < z) (sym (own-branches t)) h;
-            leaves = ap (λ (b : Branch). b.from) e ∙ gather-same (length rows) (live f l t) _ u (λ j k m. a j k (omega (arith, live-is f l t j m)) (live-is f l t j m).1);
+            leaves = ap (λ (b : Branch). b.from) e ∙ gather-same (length rows) (live f l t) _ u (λ j k m. a j k (omega (arith, live_is f l t j m)) (live_is f l t j m).1);
             spells = ap (λ (b : Branch). b.out) e ∙ sum-agree rows t _ u (λ j k. asleep t j k (a j k));
-            leads = ap (λ (b : Branch). b.to) e ∙ gather-same (length rows) (live f l (suc t)) _ u (λ j k m. a j k (omega (arith, live-is f l (suc t) j m)) (omega (arith, live-is f l (suc t) j m)));
+            leads = ap (λ (b : Branch). b.to) e ∙ gather-same (length rows) (live f l (suc t)) _ u (λ j k m. a j k (omega (arith, live_is f l (suc t) j m)) (omega (arith, live_is f l (suc t) j m)));
           }
 
   -- ---- each path spells a codeword
@@ -145,14 +145,14 @@ module _ (n : ℕ) (rows : List ℕ) (f l : ℕ → ℕ) (s : Kept rows f l) (fi
     up_to zero h = (
       0,
       (λ i m. absurd (omega arith)),
-      omega (arith, gather-lt (length rows) (live f l 0) 0, p.inside 0 h, ap (λ (x : ℕ). 2 ^ x) (count_none (length rows) (live f l 0) (λ j k a. omega (arith, live-is f l 0 j a)))),
+      omega (arith, gather-lt (length rows) (live f l 0) 0, p.inside 0 h, ap (λ (x : ℕ). 2 ^ x) (count_none (length rows) (live f l 0) (λ j k a. omega (arith, live_is f l 0 j a)))),
     )
     up_to (suc t) h = step (up_to t (omega arith)) (taken t h)
       where
         step : ((u : ℕ) × ((i : ℕ) → i < t → bit (sum_of rows u) i ≡ bit w i) × (gather (length rows) (live f l t) u ≡ p.state t))
             → ((x : ℕ) × (gather (length rows) (live f l t) x ≡ p.state t) × (bit (sum_of rows x) t ≡ bit w t) × (gather (length rows) (live f l (suc t)) x ≡ p.state (suc t)))
             → (u : ℕ) × ((i : ℕ) → i < suc t → bit (sum_of rows u) i ≡ bit w i) × (gather (length rows) (live f l (suc t)) u ≡ p.state (suc t))
-        step o x = (m, (λ i b. bits i b (dec_lt i t)), gather-same (length rows) (live f l (suc t)) m x.0 (λ j k a. same j k (omega (arith, live-is f l (suc t) j a)) (omega (arith, live-is f l (suc t) j a))) ∙ x.3)
+        step o x = (m, (λ i b. bits i b (dec_lt i t)), gather-same (length rows) (live f l (suc t)) m x.0 (λ j k a. same j k (omega (arith, live_is f l (suc t) j a)) (omega (arith, live_is f l (suc t) j a))) ∙ x.3)
           where
             m : ℕ
             m = mix (length rows) (λ j. ltb (f j) t) o.0 x.0
@@ -182,7 +182,7 @@ module _ (n : ℕ) (rows : List ℕ) (f l : ℕ → ℕ) (s : Kept rows f l) (fi
 
   pub trellis-spells : Spells (trellis rows f l) n (IsSum rows)
   trellis-spells = record {
-    start = ap (λ (x : ℕ). 2 ^ x) (count_none (length rows) (live f l 0) (λ j k a. omega (arith, live-is f l 0 j a)));
-    end = ap (λ (x : ℕ). 2 ^ x) (count_none (length rows) (live f l n) (λ j k a. omega (arith, live-is f l n j a, fit j k)));
+    start = ap (λ (x : ℕ). 2 ^ x) (count_none (length rows) (live f l 0) (λ j k a. omega (arith, live_is f l 0 j a)));
+    end = ap (λ (x : ℕ). 2 ^ x) (count_none (length rows) (live f l n) (λ j k a. omega (arith, live_is f l n j a, fit j k)));
     exact = λ w. ((λ g. subst (λ (x : ℕ). (x < 2 ^ n) × Path (trellis rows f l) n x) g.sum (below g.by, path g.by)), λ q. spelled w q.1 q.0);
   }

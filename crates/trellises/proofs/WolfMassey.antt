@@ -12,7 +12,7 @@ use native.Mathlib.Decide.{dec_lt}
 use native.Mathlib.Numerals.{add-one}
 use native.Mathlib.Omega.{arith}
 use Prim.Native.Nat.{◌%◌, ◌*◌, ◌+◌, ◌/◌, ◌<◌, ◌^◌, suc, zero, ℕ, ◌≤◌}
-use Rattle.plates.proofs.Live.{is_live, live-is}
+use Rattle.plates.proofs.Live.{is_live, live_is}
 use Rattle.plates.specs.Code.{Checked, InCode, Masked}
 use Rattle.plates.specs.declared.Kind.{Kind}
 use Rattle.plates.specs.declared.Plate.{Plate}
@@ -27,7 +27,7 @@ use Rattle.trellises.proofs.PathsOnce.{kept-state}
 use Rattle.trellises.proofs.PlateTrellis.{plate-kept, plate-spans}
 use Rattle.trellises.proofs.WordsTrellis.{accepted-words}
 use Rattle.trellises.specs.Beginnings.{SameContinuations, SameSyndrome, beginning, splice, syndrome}
-use Rattle.trellises.specs.Branching.{codeTrellis, kept_to, trellisOf}
+use Rattle.trellises.specs.Branching.{code_trellis, kept_to, trellis_of}
 use Rattle.trellises.specs.Graph.{Path}
 use Rattle.trellises.specs.States.{state_of}
 use Rattle.words.proofs.Choice.{gather-same, gather-shows, spread-gather, spread-zero}
@@ -103,7 +103,7 @@ module _ (rows : List ℕ) (f l : ℕ → ℕ) (s : Spans rows f l) (t : ℕ) wh
   states-meet x y = (
     (λ e. subst (λ (w : ℕ). IsSum rows (splice t w 0)) (sum-xor rows x y) (cut_off (bit_xor x y)
         (λ j k a b. bit-xor j x y ∙ ap (λ (d : ℕ). differ d (bit y j)) (gather-shows (length rows) (live f l t) x y e j k (is_live f l t j a b)) ∙ differ_self (bit y j)))),
-    λ g. gather-same (length rows) (live f l t) x y (λ j k a. let b = live-is f l t j a in apart g j k b.0 b.1),
+    λ g. gather-same (length rows) (live f l t) x y (λ j k a. let b = live_is f l t j a in apart g j k b.0 b.1),
   )
     where
       z : ℕ
@@ -211,12 +211,12 @@ syndromes-masked checks mask t a b = (
     same-added x y d hx hy hd e = omega (arith, differ-mod x d hx hd, differ-mod y d hy hd, e)
 
 module _ (plate : Plate) (given : IsPrepared plate) (a b : ℕ) (x : IsWord plate a) (y : IsWord plate b)
-    (p : Path (trellisOf plate) plate.n a) (q : Path (trellisOf plate) plate.n b) (t : ℕ) (h : t ≤ plate.n) where
+    (p : Path (trellis_of plate) plate.n a) (q : Path (trellis_of plate) plate.n b) (t : ℕ) (h : t ≤ plate.n) where
   -- a word's path stands where the code's path of the word plus mask does
-  stands : (w : ℕ) (g : IsWord plate w) (r : Path (trellisOf plate) plate.n w) → r.state t ≡ reached plate t g.by
+  stands : (w : ℕ) (g : IsWord plate w) (r : Path (trellis_of plate) plate.n w) → r.state t ≡ reached plate t g.by
   stands w g r =
-      subst (λ (v : ℕ). (r : Path (codeTrellis plate) plate.n v) → r.state t ≡ reached plate t g.by) g.sum
-      (λ r. kept-state (rows_of plate) _ _ (plate-kept plate given) plate.n g.by r t h) (path-off plate.mask (codeTrellis plate) r)
+      subst (λ (v : ℕ). (r : Path (code_trellis plate) plate.n v) → r.state t ≡ reached plate t g.by) g.sum
+      (λ r. kept-state (rows_of plate) _ _ (plate-kept plate given) plate.n g.by r t h) (path-off plate.mask (code_trellis plate) r)
 
   -- so what says when two choices of rows reach the same state says when the two paths meet
   meet : (R : ℕ → ℕ → Type 0) → ((reached plate t x.by ≡ reached plate t y.by) ↔ R (sum_of (rows_of plate) x.by) (sum_of (rows_of plate) y.by))
@@ -249,10 +249,10 @@ module _ (n : ℕ) (kind : Kind) (rows : List ℕ) (mask : ℕ) (r : Prepared) (
   words = accepted-words n kind rows mask r p e
 
   -- Massey
-  pub matrix-massey : (s : Path (trellisOf r.plate) n a) (q : Path (trellisOf r.plate) n b) (t : ℕ) → t ≤ n
+  pub matrix-massey : (s : Path (trellis_of r.plate) n a) (q : Path (trellis_of r.plate) n b) (t : ℕ) → t ≤ n
       → (s.state t ≡ q.state t) ↔ SameContinuations (Masked (InCode kind n rows) mask) t a b
   matrix-massey =
-      subst (λ (m : ℕ). (s : Path (trellisOf r.plate) m a) (q : Path (trellisOf r.plate) m b) (t : ℕ) → t ≤ m
+      subst (λ (m : ℕ). (s : Path (trellis_of r.plate) m a) (q : Path (trellis_of r.plate) m b) (t : ℕ) → t ≤ m
       → (s.state t ≡ q.state t) ↔ SameContinuations (Masked (InCode kind n rows) mask) t a b) (accepted-length n kind rows mask r p e)
       (λ s q t h. Iff.trans (plate-massey r.plate (accepted-prepared n kind rows mask r p e) a b ((words a).0 x) ((words b).0 y) s q t h) (
         (λ c w. Iff.trans (words (splice t a w)) (Iff.trans (c w) (Iff.symm (words (splice t b w))))),
@@ -261,9 +261,9 @@ module _ (n : ℕ) (kind : Kind) (rows : List ℕ) (mask : ℕ) (r : Prepared) (
 
   -- Wolf: with any parity-check matrix of the code, as the matrix itself is where it was prepared as H
   pub matrix-wolf : (checks : List ℕ) → ((w : ℕ) → InCode kind n rows w ↔ Checked n checks w)
-      → (s : Path (trellisOf r.plate) n a) (q : Path (trellisOf r.plate) n b) (t : ℕ) → t ≤ n → (s.state t ≡ q.state t) ↔ SameSyndrome checks t a b
+      → (s : Path (trellis_of r.plate) n a) (q : Path (trellis_of r.plate) n b) (t : ℕ) → t ≤ n → (s.state t ≡ q.state t) ↔ SameSyndrome checks t a b
   matrix-wolf checks same =
-      subst (λ (m : ℕ). ((w : ℕ) → IsSum (rows_of r.plate) w ↔ Checked m checks w) → (s : Path (trellisOf r.plate) m a)
-      (q : Path (trellisOf r.plate) m b) (t : ℕ) → t ≤ m → (s.state t ≡ q.state t) ↔ SameSyndrome checks t a b) (accepted-length n kind rows mask r p e)
+      subst (λ (m : ℕ). ((w : ℕ) → IsSum (rows_of r.plate) w ↔ Checked m checks w) → (s : Path (trellis_of r.plate) m a)
+      (q : Path (trellis_of r.plate) m b) (t : ℕ) → t ≤ m → (s.state t ≡ q.state t) ↔ SameSyndrome checks t a b) (accepted-length n kind rows mask r p e)
       (λ checked s q t h. plate-wolf r.plate (accepted-prepared n kind rows mask r p e) a b ((words a).0 x) ((words b).0 y) s q t h checks checked)
       (λ w. Iff.trans (Iff.symm (accepted-code n kind rows mask r p e w)) (same w))

@@ -14,15 +14,15 @@ use Rattle.plates.specs.declared.Plate.{Plate}
 use Rattle.plates.specs.declared.Prepared.{Prepared}
 use Rattle.plates.specs.declared.Verdict.TheVariants.{Accepted}
 use Rattle.plates.specs.Prepare.{IsPrepared, IsWord, Prepares, rows_of}
-use Rattle.plates.specs.Profile.{liveAt}
+use Rattle.plates.specs.Profile.{live_at}
 use Rattle.trellises.proofs.AcceptedIsPrepared.{accepted-code, accepted-length, accepted-mask, accepted-prepared}
 use Rattle.trellises.proofs.MaskedGraph.{masked-branches, once-masked, proper-masked, smallest-masked}
 use Rattle.trellises.proofs.PathsOnce.{paths-once}
 use Rattle.trellises.proofs.PlateTrellis.{branches-number, full-path-ends, plate-kept, plate-smallest}
 use Rattle.trellises.proofs.ProperTrellis.{plate-proper}
-use Rattle.trellises.specs.Branching.{codeTrellis, trellisOf}
+use Rattle.trellises.specs.Branching.{code_trellis, trellis_of}
 use Rattle.trellises.specs.Graph.{Graph, Path, Spells}
-use Rattle.trellises.specs.Smallest.{Proper, SamePath, Smallest, activeAt}
+use Rattle.trellises.specs.Smallest.{Proper, SamePath, Smallest, active_at}
 use Rattle.words.specs.Sum.{IsSum}
 
 -- two codes with the same words: a graph that spells one spells the other
@@ -35,38 +35,38 @@ smallest-same g n C D e s = record {
   spells = spells-same g n C D e s.spells;
   once = s.once;
   different = s.different;
-  states-least = λ h r. s.states-least h (spells-same h n D C (λ w. Iff.symm (e w)) r);
-  branches-least = λ h r. s.branches-least h (spells-same h n D C (λ w. Iff.symm (e w)) r);
+  states_least = λ h r. s.states_least h (spells-same h n D C (λ w. Iff.symm (e w)) r);
+  branches_least = λ h r. s.branches_least h (spells-same h n D C (λ w. Iff.symm (e w)) r);
 }
 
 module _ (plate : Plate) (given : IsPrepared plate) where
   -- all of it
-  pub words-smallest : Smallest (trellisOf plate) plate.n (IsWord plate)
-  words-smallest = smallest-masked plate.mask (codeTrellis plate) (sound given).masked (plate-smallest plate given)
+  pub words-smallest : Smallest (trellis_of plate) plate.n (IsWord plate)
+  words-smallest = smallest-masked plate.mask (code_trellis plate) (sound given).masked (plate-smallest plate given)
 
   -- full paths spell exactly the words
-  pub words-spelled : Spells (trellisOf plate) plate.n (IsWord plate)
+  pub words-spelled : Spells (trellis_of plate) plate.n (IsWord plate)
   words-spelled = words-smallest.spells
 
   -- which begin and end in state 0
-  pub words-path-ends : (w : ℕ) (p : Path (trellisOf plate) plate.n w) → (p.state 0 ≡ 0) × (p.state plate.n ≡ 0)
-  words-path-ends = full-path-ends (trellisOf plate) plate.n (IsWord plate) words-spelled
+  pub words-path-ends : (w : ℕ) (p : Path (trellis_of plate) plate.n w) → (p.state 0 ≡ 0) × (p.state plate.n ≡ 0)
+  words-path-ends = full-path-ends (trellis_of plate) plate.n (IsWord plate) words-spelled
 
   -- a word has one path through the first t sections
-  pub words-once : (t w : ℕ) (p q : Path (trellisOf plate) t w) → SamePath (trellisOf plate) t w p q
+  pub words-once : (t w : ℕ) (p q : Path (trellis_of plate) t w) → SamePath (trellis_of plate) t w p q
   words-once t w =
-      once-masked plate.mask (codeTrellis plate) (paths-once (rows_of plate) _ _ (plate-kept plate given) t (bit_xor w plate.mask))
+      once-masked plate.mask (code_trellis plate) (paths-once (rows_of plate) _ _ (plate-kept plate given) t (bit_xor w plate.mask))
 
   -- every state and every branch is used
-  pub words-proper : Proper (trellisOf plate) plate.n
-  words-proper = proper-masked plate.mask (codeTrellis plate) (plate-proper plate given)
+  pub words-proper : Proper (trellis_of plate) plate.n
+  words-proper = proper-masked plate.mask (code_trellis plate) (plate-proper plate given)
 
   -- the mask changes neither the profile nor the number of branches
-  pub words-states : (t : ℕ) → (trellisOf plate).states t ≡ 2 ^ liveAt (rows_of plate) t
+  pub words-states : (t : ℕ) → (trellis_of plate).states t ≡ 2 ^ live_at (rows_of plate) t
   words-states t = refl
 
-  pub words-branches : (t : ℕ) → length ((trellisOf plate).branches t) ≡ 2 ^ activeAt (rows_of plate) t
-  words-branches t = masked-branches plate.mask (codeTrellis plate) t ∙ branches-number plate given t
+  pub words-branches : (t : ℕ) → length ((trellis_of plate).branches t) ≡ 2 ^ active_at (rows_of plate) t
+  words-branches t = masked-branches plate.mask (code_trellis plate) t ∙ branches-number plate given t
 
 -- ---- of the plate that preparing a matrix and a mask accepts
 
@@ -78,12 +78,12 @@ module _ (n : ℕ) (kind : Kind) (rows : List ℕ) (mask : ℕ) (r : Prepared) (
       (accepted-code n kind rows mask r p e (bit_xor w mask))
 
   -- its trellis is the smallest whose full paths spell them
-  pub matrix-smallest : Smallest (trellisOf r.plate) n (Masked (InCode kind n rows) mask)
+  pub matrix-smallest : Smallest (trellis_of r.plate) n (Masked (InCode kind n rows) mask)
   matrix-smallest =
-      smallest-same (trellisOf r.plate) n (IsWord r.plate) (Masked (InCode kind n rows) mask) (λ w. Iff.symm (accepted-words w))
-      (subst (λ (x : ℕ). Smallest (trellisOf r.plate) x (IsWord r.plate)) (accepted-length n kind rows mask r p e)
+      smallest-same (trellis_of r.plate) n (IsWord r.plate) (Masked (InCode kind n rows) mask) (λ w. Iff.symm (accepted-words w))
+      (subst (λ (x : ℕ). Smallest (trellis_of r.plate) x (IsWord r.plate)) (accepted-length n kind rows mask r p e)
       (words-smallest r.plate (accepted-prepared n kind rows mask r p e)))
 
   -- its full paths spell exactly these words
-  pub matrix-spells : Spells (trellisOf r.plate) n (Masked (InCode kind n rows) mask)
+  pub matrix-spells : Spells (trellis_of r.plate) n (Masked (InCode kind n rows) mask)
   matrix-spells = matrix-smallest.spells

@@ -3,10 +3,10 @@ use Rattle.std.specs.Prelude.{ℕ, ◌+◌, ◌^◌, eqb, cond}
 use Rattle.trellises.specs.declared.Next.{Next}
 use Rattle.trellises.specs.declared.Next.TheVariants.{State, NoBranch}
 use Rattle.trellises.specs.declared.Section.{Section}
-use Rattle.trellises.specs.Numbers.{bit_of, leadsTo}
+use Rattle.trellises.specs.Numbers.{bit_of, leads_to}
 
 -- The branch that takes no beginning row, where it has the bit; or else, where a row begins, the one that takes it too, which has the
 -- other bit; or else none
 abbrev pub next_of : Section → ℕ → ℕ → Next
 next_of c state bit =
-    cond (eqb (bit_of c state) bit) (State (leadsTo c state)) (cond c.begins (State (leadsTo c (state + 2 ^ c.live))) NoBranch)
+    cond (eqb (bit_of c state) bit) (State (leads_to c state)) (cond c.begins (State (leads_to c (state + 2 ^ c.live))) NoBranch)

@@ -8,8 +8,8 @@ pub record Branch : Type 0 where
   pub out : ℕ
   pub to : ℕ
 
-abbrev pub noBranch : Branch
-noBranch = record { from = 0; out = 0; to = 0 }
+abbrev pub no_branch : Branch
+no_branch = record { from = 0; out = 0; to = 0 }
 
 -- how many states each depth has, and the branches of each section, which leads from its depth to the next; parallel and useless
 -- branches are allowed
@@ -18,16 +18,16 @@ pub record Graph : Type 0 where
   pub branches : ℕ → List Branch
 
 -- the branch at a place of a section's list
-abbrev pub branchAt : Graph → ℕ → ℕ → Branch
-branchAt g t i = get_or (g.branches t) i noBranch
+abbrev pub branch_at : Graph → ℕ → ℕ → Branch
+branch_at g t i = get_or (g.branches t) i no_branch
 
 -- section t has a branch from a with bit b to c
 pub record Has (g : Graph) (t a b c : ℕ) : Type 0 where
   pub place : ℕ
   pub there : place < length (g.branches t)
-  pub leaves : (branchAt g t place).from ≡ a
-  pub spells : (branchAt g t place).out ≡ b
-  pub leads : (branchAt g t place).to ≡ c
+  pub leaves : (branch_at g t place).from ≡ a
+  pub spells : (branch_at g t place).out ≡ b
+  pub leads : (branch_at g t place).to ≡ c
 
 -- A path through n sections that spells w: in each section a branch with w's bit, each beginning where the one before it ended
 pub record Path (g : Graph) (n w : ℕ) : Type 0 where

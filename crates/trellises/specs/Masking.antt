@@ -11,14 +11,14 @@ turned (suc d) (suc zero) = 0
 turned (suc d) (suc (suc b)) = suc (suc b)
 
 -- a branch with its bit turned: it leaves and leads as it did
-abbrev pub turnedBranch : ℕ → Branch → Branch
-turnedBranch d b = record { from = b.from; out = turned d b.out; to = b.to }
+abbrev pub turned_branch : ℕ → Branch → Branch
+turned_branch d b = record { from = b.from; out = turned d b.out; to = b.to }
 
 -- each of some branches
-abbrev pub turnedAll : ℕ → List Branch → List Branch
-turnedAll d [] = []
-turnedAll d (b ∷ bs) = turnedBranch d b ∷ turnedAll d bs
+abbrev pub turned_all : ℕ → List Branch → List Branch
+turned_all d [] = []
+turned_all d (b ∷ bs) = turned_branch d b ∷ turned_all d bs
 
 -- the same states, and the branches of section t turned by the mask's bit at t
 abbrev pub masked : ℕ → Graph → Graph
-masked mask g = record { states = g.states; branches = λ t. turnedAll (bit mask t) (g.branches t) }
+masked mask g = record { states = g.states; branches = λ t. turned_all (bit mask t) (g.branches t) }

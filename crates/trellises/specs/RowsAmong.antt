@@ -3,6 +3,6 @@ use Rattle.std.specs.Prelude.{ℕ, ◌/◌, ◌%◌, eqb, List, [], ◌∷◌}
 use Rattle.trellises.specs.SectionOf.{keep}
 
 -- the rows whose bit in `which` is 1, in order: bit j names row j, and bits at or beyond the number of rows mean nothing
-abbrev pub rowsAmong : List ℕ → ℕ → List ℕ
-rowsAmong [] which = []
-rowsAmong (row ∷ rows) which = keep (eqb (which % 2) 1) row (rowsAmong rows (which / 2))
+abbrev pub rows_among : List ℕ → ℕ → List ℕ
+rows_among [] which = []
+rows_among (row ∷ rows) which = keep (eqb (which % 2) 1) row (rows_among rows (which / 2))

@@ -16,8 +16,8 @@ state_of rows f l t u = gather (length rows) (live f l t) u
 
 -- the branch of section t where u says which rows are taken: its bit is the sum modulo 2 of position t over the taken rows, and it
 -- keeps the taken rows that are still live
-abbrev pub branchOf : List ℕ → (ℕ → ℕ) → (ℕ → ℕ) → ℕ → ℕ → Branch
-branchOf rows f l t u = record { from = state_of rows f l t u; out = bit (sum_of rows u) t; to = state_of rows f l (suc t) u }
+abbrev pub branch_of : List ℕ → (ℕ → ℕ) → (ℕ → ℕ) → ℕ → ℕ → Branch
+branch_of rows f l t u = record { from = state_of rows f l t u; out = bit (sum_of rows u) t; to = state_of rows f l (suc t) u }
 
 -- the first n values of F
 abbrev pub table : ℕ → (ℕ → Branch) → List Branch
@@ -28,5 +28,5 @@ table (suc n) F = F 0 ∷ table n (λ i. F (suc i))
 abbrev pub trellis : List ℕ → (ℕ → ℕ) → (ℕ → ℕ) → Graph
 trellis rows f l = record {
   states = λ t. 2 ^ count (length rows) (live f l t);
-  branches = λ t. table (2 ^ count (length rows) (active f l t)) (λ v. branchOf rows f l t (spread (length rows) (active f l t) v));
+  branches = λ t. table (2 ^ count (length rows) (active f l t)) (λ v. branch_of rows f l t (spread (length rows) (active f l t) v));
 }

@@ -1,7 +1,7 @@
 // The branch of a section that leaves a state with a bit.
 ghost use Rattle.std.specs.Prelude.{◌≡◌, ◌<◌, ◌^◌, ◌≤◌};
 ghost use Rattle.trellises.specs.Following.{next_of};
-ghost use Rattle.trellises.specs.Numbers.{leadsTo, without};
+ghost use Rattle.trellises.specs.Numbers.{leads_to, without};
 
 use crate::{Next, Section};
 
@@ -25,7 +25,7 @@ fn without_digit(number: usize, place: usize) -> usize
 // The state that a branch leads to: its number, without the digit of the row that ends.
 fn next_state(section: Section, number: usize) -> usize
     requires { section.ending < 64 }
-    ensures { result ≡ leadsTo section number }
+    ensures { result ≡ leads_to section number }
 {
     if section.ends {
         return without_digit(number, section.ending);

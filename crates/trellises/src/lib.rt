@@ -1,5 +1,5 @@
 // The trellis of a plate: its sections as plain numbers, and its branches.
-ghost use Rattle.plates.specs.Prepare.{ofParts};
+ghost use Rattle.plates.specs.Prepare.{of_parts};
 ghost use Rattle.trellises.specs.Branching.{Branches};
 
 use plates::Refusal;
@@ -38,7 +38,7 @@ pub fn branch_parts<'a>(
     state: usize,
     bit: u64,
 ) -> Next
-    ensures { Branches (ofParts n k mask rows.now profile.now) depth state bit result }
+    ensures { Branches (of_parts n k mask rows.now profile.now) depth state bit result }
 {
     if !plates::parts_prepared(n, k, mask, rows, profile) {
         return Next::Refused(Refusal::NotPrepared);

@@ -1,6 +1,6 @@
 // The section of plate rows at a depth: its numbers, found in one pass over the rows.
 ghost use Rattle.std.specs.Prelude.{cond, ◌||◌, ◌≡◌};
-ghost use Rattle.trellises.specs.SectionOf.{HasRoom, held, sectionOf, with_row};
+ghost use Rattle.trellises.specs.SectionOf.{HasRoom, held, section_of, with_row};
 
 use crate::Section;
 
@@ -43,7 +43,7 @@ fn with_row(section: Section, row: u64, t: usize) -> Section
 
 // The section of rows at depth t. Rows in order of heads give a section of their trellis; those that are not active may be left out.
 pub fn section_of(rows: &[u64], t: usize) -> Section
-    ensures { result ≡ held (sectionOf rows.now t) }
+    ensures { result ≡ held (section_of rows.now t) }
 {
     let mut section = Section {
         live: 0,

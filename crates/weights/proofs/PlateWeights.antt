@@ -17,7 +17,7 @@ use Rattle.plates.proofs.SoundIsPrepared.{sound, used-rows}
 use Rattle.plates.specs.declared.Plate.{Plate}
 use Rattle.plates.specs.Prepare.{IsPrepared, rows_of}
 use Rattle.trellises.proofs.PlateTrellis.{plate-fits, plate-spans, plate-spells}
-use Rattle.trellises.specs.SectionOf.{sectionOf}
+use Rattle.trellises.specs.SectionOf.{section_of}
 use Rattle.weights.proofs.WaysAdded.{later, later-all, later-most, total-most, ways-total}
 use Rattle.weights.proofs.WaysCounted.{spells, ways-counted}
 use Rattle.weights.proofs.WaysSpelled.{spelled}
@@ -33,34 +33,34 @@ module _ (plate : Plate) (given : IsPrepared plate) where
   size = used-rows plate (sound given).few (sound given).table
 
   -- the numbers of ways from the start are the numbers of codewords
-  pub ways-number : (w : ℕ) → NumberOfWeight plate w (ways (sectionOf (rows_of plate)) plate.n 0 0 w)
+  pub ways-number : (w : ℕ) → NumberOfWeight plate w (ways (section_of (rows_of plate)) plate.n 0 0 w)
   ways-number w = record {
-    test = λ x. spells (sectionOf (rows_of plate)) plate.n 0 0 x && eqb (ones x) w;
+    test = λ x. spells (section_of (rows_of plate)) plate.n 0 0 x && eqb (ones x) w;
     right = λ x l. (
       (λ t. record {
-        codeword = (spelled plate given x l).0 (and_left (spells (sectionOf (rows_of plate)) plate.n 0 0 x) (eqb (ones x) w) t);
-        weight = eqb→eq (ones x) w (and_right (spells (sectionOf (rows_of plate)) plate.n 0 0 x) (eqb (ones x) w) t);
+        codeword = (spelled plate given x l).0 (and_left (spells (section_of (rows_of plate)) plate.n 0 0 x) (eqb (ones x) w) t);
+        weight = eqb→eq (ones x) w (and_right (spells (section_of (rows_of plate)) plate.n 0 0 x) (eqb (ones x) w) t);
       }),
-      λ p. and-true (spells (sectionOf (rows_of plate)) plate.n 0 0 x) (eqb (ones x) w) ((spelled plate given x l).1 p.codeword) (subst (λ (v : ℕ). T (eqb (ones x) v)) p.weight (eqb_refl (ones x))),
+      λ p. and-true (spells (section_of (rows_of plate)) plate.n 0 0 x) (eqb (ones x) w) ((spelled plate given x l).1 p.codeword) (subst (λ (v : ℕ). T (eqb (ones x) v)) p.weight (eqb_refl (ones x))),
     );
-    number = sym (ways-counted (sectionOf (rows_of plate)) plate.n (plate-chain plate given) plate.n 0 0 w (omega arith) (start-state plate given));
+    number = sym (ways-counted (section_of (rows_of plate)) plate.n (plate-chain plate given) plate.n 0 0 w (omega arith) (start-state plate given));
   }
 
   first_fits : (j : ℕ) → j < length (rows_of plate) → firsts (rows_of plate) j < plate.n
   first_fits j l = omega (arith, span-le (rows_of plate) (firsts (rows_of plate)) (lasts (rows_of plate)) (plate-spans plate given) j l, plate-fits plate given j l)
 
   -- they add up to 2 ^ k
-  pub ways-add : total 65 (ways (sectionOf (rows_of plate)) plate.n 0 0) ≡ 2 ^ plate.k
+  pub ways-add : total 65 (ways (section_of (rows_of plate)) plate.n 0 0) ≡ 2 ^ plate.k
   ways-add =
-      ways-total (sectionOf (rows_of plate)) plate.n 0 0 65 (omega (arith, (sound given).short))
+      ways-total (section_of (rows_of plate)) plate.n 0 0 65 (omega (arith, (sound given).short))
       ∙ ap (λ (m : ℕ). 2 ^ m) (later-all (rows_of plate) (plate-spans plate given) plate.n first_fits ∙ size)
 
   -- none of them overflows
-  ways-small : plate.k < 64 → (d t i w : ℕ) → t + d ≡ plate.n → ways (sectionOf (rows_of plate)) d t i w < 2 ^ 64
+  ways-small : plate.k < 64 → (d t i w : ℕ) → t + d ≡ plate.n → ways (section_of (rows_of plate)) d t i w < 2 ^ 64
   ways-small h d t i w e =
-      let a : ways (sectionOf (rows_of plate)) d t i w ≤ total (suc (d + w)) (ways (sectionOf (rows_of plate)) d t i) = total-most (suc (d + w)) (ways (sectionOf (rows_of plate)) d t i) w (omega arith) in
-      let k : later (sectionOf (rows_of plate)) d t ≤ 63 = omega (arith, later-most (rows_of plate) (plate-spans plate given) plate.n first_fits d t e, size) in
-      omega (arith, a, ways-total (sectionOf (rows_of plate)) d t i (suc (d + w)) (omega arith), pow_mono k)
+      let a : ways (section_of (rows_of plate)) d t i w ≤ total (suc (d + w)) (ways (section_of (rows_of plate)) d t i) = total-most (suc (d + w)) (ways (section_of (rows_of plate)) d t i) w (omega arith) in
+      let k : later (section_of (rows_of plate)) d t ≤ 63 = omega (arith, later-most (rows_of plate) (plate-spans plate given) plate.n first_fits d t e, size) in
+      omega (arith, a, ways-total (section_of (rows_of plate)) d t i (suc (d + w)) (omega arith), pow_mono k)
 
   pub tally-fits : plate.k < 64 → (half : ℕ) → half ≡ 2 ^ widest plate * 65 → (working : List ℕ) → length working ≡ half + half → TallyFits (rows_of plate) plate.n half working
   tally-fits h half e working l =
@@ -70,9 +70,9 @@ module _ (plate : Plate) (given : IsPrepared plate) where
         few = omega (arith, size, (sound given).few);
         chain = plate-chain plate given;
         room = λ t k. omega (arith, e, z.half_room t k);
-        end = z.end-state;
+        end = z.end_state;
         size = l;
-        small = omega (arith, e, z.half-small);
+        small = omega (arith, e, z.half_small);
         most = ways-small h;
       }
 

@@ -8,7 +8,7 @@ use native.Mathlib.Decide.{dec_lt}
 use native.Mathlib.Omega.{arith}
 use Prim.Native.Nat.{◌%◌, ◌*◌, ◌+◌, ◌/◌, ◌<◌, ◌^◌, zero-le, ℕ, ◌≤◌}
 use Rattle.trellises.specs.declared.Section.{Section}
-use Rattle.trellises.specs.Numbers.{branchCount, leadsTo}
+use Rattle.trellises.specs.Numbers.{branch_count, leads_to}
 use Rattle.weights.proofs.BranchWays.{leaving-same}
 use Rattle.weights.specs.Tallying.{StateFits, StepFits, Stepped, olds}
 use Rattle.weights.specs.Ways.{leaving}
@@ -25,8 +25,8 @@ module _ (working : List ℕ) (from to : ℕ) (c : Section) (f : StepFits workin
   filling-none = record { within = zero-le; size = refl; done = λ q h. absurd (omega arith); kept = λ j a b. refl }
 
   module _ (working' : List ℕ) (p : ℕ) (k : Filling working from to c f.next p working') where
-    same_old : (x v : ℕ) → x < branchCount c → v < 65 → olds working' from (leadsTo c x) v ≡ olds working from (leadsTo c x) v
-    same_old x v l h = k.kept (from + leadsTo c x * 65 + v) (omega arith) (omega (arith, f.leads x l))
+    same_old : (x v : ℕ) → x < branch_count c → v < 65 → olds working' from (leads_to c x) v ≡ olds working from (leads_to c x) v
+    same_old x v l h = k.kept (from + leads_to c x * 65 + v) (omega arith) (omega (arith, f.leads x l))
 
     -- what is read is what stood there at first
     pub same-leaving : (i w : ℕ) → i < 2 ^ c.live → w < 65 → leaving c (olds working' from) i w ≡ leaving c (olds working from) i w
@@ -41,13 +41,13 @@ module _ (working : List ℕ) (from to : ℕ) (c : Section) (f : StepFits workin
         section = f.section;
         state = state-there;
         weight = omega arith;
-        small = omega (arith, f.old-room, f.small);
-        room = λ x l. omega (arith, f.leads x l, f.old-room, k.size);
+        small = omega (arith, f.old_room, f.small);
+        room = λ x l. omega (arith, f.leads x l, f.old_room, k.size);
         most = subst (λ (m : ℕ). m < 2 ^ 64) (sym (same-leaving (p / 65) (p % 65) state-there (omega arith))) (f.most (p / 65) (p % 65) state-there (omega arith));
       }
 
       pub place-there : to + p < length working'
-      place-there = omega (arith, f.new-room, k.size)
+      place-there = omega (arith, f.new_room, k.size)
 
       apart : (j : ℕ) → from ≤ j → j < from + f.next * 65 → j ≡ to + p → ⊥
       apart j a b e = go f.apart

@@ -8,7 +8,7 @@ use native.Mathlib.Omega.{arith}
 use Prim.Native.Nat.{◌*◌, ◌+◌, ◌-◌, ◌<◌, ◌^◌, suc, zero, ℕ, ◌≤◌}
 use Rattle.trellises.proofs.HeldSection.{held_whole}
 use Rattle.trellises.specs.declared.Section.{Section}
-use Rattle.trellises.specs.SectionOf.{held, sectionOf}
+use Rattle.trellises.specs.SectionOf.{held, section_of}
 use Rattle.weights.proofs.BranchWays.{leaving-same}
 use Rattle.weights.specs.Rooms.{Copied}
 use Rattle.weights.specs.Tallying.{Counted, StepFits, Stepped, Swept, TallyFits, olds}
@@ -41,19 +41,19 @@ module _ (rows : List ℕ) (n half : ℕ) (working : List ℕ) (f : TallyFits ro
           (let z : i ≡ 0 = omega (arith, hi, ap (λ (x : ℕ). 2 ^ x) f.end) in
           let a : 0 + i * 65 + w ≡ w = omega arith in
           let d : n - n ≡ 0 = omega arith in
-          ap (λ (j : ℕ). get_or (set zeroed 0 1) j 0) a ∙ at-end w hw ∙ sym (ap (λ (d : ℕ). ways (sectionOf rows) d n i w) d));
+          ap (λ (j : ℕ). get_or (set zeroed 0 1) j 0) a ∙ at-end w hw ∙ sym (ap (λ (d : ℕ). ways (section_of rows) d n i w) d));
     }
 
   -- ---- from depth t + 1 to depth t
 
-  module _ (t : ℕ) (h : t < n) (room : List ℕ) (from : ℕ) (s : Swept rows n half (suc t) room from) (c : Section) (e : c ≡ held (sectionOf rows t)) where
-    pub whole : c ≡ sectionOf rows t
+  module _ (t : ℕ) (h : t < n) (room : List ℕ) (from : ℕ) (s : Swept rows n half (suc t) room from) (c : Section) (e : c ≡ held (section_of rows t)) where
+    pub whole : c ≡ section_of rows t
     whole = e ∙ held_whole rows t f.few
 
     -- the numbers that stand give those of this depth
-    leaving-ways : (i w : ℕ) → i < 2 ^ (sectionOf rows t).live → w < 65
-        → leaving (sectionOf rows t) (olds room from) i w ≡ ways (sectionOf rows) (suc (n - suc t)) t i w
-    leaving-ways = leaving-same (sectionOf rows t) (olds room from) (ways (sectionOf rows) (n - suc t) (suc t)) 65
+    leaving-ways : (i w : ℕ) → i < 2 ^ (section_of rows t).live → w < 65
+        → leaving (section_of rows t) (olds room from) i w ≡ ways (section_of rows) (suc (n - suc t)) t i w
+    leaving-ways = leaving-same (section_of rows t) (olds room from) (ways (section_of rows) (n - suc t) (suc t)) 65
         (λ x v l k. s.here _ v (f.chain.leads t h x l) k)
 
     pub from-within : from ≤ half
@@ -63,19 +63,19 @@ module _ (rows : List ℕ) (n half : ℕ) (working : List ℕ) (f : TallyFits ro
         go (inl q) = omega arith
         go (inr q) = omega arith
 
-    step-fits-own : StepFits room from (half - from) (sectionOf rows t)
+    step-fits-own : StepFits room from (half - from) (section_of rows t)
     step-fits-own = record {
       section = f.chain.fits t h;
-      next = 2 ^ (sectionOf rows (suc t)).live;
+      next = 2 ^ (section_of rows (suc t)).live;
       leads = f.chain.leads t h;
       apart = go s.either;
-      old-room = omega (arith, from-within, f.room (suc t) h, s.size);
-      new-room = omega (arith, f.room t (omega arith), s.size);
+      old_room = omega (arith, from-within, f.room (suc t) h, s.size);
+      new_room = omega (arith, f.room t (omega arith), s.size);
       small = omega (arith, s.size, f.small);
       most = λ i w hi hw. subst (λ (m : ℕ). m < 2 ^ 64) (sym (leaving-ways i w hi hw)) (f.most (suc (n - suc t)) t i w (omega arith));
     }
       where
-        go : (from ≡ 0) ⊎ (from ≡ half) → (from + 2 ^ (sectionOf rows (suc t)).live * 65 ≤ half - from) ⊎ (half - from + 2 ^ (sectionOf rows t).live * 65 ≤ from)
+        go : (from ≡ 0) ⊎ (from ≡ half) → (from + 2 ^ (section_of rows (suc t)).live * 65 ≤ half - from) ⊎ (half - from + 2 ^ (section_of rows t).live * 65 ≤ from)
         go (inl q) = inl (omega (arith, q, f.room (suc t) h))
         go (inr q) = inr (omega (arith, q, f.room t (omega arith)))
 
@@ -89,18 +89,18 @@ module _ (rows : List ℕ) (n half : ℕ) (working : List ℕ) (f : TallyFits ro
         other (inl q) = inr (omega arith)
         other (inr q) = inl (omega arith)
 
-        go : Stepped room from (half - from) (sectionOf rows t) room' → Swept rows n half t room' (half - from)
+        go : Stepped room from (half - from) (section_of rows t) room' → Swept rows n half t room' (half - from)
         go p = record {
           size = p.size ∙ s.size;
           either = other s.either;
           here = λ i w hi hw.
               (let d : suc (n - suc t) ≡ n - t = omega arith in
-              p.here i w hi hw ∙ leaving-ways i w hi hw ∙ ap (λ (d : ℕ). ways (sectionOf rows) d t i w) d);
+              p.here i w hi hw ∙ leaving-ways i w hi hw ∙ ap (λ (d : ℕ). ways (section_of rows) d t i w) d);
         }
 
   -- ---- the start
 
-  module _ (room : List ℕ) (from : ℕ) (s : Swept rows n half 0 room from) (one : 0 < 2 ^ (sectionOf rows 0).live) where
+  module _ (room : List ℕ) (from : ℕ) (s : Swept rows n half 0 room from) (one : 0 < 2 ^ (section_of rows 0).live) where
     pub start-room : from + 65 ≤ length room
     start-room = go s.either
       where
@@ -114,6 +114,6 @@ module _ (rows : List ℕ) (n half : ℕ) (working : List ℕ) (f : TallyFits ro
       here = λ w h.
           (let a : from + w ≡ from + 0 * 65 + w = omega arith in
           let z : n - 0 ≡ n = omega arith in
-          k.here w h ∙ ap (λ (j : ℕ). get_or room j 0) a ∙ s.here 0 w one h ∙ ap (λ (d : ℕ). ways (sectionOf rows) d 0 0 w) z);
+          k.here w h ∙ ap (λ (j : ℕ). get_or room j 0) a ∙ s.here 0 w one h ∙ ap (λ (d : ℕ). ways (section_of rows) d 0 0 w) z);
       behind = k.behind;
     }

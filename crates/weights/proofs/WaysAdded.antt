@@ -11,8 +11,8 @@ use Rattle.plates.proofs.ProfileSteps.{before-suc, here-none, here-one}
 use Rattle.plates.specs.Counts.{before, here}
 use Rattle.trellises.proofs.OneBegins.{section-begins}
 use Rattle.trellises.specs.declared.Section.{Section}
-use Rattle.trellises.specs.Numbers.{bit_of, leadsTo}
-use Rattle.trellises.specs.SectionOf.{sectionOf}
+use Rattle.trellises.specs.Numbers.{bit_of, leads_to}
+use Rattle.trellises.specs.SectionOf.{section_of}
 use Rattle.weights.proofs.CountPairs.{count-all}
 use Rattle.weights.specs.Number.{total}
 use Rattle.weights.specs.Ways.{along, shifted, ways}
@@ -53,7 +53,7 @@ module _ (sections : ℕ → Section) where
   total-step d t i (suc m) h ih = go (sections t).begins (one i) (one (i + 2 ^ (sections t).live))
     where
       one : (x : ℕ) → total (suc m) (along (sections t) (ways sections d (suc t)) x) ≡ 2 ^ later sections d (suc t)
-      one x = total-shifted m (bit_of (sections t) x) (ways sections d (suc t) (leadsTo (sections t) x)) (ih _ m (omega arith)) (ih _ (suc m) (omega arith))
+      one x = total-shifted m (bit_of (sections t) x) (ways sections d (suc t) (leads_to (sections t) x)) (ih _ m (omega arith)) (ih _ (suc m) (omega arith))
 
       go : (b : Bool) → total (suc m) (along (sections t) (ways sections d (suc t)) i) ≡ 2 ^ later sections d (suc t)
           → total (suc m) (along (sections t) (ways sections d (suc t)) (i + 2 ^ (sections t).live)) ≡ 2 ^ later sections d (suc t)
@@ -81,31 +81,31 @@ total-most (suc m) F (suc w) h = omega (arith, total-most m (λ w. F (suc w)) w 
 
 module _ (rows : List ℕ) (s : Spans rows (firsts rows) (lasts rows)) where
   -- a section says whether a row has its head there
-  begins-here : (t : ℕ) (n : ℕ) → more (sectionOf rows t).begins n ≡ here (length rows) (firsts rows) t + n
-  begins-here t n = go (sectionOf rows t).begins refl
+  begins-here : (t : ℕ) (n : ℕ) → more (section_of rows t).begins n ≡ here (length rows) (firsts rows) t + n
+  begins-here t n = go (section_of rows t).begins refl
     where
-      go : (b : Bool) → (sectionOf rows t).begins ≡ b → more b n ≡ here (length rows) (firsts rows) t + n
+      go : (b : Bool) → (section_of rows t).begins ≡ b → more b n ≡ here (length rows) (firsts rows) t + n
       go true e =
           let b = (section-begins rows s t).0 e in
           omega (arith, here-one (length rows) (firsts rows) t b.row (rising-apart (length rows) (firsts rows) s.rising) b.there b.here)
       go false e =
           omega (arith, here-none (length rows) (firsts rows) t (λ j l q. false≢true (sym e ∙ (section-begins rows s t).1 (record { row = j; there = l; here = q }))))
 
-  pub later-before : (d t : ℕ) → before (length rows) (firsts rows) t + later (sectionOf rows) d t ≡ before (length rows) (firsts rows) (t + d)
+  pub later-before : (d t : ℕ) → before (length rows) (firsts rows) t + later (section_of rows) d t ≡ before (length rows) (firsts rows) (t + d)
   later-before zero t = let z : t ≡ t + 0 = omega arith in omega (arith, ap (before (length rows) (firsts rows)) z)
   later-before (suc d) t =
       let z : suc t + d ≡ t + suc d = omega arith in
-      omega (arith, begins-here t (later (sectionOf rows) d (suc t)), before-suc (length rows) (firsts rows) t, later-before d (suc t), ap (before (length rows) (firsts rows)) z)
+      omega (arith, begins-here t (later (section_of rows) d (suc t)), before-suc (length rows) (firsts rows) t, later-before d (suc t), ap (before (length rows) (firsts rows)) z)
 
   module _ (n : ℕ) (fit : (j : ℕ) → j < length rows → firsts rows j < n) where
     before-all : before (length rows) (firsts rows) n ≡ length rows
     before-all = count-all (length rows) (λ j. ltb (firsts rows j) n) (λ j l. lt→ltb (firsts rows j) n (fit j l))
 
     -- from depth t on no more rows begin than there are, and from the start all
-    pub later-most : (d t : ℕ) → t + d ≡ n → later (sectionOf rows) d t ≤ length rows
+    pub later-most : (d t : ℕ) → t + d ≡ n → later (section_of rows) d t ≤ length rows
     later-most d t e = omega (arith, later-before d t, ap (before (length rows) (firsts rows)) e, before-all)
 
-    pub later-all : later (sectionOf rows) n 0 ≡ length rows
+    pub later-all : later (section_of rows) n 0 ≡ length rows
     later-all =
         let z : 0 + n ≡ n = omega arith in
         omega (arith, later-before n 0, ap (before (length rows) (firsts rows)) z, before-all, count_none (length rows) (λ j. ltb (firsts rows j) 0) (λ j l q. omega (arith, ltb→lt (firsts rows j) 0 q)))

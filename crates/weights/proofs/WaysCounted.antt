@@ -9,11 +9,11 @@ use native.Mathlib.Decide.{ℕ_discrete}
 use native.Mathlib.Nat.{add_comm}
 use native.Mathlib.Omega.{arith}
 use Prim.Native.Nat.{◌%◌, ◌*◌, ◌+◌, ◌/◌, ◌<◌, ◌^◌, suc, zero, ℕ}
-use Rattle.decoding.specs.Backward.{Chain, branchBy, follow}
+use Rattle.decoding.specs.Backward.{Chain, branch_by, follow}
 use Rattle.decoding.specs.Stepping.{SectionFits}
 use Rattle.trellises.proofs.SectionBranches.{below-high, below-low, other-bit}
 use Rattle.trellises.specs.declared.Section.{Section}
-use Rattle.trellises.specs.Numbers.{bit_of, branchCount, leadsTo}
+use Rattle.trellises.specs.Numbers.{bit_of, branch_count, leads_to}
 use Rattle.weights.proofs.CountPairs.{count-pairs, count_same}
 use Rattle.weights.specs.Ways.{leaving, shifted, ways}
 use Rattle.words.proofs.Choice.{count_none}
@@ -32,30 +32,30 @@ spells sections (suc d) t i x = opens (sections t) i (x % 2) && spells sections 
 -- ---- the branches of a state, by their bits
 
 -- the numbers by a bit, where a branch has it
-abbrev byBit : Bool → ℕ → (ℕ → ℕ) → ℕ → ℕ
-byBit o b F w = cond o (shifted b F w) 0
+abbrev by_bit : Bool → ℕ → (ℕ → ℕ) → ℕ → ℕ
+by_bit o b F w = cond o (shifted b F w) 0
 
 module _ (c : Section) (f : SectionFits c) (old : ℕ → ℕ → ℕ) (i w : ℕ) (h : i < 2 ^ c.live) where
   -- by the bit of the state's own branch, and the bit of the other
   by_digits : (b : Bool) (x y : ℕ) → (x ≡ 0) ⊎ (x ≡ 1) → (b ≡ true → y ≡ (x + 1) % 2)
-      → cond b (shifted x (old (leadsTo c i)) w + shifted y (old (leadsTo c (i + 2 ^ c.live))) w) (shifted x (old (leadsTo c i)) w)
-      ≡ byBit (b || eqb x 0) 0 (old (leadsTo c (cond (b && not (eqb x 0)) (i + 2 ^ c.live) i))) w
-      + byBit (b || eqb x 1) 1 (old (leadsTo c (cond (b && not (eqb x 1)) (i + 2 ^ c.live) i))) w
+      → cond b (shifted x (old (leads_to c i)) w + shifted y (old (leads_to c (i + 2 ^ c.live))) w) (shifted x (old (leads_to c i)) w)
+      ≡ by_bit (b || eqb x 0) 0 (old (leads_to c (cond (b && not (eqb x 0)) (i + 2 ^ c.live) i))) w
+      + by_bit (b || eqb x 1) 1 (old (leads_to c (cond (b && not (eqb x 1)) (i + 2 ^ c.live) i))) w
   by_digits true x y (inl e) g = let z : y ≡ 1 = g refl ∙ ap (λ (x : ℕ). (x + 1) % 2) e in rw (e, z)
   by_digits true x y (inr e) g =
       let z : y ≡ 0 = g refl ∙ ap (λ (x : ℕ). (x + 1) % 2) e in
-      rw (e, z) (add_comm (shifted 1 (old (leadsTo c i)) w) (old (leadsTo c (i + 2 ^ c.live)) w))
+      rw (e, z) (add_comm (shifted 1 (old (leads_to c i)) w) (old (leads_to c (i + 2 ^ c.live)) w))
   by_digits false x y (inl e) g = rw e (omega arith)
   by_digits false x y (inr e) g = rw e (omega arith)
 
-  pub leaving-bits : leaving c old i w ≡ byBit (opens c i 0) 0 (old (follow c i 0)) w + byBit (opens c i 1) 1 (old (follow c i 1)) w
+  pub leaving-bits : leaving c old i w ≡ by_bit (opens c i 0) 0 (old (follow c i 0)) w + by_bit (opens c i 1) 1 (old (follow c i 1)) w
   leaving-bits = by_digits c.begins (bit_of c i) (bit_of c (i + 2 ^ c.live)) (digit (bit_of c i) (omega arith)) (λ e. other-bit c i h (f.begun e))
 
   -- the branch that a bit names is one of the section's
-  pub branch-below : (b : ℕ) → branchBy c i b < branchCount c
+  pub branch-below : (b : ℕ) → branch_by c i b < branch_count c
   branch-below b = go c.begins refl (not (eqb (bit_of c i) b))
     where
-      go : (t : Bool) → c.begins ≡ t → (u : Bool) → cond (t && u) (i + 2 ^ c.live) i < branchCount c
+      go : (t : Bool) → c.begins ≡ t → (u : Bool) → cond (t && u) (i + 2 ^ c.live) i < branch_count c
       go true e true = below-high c i h e
       go true e false = below-low c i h
       go false e u = below-low c i h
@@ -104,7 +104,7 @@ module _ (m : ℕ) (P : ℕ → Bool) where
 
   -- where a branch has the bit, and where none has
   pub counted-bit : (o : Bool) (b : ℕ) → b < 2 → (F : ℕ → ℕ) → ((w : ℕ) → F w ≡ count m (λ x. P x && eqb (ones x) w)) → (w : ℕ)
-      → count m (λ x. o && (P x && eqb (b + ones x) w)) ≡ byBit o b F w
+      → count m (λ x. o && (P x && eqb (b + ones x) w)) ≡ by_bit o b F w
   counted-bit true b h F e w = counted-shift b h F e w
   counted-bit false b h F e w = count_none m (λ x. false) (λ x l t. t)
 
@@ -112,7 +112,7 @@ module _ (sections : ℕ → Section) (n : ℕ) (chain : Chain sections n) where
   -- the words that go on with bit b
   half : (d t i w b : ℕ) → b < 2 → ((v : ℕ) → ways sections d (suc t) (follow (sections t) i b) v ≡ count (2 ^ d) (λ x. spells sections d (suc t) (follow (sections t) i b) x && eqb (ones x) v))
       → count (2 ^ d) (λ x. spells sections (suc d) t i (x * 2 + b) && eqb (ones (x * 2 + b)) w)
-      ≡ byBit (opens (sections t) i b) b (ways sections d (suc t) (follow (sections t) i b)) w
+      ≡ by_bit (opens (sections t) i b) b (ways sections d (suc t) (follow (sections t) i b)) w
   half d t i w b h ih =
       count_same (2 ^ d) _ _ (λ x l.
       ap₂ (λ (r q : ℕ). (opens (sections t) i r && spells sections d (suc t) (follow (sections t) i r) q) && eqb (ones (x * 2 + b)) w) (digits_mod x b h) (digits_div x b h)
@@ -128,7 +128,7 @@ module _ (sections : ℕ → Section) (n : ℕ) (chain : Chain sections n) where
   ways-counted (suc d) t i w e h =
       let k : t < n = omega arith in
       let on : (b : ℕ) → follow (sections t) i b < 2 ^ (sections (suc t)).live =
-      λ b. chain.leads t k (branchBy (sections t) i b) (branch-below (sections t) (chain.fits t k) (λ j v. 0) i w h b) in
+      λ b. chain.leads t k (branch_by (sections t) i b) (branch-below (sections t) (chain.fits t k) (λ j v. 0) i w h b) in
       let even : (x : ℕ) → x * 2 + 0 ≡ x * 2 = λ x. omega arith in
       leaving-bits (sections t) (chain.fits t k) (ways sections d (suc t)) i w h
       ∙ sym (count-pairs d (λ x. spells sections (suc d) t i x && eqb (ones x) w)

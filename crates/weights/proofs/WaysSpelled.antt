@@ -12,35 +12,35 @@ use native.Mathlib.Omega.{arith}
 use Prim.Native.Nat.{◌%◌, ◌+◌, ◌/◌, ◌<◌, ◌^◌, suc, ℕ}
 use Rattle.decoding.proofs.BestWay.{Way}
 use Rattle.decoding.proofs.PlateWays.{codeword-way, plate-chain, start-state, way-codeword}
-use Rattle.decoding.specs.Backward.{Chain, branchBy, follow}
+use Rattle.decoding.specs.Backward.{Chain, branch_by, follow}
 use Rattle.decoding.specs.Stepping.{SectionFits}
 use Rattle.plates.proofs.Live.{and_left, and_right, and-true}
 use Rattle.plates.specs.declared.Plate.{Plate}
 use Rattle.plates.specs.Prepare.{IsPrepared, rows_of}
 use Rattle.trellises.proofs.SectionBranches.{below-high, below-low, leaves-high, leaves-low, leaving-is, other-bit}
 use Rattle.trellises.specs.declared.Section.{Section}
-use Rattle.trellises.specs.Numbers.{bit_of, branchCount, leadsTo, leaves}
-use Rattle.trellises.specs.SectionOf.{sectionOf}
+use Rattle.trellises.specs.Numbers.{bit_of, branch_count, leads_to, leaves}
+use Rattle.trellises.specs.SectionOf.{section_of}
 use Rattle.weights.proofs.WaysCounted.{opens, spells}
 use Rattle.words.specs.Sum.{IsSum}
 
 module _ (c : Section) (f : SectionFits c) (i : ℕ) (h : i < 2 ^ c.live) where
   -- a bit that opens names a branch: it leaves the state with that bit
   pub record Named (b : ℕ) : Type 0 where
-    pub below : branchBy c i b < branchCount c
-    pub leaving : leaves c (branchBy c i b) ≡ i
-    pub bit_is : bit_of c (branchBy c i b) ≡ b
+    pub below : branch_by c i b < branch_count c
+    pub leaving : leaves c (branch_by c i b) ≡ i
+    pub bit_is : bit_of c (branch_by c i b) ≡ b
 
-  own : (b : ℕ) → branchBy c i b ≡ i → bit_of c i ≡ b → Named b
+  own : (b : ℕ) → branch_by c i b ≡ i → bit_of c i ≡ b → Named b
   own b e q = record {
-    below = subst (λ (x : ℕ). x < branchCount c) (sym e) (below-low c i h);
+    below = subst (λ (x : ℕ). x < branch_count c) (sym e) (below-low c i h);
     leaving = ap (leaves c) e ∙ leaves-low c i h;
     bit_is = ap (bit_of c) e ∙ q;
   }
 
-  other : (b : ℕ) → c.begins ≡ true → branchBy c i b ≡ i + 2 ^ c.live → bit_of c (i + 2 ^ c.live) ≡ b → Named b
+  other : (b : ℕ) → c.begins ≡ true → branch_by c i b ≡ i + 2 ^ c.live → bit_of c (i + 2 ^ c.live) ≡ b → Named b
   other b t e q = record {
-    below = subst (λ (x : ℕ). x < branchCount c) (sym e) (below-high c i h t);
+    below = subst (λ (x : ℕ). x < branch_count c) (sym e) (below-high c i h t);
     leaving = ap (leaves c) e ∙ leaves-high c i h;
     bit_is = ap (bit_of c) e ∙ q;
   }
@@ -51,7 +51,7 @@ module _ (c : Section) (f : SectionFits c) (i : ℕ) (h : i < 2 ^ c.live) where
       two : bit_of c i < 2
       two = omega arith
 
-      by : {s u : Bool} → c.begins ≡ s → eqb (bit_of c i) b ≡ u → branchBy c i b ≡ cond (s && not u) (i + 2 ^ c.live) i
+      by : {s u : Bool} → c.begins ≡ s → eqb (bit_of c i) b ≡ u → branch_by c i b ≡ cond (s && not u) (i + 2 ^ c.live) i
       by e q = rw (e, q)
 
       go : (s : Bool) → c.begins ≡ s → (u : Bool) → eqb (bit_of c i) b ≡ u → T (s || u) → Named b
@@ -64,10 +64,10 @@ module _ (c : Section) (f : SectionFits c) (i : ℕ) (h : i < 2 ^ c.live) where
       go false e false q t = absurd t
 
   -- and a branch that leaves the state is the one that its bit names
-  pub names : (x : ℕ) → x < branchCount c → leaves c x ≡ i → T (opens c i (bit_of c x)) × (branchBy c i (bit_of c x) ≡ x)
+  pub names : (x : ℕ) → x < branch_count c → leaves c x ≡ i → T (opens c i (bit_of c x)) × (branch_by c i (bit_of c x) ≡ x)
   names x l e = go (leaving-is c i h x l e)
     where
-      go : (x ≡ i) ⊎ ((c.begins ≡ true) × (x ≡ i + 2 ^ c.live)) → T (opens c i (bit_of c x)) × (branchBy c i (bit_of c x) ≡ x)
+      go : (x ≡ i) ⊎ ((c.begins ≡ true) × (x ≡ i + 2 ^ c.live)) → T (opens c i (bit_of c x)) × (branch_by c i (bit_of c x) ≡ x)
       go (inl q) = rw (q, eq-eqb (bit_of c i) (bit_of c i) refl) (one c.begins)
         where
           one : (s : Bool) → T (s || true) × (cond (s && false) (i + 2 ^ c.live) i ≡ i)
@@ -81,7 +81,7 @@ module _ (sections : ℕ → Section) (n : ℕ) (chain : Chain sections n) where
   spells-way (y ∷ ys) t i x e h l s =
       let k : t < n = omega arith in
       let m = named (sections t) (chain.fits t k) i h (x % 2) (omega arith) (and_left (opens (sections t) i (x % 2)) (spells sections (length ys) (suc t) (follow (sections t) i (x % 2)) (x / 2)) s) in (
-        branchBy (sections t) i (x % 2),
+        branch_by (sections t) i (x % 2),
         m.below,
         m.leaving,
         m.bit_is,
@@ -92,20 +92,20 @@ module _ (sections : ℕ → Section) (n : ℕ) (chain : Chain sections n) where
   way-spells [] t i x e h a = tt
   way-spells (y ∷ ys) t i x e h a =
       let k : t < n = omega arith in
-      let m = subst (λ (b : ℕ). T (opens (sections t) i b) × (branchBy (sections t) i b ≡ a.0)) a.3 (names (sections t) (chain.fits t k) i h a.0 a.1 a.2) in
-      and-true (opens (sections t) i (x % 2)) (spells sections (length ys) (suc t) (follow (sections t) i (x % 2)) (x / 2)) m.0 (subst (λ (z : ℕ). T (spells sections (length ys) (suc t) (leadsTo (sections t) z) (x / 2))) (sym m.1)
-      (way-spells ys (suc t) (leadsTo (sections t) a.0) (x / 2) (omega arith) (chain.leads t k a.0 a.1) a.4))
+      let m = subst (λ (b : ℕ). T (opens (sections t) i b) × (branch_by (sections t) i b ≡ a.0)) a.3 (names (sections t) (chain.fits t k) i h a.0 a.1 a.2) in
+      and-true (opens (sections t) i (x % 2)) (spells sections (length ys) (suc t) (follow (sections t) i (x % 2)) (x / 2)) m.0 (subst (λ (z : ℕ). T (spells sections (length ys) (suc t) (leads_to (sections t) z) (x / 2))) (sym m.1)
+      (way-spells ys (suc t) (leads_to (sections t) a.0) (x / 2) (omega arith) (chain.leads t k a.0 a.1) a.4))
 
 module _ (plate : Plate) (given : IsPrepared plate) where
   sized : length (replicate plate.n (pos 0)) ≡ plate.n
   sized = length-replicate plate.n (pos 0)
 
-  pub spelled : (x : ℕ) → x < 2 ^ plate.n → T (spells (sectionOf (rows_of plate)) plate.n 0 0 x) ↔ IsSum (rows_of plate) x
+  pub spelled : (x : ℕ) → x < 2 ^ plate.n → T (spells (section_of (rows_of plate)) plate.n 0 0 x) ↔ IsSum (rows_of plate) x
   spelled x l = (
     (λ s. way-codeword plate given (replicate plate.n (pos 0)) sized x
-        (spells-way (sectionOf (rows_of plate)) plate.n (plate-chain plate given) (replicate plate.n (pos 0)) 0 0 x (omega (arith, sized)) (start-state plate given)
-        (subst (λ (m : ℕ). x < 2 ^ m) (sym sized) l) (subst (λ (m : ℕ). T (spells (sectionOf (rows_of plate)) m 0 0 x)) (sym sized) s))),
-    λ g. subst (λ (m : ℕ). T (spells (sectionOf (rows_of plate)) m 0 0 x)) sized
-        (way-spells (sectionOf (rows_of plate)) plate.n (plate-chain plate given) (replicate plate.n (pos 0)) 0 0 x (omega (arith, sized)) (start-state plate given)
+        (spells-way (section_of (rows_of plate)) plate.n (plate-chain plate given) (replicate plate.n (pos 0)) 0 0 x (omega (arith, sized)) (start-state plate given)
+        (subst (λ (m : ℕ). x < 2 ^ m) (sym sized) l) (subst (λ (m : ℕ). T (spells (section_of (rows_of plate)) m 0 0 x)) (sym sized) s))),
+    λ g. subst (λ (m : ℕ). T (spells (section_of (rows_of plate)) m 0 0 x)) sized
+        (way-spells (section_of (rows_of plate)) plate.n (plate-chain plate given) (replicate plate.n (pos 0)) 0 0 x (omega (arith, sized)) (start-state plate given)
         (codeword-way plate given (replicate plate.n (pos 0)) sized x g)),
   )

@@ -15,7 +15,7 @@ use native.Mathlib.Omega.{arith}
 use Prim.Native.Nat.{◌*◌, ◌+◌, ◌/◌, ◌<◌, ◌^◌, ℕ, ◌≤◌}
 use Rattle.decoding.proofs.PlateSizes.{entry-widest, plate-sizes-fit, profile-fits}
 use Rattle.decoding.specs.Decode.{widest}
-use Rattle.decoding.specs.Needs.{ProfileFits, widestEntry}
+use Rattle.decoding.specs.Needs.{ProfileFits, widest_entry}
 use Rattle.plates.proofs.SoundIsPrepared.{sound, used-rows}
 use Rattle.plates.specs.declared.Plate.{Plate}
 use Rattle.plates.specs.declared.Refusal.TheVariants.{MetricRoom, NotPrepared, WholeSpace}
@@ -27,7 +27,7 @@ use Rattle.weights.proofs.PlateWeights.{codeword-below, tally-fits, ways-number,
 use Rattle.weights.specs.declared.Counted.TheVariants.{Least, OnlyZero, Refused}
 use Rattle.weights.specs.Rooms.{FirstAbove, TestsRooms}
 use Rattle.weights.specs.Tallying.{Counted, TallyFits}
-use Rattle.weights.specs.Weights.{CountsWeights, Filled, LeastWeight, NumberOfWeight, OfWeight, weightConditions, workingNeed}
+use Rattle.weights.specs.Weights.{CountsWeights, Filled, LeastWeight, NumberOfWeight, OfWeight, weight_conditions, working_need}
 use Rattle.words.proofs.Ends.{some-pos}
 use Rattle.words.proofs.Sums.{in_row}
 use Rattle.words.specs.Ends.{firsts}
@@ -40,7 +40,7 @@ ones_none =
     (λ x ih e. let z : x / 2 ≡ 0 = ih (omega (arith, e, ones_step x)) in omega (arith, e, ones_step x))
 
 -- the room that the profile asks for
-pub half_is : (plate : Plate) → IsPrepared plate → 2 ^ widestEntry plate.profile plate.n * 65 ≡ 2 ^ widest plate * 65
+pub half_is : (plate : Plate) → IsPrepared plate → 2 ^ widest_entry plate.profile plate.n * 65 ≡ 2 ^ widest plate * 65
 half_is plate given = ap (λ (m : ℕ). 2 ^ m * 65) (entry-widest plate given)
 
 -- a room that is too short by another name of its need
@@ -56,22 +56,22 @@ module _ (plate : Plate) (counts working : List ℕ) where
     pub refused-22 : plate.k ≡ 64 → CountsWeights plate counts working counts working (Refused WholeSpace)
     refused-22 e = (inr ((λ q b. b.0 given), inl (e, refl)), refl, refl)
 
-    module _ (not-whole : plate.k ≡ 64 → ⊥) where
-      pub refused-8 : (length counts < 65) ⊎ (length working < workingNeed plate) → CountsWeights plate counts working counts working (Refused MetricRoom)
-      refused-8 h = (inr ((λ q b. b.0 given), inr ((λ q b. not-whole b.0), inl (h, refl))), refl, refl)
+    module _ (not_whole : plate.k ≡ 64 → ⊥) where
+      pub refused-8 : (length counts < 65) ⊎ (length working < working_need plate) → CountsWeights plate counts working counts working (Refused MetricRoom)
+      refused-8 h = (inr ((λ q b. b.0 given), inr ((λ q b. not_whole b.0), inl (h, refl))), refl, refl)
 
       pub not-64 : plate.k < 64
       not-64 = go (dec_lt plate.k 64)
         where
           go : Dec (plate.k < 64) → plate.k < 64
           go (yes h) = h
-          go (no h) = absurd (not-whole (omega (arith, (sound given).few)))
+          go (no h) = absurd (not_whole (omega (arith, (sound given).few)))
 
-      module _ (count_room : 65 ≤ length counts) (working-room : workingNeed plate ≤ length working) where
-        passes : Passes (weightConditions plate counts working)
-        passes = ((λ q b. b.0 given), ((λ q b. not-whole b.0), ((λ q b. short b.0), tt)))
+      module _ (count_room : 65 ≤ length counts) (working-room : working_need plate ≤ length working) where
+        passes : Passes (weight_conditions plate counts working)
+        passes = ((λ q b. b.0 given), ((λ q b. not_whole b.0), ((λ q b. short b.0), tt)))
           where
-            short : (length counts < 65) ⊎ (length working < workingNeed plate) → ⊥
+            short : (length counts < 65) ⊎ (length working < working_need plate) → ⊥
             short (inl h) = omega arith
             short (inr h) = omega (arith, h, working-room)
 
@@ -86,7 +86,7 @@ module _ (plate : Plate) (counts working : List ℕ) where
               go (yes p) = let x = number-some (numbers w h) p in absurd (omega (arith, l, weight-most plate given x.2))
               go (no p) = omega arith
 
-          filled : (need : ℕ) → need ≡ workingNeed plate → (working' : List ℕ) → working' ≡ replicate need 0 ++ drop need working
+          filled : (need : ℕ) → need ≡ working_need plate → (working' : List ℕ) → working' ≡ replicate need 0 ++ drop need working
               → Filled plate counts working counts' working'
           filled need e working' z = record {
             size = k.size;
@@ -134,7 +134,7 @@ module _ (plate : Plate) (counts working : List ℕ) where
                 go (yes l) = absurd (weighs l (dec_lt 0 (ones (get_or (rows_of plate) 0 0))))
                 go (no l) = omega arith
 
-            module _ (need : ℕ) (e : need ≡ workingNeed plate) (working' : List ℕ) (z : working' ≡ replicate need 0 ++ drop need working) where
+            module _ (need : ℕ) (e : need ≡ working_need plate) (working' : List ℕ) (z : working' ≡ replicate need 0 ++ drop need working) where
               pub counted-least : r < 65 → CountsWeights plate counts working counts' working' (Least r)
               counted-least h = (passes, least h, filled need e working' z)
 
@@ -145,19 +145,19 @@ module _ (plate : Plate) (counts working : List ℕ) where
 
 -- nothing is refused: the plate is tested, and both rooms are long enough
 pub record Ready (plate : Plate) (half : ℕ) (counts working : List ℕ) : Type 0 where
-  pub plate-given : IsPrepared plate
-  pub half-widest : half ≡ 2 ^ widest plate * 65
-  pub not-whole : plate.k ≡ 64 → ⊥
-  pub counts-there : 65 ≤ length counts
-  pub working-there : half + half ≤ length working
+  pub plate_given : IsPrepared plate
+  pub half_widest : half ≡ 2 ^ widest plate * 65
+  pub not_whole : plate.k ≡ 64 → ⊥
+  pub counts_there : 65 ≤ length counts
+  pub working_there : half + half ≤ length working
 
 module _ {plate : Plate} {p : Bool} (t : Tests plate p) where
   pub unprepared : (counts working : List ℕ) → not p ≡ true → CountsWeights plate counts working counts working (Refused NotPrepared)
-  unprepared counts working e = refused-5 plate counts working (t.no-is (not-true _ e))
+  unprepared counts working e = refused-5 plate counts working (t.no_is (not-true _ e))
 
   module _ (e : not p ≡ false) where
     given : IsPrepared plate
-    given = t.yes-is (not-false _ e)
+    given = t.yes_is (not-false _ e)
 
     pub profile-long : plate.n < length plate.profile
     profile-long = omega (arith, (sound given).short, (sound given).entries)
@@ -172,29 +172,29 @@ module _ {plate : Plate} {p : Bool} (t : Tests plate p) where
     whole-space counts working = refused-22 plate counts working given
 
     -- the half that was found
-    module _ {half : ℕ} (h : half ≡ 2 ^ widestEntry plate.profile plate.n * 65) where
+    module _ {half : ℕ} (h : half ≡ 2 ^ widest_entry plate.profile plate.n * 65) where
       widest-half : half ≡ 2 ^ widest plate * 65
       widest-half = h ∙ half_is plate given
 
-      need-is : half + half ≡ workingNeed plate
+      need-is : half + half ≡ working_need plate
       need-is = omega (arith, widest-half)
 
       pub need-fits : Fits w64 (half + half)
-      need-fits = record { fits = omega (arith, widest-half, (plate-sizes-fit plate given).half-small) }
+      need-fits = record { fits = omega (arith, widest-half, (plate-sizes-fit plate given).half_small) }
 
       -- the rooms that were tested
       module _ (counts working : List ℕ) {short : Bool} (rooms : TestsRooms (length counts) (length working) (half + half) short)
-          (not-whole : plate.k ≡ 64 → ⊥) where
+          (not_whole : plate.k ≡ 64 → ⊥) where
         pub rooms-refused : short ≡ true → CountsWeights plate counts working counts working (Refused MetricRoom)
-        rooms-refused e = refused-8 plate counts working given not-whole (by-need need-is (rooms.yes-is e))
+        rooms-refused e = refused-8 plate counts working given not_whole (by-need need-is (rooms.yes_is e))
 
         pub made-ready : short ≡ false → Ready plate half counts working
         made-ready e = record {
-          plate-given = given;
-          half-widest = widest-half;
-          not-whole = not-whole;
-          counts-there = (rooms.no-is e).0;
-          working-there = (rooms.no-is e).1;
+          plate_given = given;
+          half_widest = widest-half;
+          not_whole = not_whole;
+          counts_there = (rooms.no_is e).0;
+          working_there = (rooms.no_is e).1;
         }
 
 module _ {plate : Plate} {half : ℕ} {counts working : List ℕ} (ready : Ready plate half counts working) where
@@ -202,32 +202,32 @@ module _ {plate : Plate} {half : ℕ} {counts working : List ℕ} (ready : Ready
   lent = take (half + half) working
 
   pub working-count : half + half ≡ length (take (half + half) working)
-  working-count = sym (length-take-le (half + half) working ready.working-there)
+  working-count = sym (length-take-le (half + half) working ready.working_there)
 
   pub tally-asks : TallyFits (rows_of plate) plate.n half (take (half + half) working)
   tally-asks =
-      tally-fits plate ready.plate-given (not-64 plate counts working ready.plate-given ready.not-whole) half ready.half-widest lent
+      tally-fits plate ready.plate_given (not-64 plate counts working ready.plate_given ready.not_whole) half ready.half_widest lent
       (sym working-count)
 
   -- what was counted
   module _ {counts' zeros : List ℕ} (k : Counted (rows_of plate) plate.n counts counts')
       (z : zeros ≡ replicate (length (take (half + half) working)) 0) where
     pub counts-still : 65 ≤ length counts'
-    counts-still = omega (arith, k.size, ready.counts-there)
+    counts-still = omega (arith, k.size, ready.counts_there)
 
     module _ {r : ℕ} (f : FirstAbove counts' r) where
-      need-same : half + half ≡ workingNeed plate
-      need-same = omega (arith, ready.half-widest)
+      need-same : half + half ≡ working_need plate
+      need-same = omega (arith, ready.half_widest)
 
       zeroed : zeros ++ drop (half + half) working ≡ replicate (half + half) 0 ++ drop (half + half) working
       zeroed = ap (λ (l : List ℕ). l ++ drop (half + half) working) (z ∙ ap (λ (m : ℕ). replicate m 0) (sym working-count))
 
       pub least-found : r < 65 → CountsWeights plate counts working counts' (zeros ++ drop (half + half) working) (Least r)
       least-found =
-          counted-least plate counts working ready.plate-given ready.not-whole ready.counts-there (omega (arith, ready.working-there, need-same))
+          counted-least plate counts working ready.plate_given ready.not_whole ready.counts_there (omega (arith, ready.working_there, need-same))
           counts' k r f (half + half) need-same (zeros ++ drop (half + half) working) zeroed
 
       pub none_found : 65 ≤ r → CountsWeights plate counts working counts' (zeros ++ drop (half + half) working) OnlyZero
       none_found =
-          counted_none plate counts working ready.plate-given ready.not-whole ready.counts-there (omega (arith, ready.working-there, need-same))
+          counted_none plate counts working ready.plate_given ready.not_whole ready.counts_there (omega (arith, ready.working_there, need-same))
           counts' k r f (half + half) need-same (zeros ++ drop (half + half) working) zeroed

@@ -12,7 +12,7 @@ use Rattle.plates.specs.declared.Plate.{Plate}
 use Rattle.weights.proofs.CountPairs.{number-once}
 use Rattle.weights.specs.declared.Counted.{Counted}
 use Rattle.weights.specs.declared.Counted.TheVariants.{Least, OnlyZero, Refused}
-use Rattle.weights.specs.Weights.{CountsWeights, Filled, LeastWeight, weightConditions}
+use Rattle.weights.specs.Weights.{CountsWeights, Filled, LeastWeight, weight_conditions}
 use Rattle.words.specs.Sum.{sum_of}
 
 -- where k is 0 the zero word is the only codeword, and no weight is above zero
@@ -27,7 +27,7 @@ pub least-once : (plate : Plate) (v w : ℕ) → LeastWeight plate v → LeastWe
 least-once plate v w a b = omega (arith, a.smallest b.word w b.has b.above, b.smallest a.word v a.has a.above)
 
 module _ (plate : Plate) (counts working : List ℕ) where
-  single : Single (weightConditions plate counts working)
+  single : Single (weight_conditions plate counts working)
   single = ((λ p q x y. x.1 ∙ sym y.1), ((λ p q x y. x.1 ∙ sym y.1), ((λ p q x y. x.1 ∙ sym y.1), tt)))
 
   module _ {counts' counts'' working' working'' : List ℕ} where
@@ -41,12 +41,12 @@ module _ (plate : Plate) (counts working : List ℕ) where
     pub count-weights-determined : (r s : Counted) → CountsWeights plate counts working counts' working' r → CountsWeights plate counts working counts'' working'' s
         → (r ≡ s) × (counts' ≡ counts'') × (working' ≡ working'')
     count-weights-determined (Refused p) (Refused q) x y =
-        (ap Refused (refuses-once (weightConditions plate counts working) single p q x.0 y.0), x.1 ∙ sym y.1, x.2 ∙ sym y.2)
-    count-weights-determined (Refused p) (Least w) x y = absurd (never_both (weightConditions plate counts working) y.0 p x.0)
-    count-weights-determined (Refused p) OnlyZero x y = absurd (never_both (weightConditions plate counts working) y.0 p x.0)
-    count-weights-determined (Least v) (Refused q) x y = absurd (never_both (weightConditions plate counts working) x.0 q y.0)
+        (ap Refused (refuses-once (weight_conditions plate counts working) single p q x.0 y.0), x.1 ∙ sym y.1, x.2 ∙ sym y.2)
+    count-weights-determined (Refused p) (Least w) x y = absurd (never_both (weight_conditions plate counts working) y.0 p x.0)
+    count-weights-determined (Refused p) OnlyZero x y = absurd (never_both (weight_conditions plate counts working) y.0 p x.0)
+    count-weights-determined (Least v) (Refused q) x y = absurd (never_both (weight_conditions plate counts working) x.0 q y.0)
     count-weights-determined (Least v) (Least w) x y = (ap Least (least-once plate v w x.1 y.1), same-counts x.2 y.2, x.2.zeroed ∙ sym y.2.zeroed)
     count-weights-determined (Least v) OnlyZero x y = absurd (none_above plate y.1 v x.1)
-    count-weights-determined OnlyZero (Refused q) x y = absurd (never_both (weightConditions plate counts working) x.0 q y.0)
+    count-weights-determined OnlyZero (Refused q) x y = absurd (never_both (weight_conditions plate counts working) x.0 q y.0)
     count-weights-determined OnlyZero (Least w) x y = absurd (none_above plate x.1 w y.1)
     count-weights-determined OnlyZero OnlyZero x y = (refl, same-counts x.2 y.2, x.2.zeroed ∙ sym y.2.zeroed)

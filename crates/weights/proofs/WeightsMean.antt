@@ -12,7 +12,7 @@ use Rattle.plates.specs.declared.Refusal.{Refusal}
 use Rattle.plates.specs.declared.Refusal.TheVariants.{NotPrepared}
 use Rattle.plates.specs.Prepare.{IsPrepared, rows_of}
 use Rattle.plates.specs.Refusals.{Passes}
-use Rattle.trellises.specs.SectionOf.{sectionOf}
+use Rattle.trellises.specs.SectionOf.{section_of}
 use Rattle.weights.proofs.CountPairs.{number-once, number-some, number-zero}
 use Rattle.weights.proofs.PlateWeights.{codeword-below, ways-add, ways-number, weight-most}
 use Rattle.weights.proofs.WaysAdded.{total-same}
@@ -21,16 +21,16 @@ use Rattle.weights.specs.declared.Counted.{Counted}
 use Rattle.weights.specs.declared.Counted.TheVariants.{Least, OnlyZero, Refused}
 use Rattle.weights.specs.Number.{total}
 use Rattle.weights.specs.Ways.{ways}
-use Rattle.weights.specs.Weights.{CountsWeights, Filled, weightConditions}
+use Rattle.weights.specs.Weights.{CountsWeights, Filled, weight_conditions}
 
 module _ (plate : Plate) (counts working counts' working' : List ℕ) where
   -- the counts of a prepared plate
   filled-adds : IsPrepared plate → Filled plate counts working counts' working' → total 65 (λ w. get_or counts' w 0) ≡ 2 ^ plate.k
   filled-adds given f =
-      total-same 65 (λ w. get_or counts' w 0) (ways (sectionOf (rows_of plate)) plate.n 0 0) (λ w l. number-once (f.here w l) (ways-number plate given w))
+      total-same 65 (λ w. get_or counts' w 0) (ways (section_of (rows_of plate)) plate.n 0 0) (λ w l. number-once (f.here w l) (ways-number plate given w))
       ∙ ways-add plate given
 
-  adds : Passes (weightConditions plate counts working) → Filled plate counts working counts' working' → total 65 (λ w. get_or counts' w 0) ≡ 2 ^ plate.k
+  adds : Passes (weight_conditions plate counts working) → Filled plate counts working counts' working' → total 65 (λ w. get_or counts' w 0) ≡ 2 ^ plate.k
   adds p f = go (ℕ_discrete (total 65 (λ w. get_or counts' w 0)) (2 ^ plate.k))
     where
       go : Dec (total 65 (λ w. get_or counts' w 0) ≡ 2 ^ plate.k) → total 65 (λ w. get_or counts' w 0) ≡ 2 ^ plate.k

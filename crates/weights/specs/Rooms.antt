@@ -3,8 +3,8 @@ use Rattle.std.specs.Prelude.{get_or, length, Bool, false, true, List, ◌⊎◌
 
 -- r says whether the counts, or the numbers of the working room, are too few
 pub record TestsRooms (counts working need : ℕ) (r : Bool) : Type 0 where
-  pub yes-is : r ≡ true → (counts < 65) ⊎ (working < need)
-  pub no-is : r ≡ false → (65 ≤ counts) × (need ≤ working)
+  pub yes_is : r ≡ true → (counts < 65) ⊎ (working < need)
+  pub no_is : r ≡ false → (65 ≤ counts) × (need ≤ working)
 
 -- the first m counts are what begins at `from` in the working room, and the others as they were
 pub record Copied (working : List ℕ) (from : ℕ) (counts : List ℕ) (m : ℕ) (counts' : List ℕ) : Type 0 where

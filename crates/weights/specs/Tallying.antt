@@ -3,8 +3,8 @@ use Rattle.std.specs.Prelude.{get_or, length, List, ◌⊎◌, ◌≡◌, ◌*�
 use Rattle.decoding.specs.Backward.{Chain}
 use Rattle.decoding.specs.Stepping.{SectionFits}
 use Rattle.trellises.specs.declared.Section.{Section}
-use Rattle.trellises.specs.Numbers.{branchCount, leadsTo}
-use Rattle.trellises.specs.SectionOf.{sectionOf}
+use Rattle.trellises.specs.Numbers.{branch_count, leads_to}
+use Rattle.trellises.specs.SectionOf.{section_of}
 use Rattle.weights.specs.Ways.{leaving, ways}
 
 -- the numbers by weight of each state, 65 a state, which begin at `from`
@@ -17,7 +17,7 @@ pub record BranchFits (working : List ℕ) (from : ℕ) (c : Section) (x w : ℕ
   pub number : x < 2 ^ 13
   pub weight : w < 65
   pub small : from < 2 ^ 32
-  pub room : from + leadsTo c x * 65 + 65 ≤ length working
+  pub room : from + leads_to c x * 65 + 65 ≤ length working
 
 -- what a state asks: each of its branches fits, and their sum too
 pub record StateFits (working : List ℕ) (from : ℕ) (c : Section) (i w : ℕ) : Type 0 where
@@ -25,17 +25,17 @@ pub record StateFits (working : List ℕ) (from : ℕ) (c : Section) (i w : ℕ)
   pub state : i < 2 ^ c.live
   pub weight : w < 65
   pub small : from < 2 ^ 32
-  pub room : (x : ℕ) → x < branchCount c → from + leadsTo c x * 65 + 65 ≤ length working
+  pub room : (x : ℕ) → x < branch_count c → from + leads_to c x * 65 + 65 ≤ length working
   pub most : leaving c (olds working from) i w < 2 ^ 64
 
 -- what a section asks: the old numbers, of `next` states, begin at `from`, and the new ones go to `to`, apart from them
 pub record StepFits (working : List ℕ) (from to : ℕ) (c : Section) : Type 0 where
   pub section : SectionFits c
   pub next : ℕ
-  pub leads : (x : ℕ) → x < branchCount c → leadsTo c x < next
+  pub leads : (x : ℕ) → x < branch_count c → leads_to c x < next
   pub apart : (from + next * 65 ≤ to) ⊎ (to + 2 ^ c.live * 65 ≤ from)
-  pub old-room : from + next * 65 ≤ length working
-  pub new-room : to + 2 ^ c.live * 65 ≤ length working
+  pub old_room : from + next * 65 ≤ length working
+  pub new_room : to + 2 ^ c.live * 65 ≤ length working
   pub small : length working < 2 ^ 32
   pub most : (i w : ℕ) → i < 2 ^ c.live → w < 65 → leaving c (olds working from) i w < 2 ^ 64
 
@@ -48,21 +48,21 @@ pub record Stepped (working : List ℕ) (from to : ℕ) (c : Section) (working' 
 pub record TallyFits (rows : List ℕ) (n half : ℕ) (working : List ℕ) : Type 0 where
   pub short : n ≤ 64
   pub few : length rows ≤ 64
-  pub chain : Chain (sectionOf rows) n
-  pub room : (t : ℕ) → t ≤ n → 2 ^ (sectionOf rows t).live * 65 ≤ half
-  pub end : (sectionOf rows n).live ≡ 0
+  pub chain : Chain (section_of rows) n
+  pub room : (t : ℕ) → t ≤ n → 2 ^ (section_of rows t).live * 65 ≤ half
+  pub end : (section_of rows n).live ≡ 0
   pub size : length working ≡ half + half
   pub small : half < 2 ^ 31
-  pub most : (d t i w : ℕ) → t + d ≡ n → ways (sectionOf rows) d t i w < 2 ^ 64
+  pub most : (d t i w : ℕ) → t + d ≡ n → ways (section_of rows) d t i w < 2 ^ 64
 
 -- the numbers of depth t stand in one half of the room
 pub record Swept (rows : List ℕ) (n half t : ℕ) (working : List ℕ) (from : ℕ) : Type 0 where
   pub size : length working ≡ half + half
   pub either : (from ≡ 0) ⊎ (from ≡ half)
-  pub here : (i w : ℕ) → i < 2 ^ (sectionOf rows t).live → w < 65 → olds working from i w ≡ ways (sectionOf rows) (n - t) t i w
+  pub here : (i w : ℕ) → i < 2 ^ (section_of rows t).live → w < 65 → olds working from i w ≡ ways (section_of rows) (n - t) t i w
 
 -- the first 65 counts are the numbers of the start, and the others as they were
 pub record Counted (rows : List ℕ) (n : ℕ) (counts counts' : List ℕ) : Type 0 where
   pub size : length counts' ≡ length counts
-  pub here : (w : ℕ) → w < 65 → get_or counts' w 0 ≡ ways (sectionOf rows) n 0 0 w
+  pub here : (w : ℕ) → w < 65 → get_or counts' w 0 ≡ ways (section_of rows) n 0 0 w
   pub behind : (i : ℕ) → 65 ≤ i → get_or counts' i 0 ≡ get_or counts i 0

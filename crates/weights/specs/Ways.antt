@@ -1,7 +1,7 @@
 -- The ways through the sections to the far end, counted by weight.
 use Rattle.std.specs.Prelude.{cond, ◌+◌, ◌^◌, suc, zero, ℕ}
 use Rattle.trellises.specs.declared.Section.{Section}
-use Rattle.trellises.specs.Numbers.{bit_of, leadsTo}
+use Rattle.trellises.specs.Numbers.{bit_of, leads_to}
 
 -- numbers by weight, where a bit is added: a 1 moves each up by one weight
 abbrev pub shifted : ℕ → (ℕ → ℕ) → ℕ → ℕ
@@ -18,7 +18,7 @@ ended (suc w) = 0
 module _ (c : Section) (old : ℕ → ℕ → ℕ) where
   -- the ways that begin with branch x
   abbrev pub along : ℕ → ℕ → ℕ
-  along x w = shifted (bit_of c x) (old (leadsTo c x)) w
+  along x w = shifted (bit_of c x) (old (leads_to c x)) w
 
   -- the ways that begin at state i: by its own branch and, where a row begins, by the one that takes it too
   abbrev pub leaving : ℕ → ℕ → ℕ

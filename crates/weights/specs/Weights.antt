@@ -5,7 +5,7 @@ use Rattle.decoding.specs.Decode.{widest}
 use Rattle.plates.specs.declared.Plate.{Plate}
 use Rattle.plates.specs.declared.Refusal.{Refusal}
 use Rattle.plates.specs.declared.Refusal.TheVariants.{MetricRoom, WholeSpace}
-use Rattle.plates.specs.Prepare.{notPrepared, rows_of}
+use Rattle.plates.specs.Prepare.{not_prepared, rows_of}
 use Rattle.plates.specs.Refusals.{Passes, Refuses}
 use Rattle.weights.specs.declared.Counted.{Counted}
 use Rattle.weights.specs.declared.Counted.TheVariants.{Least, OnlyZero, Refused}
@@ -31,19 +31,19 @@ pub record LeastWeight (plate : Plate) (w : ℕ) : Type 0 where
 -- ---- the rooms and the refusals
 
 -- how many numbers of working room are needed
-abbrev pub workingNeed : Plate → ℕ
-workingNeed plate = 130 * 2 ^ widest plate
+abbrev pub working_need : Plate → ℕ
+working_need plate = 130 * 2 ^ widest plate
 
 -- 22: k is 64
-abbrev pub wholeSpace : Plate → Refusal → Type 0
-wholeSpace plate q = (plate.k ≡ 64) × (q ≡ WholeSpace)
+abbrev pub whole_space : Plate → Refusal → Type 0
+whole_space plate q = (plate.k ≡ 64) × (q ≡ WholeSpace)
 
 -- 8: a lent room is too short
-abbrev pub shortRoom : Plate → List ℕ → List ℕ → Refusal → Type 0
-shortRoom plate counts working q = ((length counts < 65) ⊎ (length working < workingNeed plate)) × (q ≡ MetricRoom)
+abbrev pub short_room : Plate → List ℕ → List ℕ → Refusal → Type 0
+short_room plate counts working q = ((length counts < 65) ⊎ (length working < working_need plate)) × (q ≡ MetricRoom)
 
-abbrev pub weightConditions : Plate → List ℕ → List ℕ → List (Refusal → Type 0)
-weightConditions plate counts working = notPrepared plate ∷ wholeSpace plate ∷ shortRoom plate counts working ∷ []
+abbrev pub weight_conditions : Plate → List ℕ → List ℕ → List (Refusal → Type 0)
+weight_conditions plate counts working = not_prepared plate ∷ whole_space plate ∷ short_room plate counts working ∷ []
 
 -- ---- the reply
 
@@ -54,19 +54,19 @@ pub record Filled (plate : Plate) (counts working counts' working' : List ℕ) :
   pub here : (w : ℕ) → w < 65 → NumberOfWeight plate w (get_or counts' w 0)
   pub beyond : (w : ℕ) → plate.n < w → w < 65 → get_or counts' w 0 ≡ 0
   pub behind : (i : ℕ) → 65 ≤ i → get_or counts' i 0 ≡ get_or counts i 0
-  pub zeroed : working' ≡ replicate (workingNeed plate) 0 ++ drop (workingNeed plate) working
+  pub zeroed : working' ≡ replicate (working_need plate) 0 ++ drop (working_need plate) working
 
 -- ---- the values of a reply that counted: whether it says that there is no weight above zero, and the smallest one where there is
 
-abbrev pub saysNone : Counted → Bool
-saysNone (Least w) = false
-saysNone OnlyZero = true
-saysNone (Refused q) = true
+abbrev pub says_none : Counted → Bool
+says_none (Least w) = false
+says_none OnlyZero = true
+says_none (Refused q) = true
 
-abbrev pub leastSaid : Counted → ℕ
-leastSaid (Least w) = w
-leastSaid OnlyZero = 0
-leastSaid (Refused q) = 0
+abbrev pub least_said : Counted → ℕ
+least_said (Least w) = w
+least_said OnlyZero = 0
+least_said (Refused q) = 0
 
 -- none is said where k is 0, and else the smallest weight above zero
 abbrev pub LeastIs : Plate → Bool → ℕ → Type 0
@@ -77,8 +77,8 @@ LeastIs plate false w = LeastWeight plate w
 -- that there is none
 abbrev pub CountsWeights : Plate → List ℕ → List ℕ → List ℕ → List ℕ → Counted → Type 0
 CountsWeights plate counts working counts' working' (Refused q) =
-    Refuses (weightConditions plate counts working) q × (counts' ≡ counts) × (working' ≡ working)
+    Refuses (weight_conditions plate counts working) q × (counts' ≡ counts) × (working' ≡ working)
 CountsWeights plate counts working counts' working' (Least w) =
-    Passes (weightConditions plate counts working) × LeastIs plate (saysNone (Least w)) (leastSaid (Least w)) × Filled plate counts working counts' working'
+    Passes (weight_conditions plate counts working) × LeastIs plate (says_none (Least w)) (least_said (Least w)) × Filled plate counts working counts' working'
 CountsWeights plate counts working counts' working' OnlyZero =
-    Passes (weightConditions plate counts working) × LeastIs plate (saysNone OnlyZero) (leastSaid OnlyZero) × Filled plate counts working counts' working'
+    Passes (weight_conditions plate counts working) × LeastIs plate (says_none OnlyZero) (least_said OnlyZero) × Filled plate counts working counts' working'

@@ -1,5 +1,5 @@
 // The weights of a plate: how many codewords have each number of ones, and the smallest number above zero.
-ghost use Rattle.plates.specs.Prepare.{ofParts};
+ghost use Rattle.plates.specs.Prepare.{of_parts};
 ghost use Rattle.weights.specs.Weights.{CountsWeights};
 
 use crate::rooms::{are_short, find_least, half_of};
@@ -29,7 +29,7 @@ pub fn count_weights_parts<'a>(
     counts: &mut [u64],
     working: &mut [u64],
 ) -> Counted
-    ensures { CountsWeights (ofParts n k mask rows.now profile.now) counts.old working.old counts.new working.new result }
+    ensures { CountsWeights (of_parts n k mask rows.now profile.now) counts.old working.old counts.new working.new result }
 {
     if !plates::parts_prepared(n, k, mask, rows, profile) {
         return Counted::Refused(Refusal::NotPrepared);

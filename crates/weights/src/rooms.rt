@@ -1,7 +1,7 @@
 // The rooms: how many numbers a half of the working room has, whether a room is too short, putting it to zero, and looking through the
 // counts.
 ghost use Rattle.std.specs.Prelude.{get_or, length, replicate, ◌≡◌, max, ◌*◌, ◌+◌, ◌^◌, ◌≤◌, ◌<◌};
-ghost use Rattle.decoding.specs.Needs.{ProfileFits, widestEntry};
+ghost use Rattle.decoding.specs.Needs.{ProfileFits, widest_entry};
 ghost use Rattle.weights.specs.Rooms.{Copied, FirstAbove, TestsRooms};
 
 use crate::states::power;
@@ -16,7 +16,7 @@ fn greater(a: usize, b: usize) -> usize
 // The largest of the first n + 1 profile entries.
 fn widest(profile: &[u64], n: usize) -> usize
     requires { n < length profile.now }
-    ensures { result ≡ widestEntry profile.now n }
+    ensures { result ≡ widest_entry profile.now n }
 {
     let mut most = profile[0] as usize;
     let mut t = 0;
@@ -30,7 +30,7 @@ fn widest(profile: &[u64], n: usize) -> usize
 // 65 numbers for each state of the widest depth.
 pub fn half_of(n: usize, profile: &[u64]) -> usize
     requires { (n < length profile.now) × ProfileFits profile.now n }
-    ensures { result ≡ 2 ^ widestEntry profile.now n * 65 }
+    ensures { result ≡ 2 ^ widest_entry profile.now n * 65 }
 {
     power(widest(profile, n)) * 65
 }

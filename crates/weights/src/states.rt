@@ -1,7 +1,7 @@
 // The states of a section: where a branch leads, and the ways to the end that begin at a state.
 ghost use Rattle.std.specs.Prelude.{◌≡◌, ◌<◌, ◌^◌};
 ghost use Rattle.decoding.specs.Stepping.{SectionFits};
-ghost use Rattle.trellises.specs.Numbers.{leadsTo, without};
+ghost use Rattle.trellises.specs.Numbers.{leads_to, without};
 ghost use Rattle.weights.specs.Ways.{along, leaving};
 ghost use Rattle.weights.specs.Tallying.{BranchFits, StateFits, olds};
 
@@ -27,7 +27,7 @@ fn without_digit(number: usize, place: usize) -> usize
 // The state that a branch leads to.
 fn end_of(section: Section, number: usize) -> usize
     requires { SectionFits section }
-    ensures { result ≡ leadsTo section number }
+    ensures { result ≡ leads_to section number }
 {
     if section.ends {
         return without_digit(number, section.ending);

@@ -18,9 +18,9 @@ pub record IsSum (rows : List ℕ) (w : ℕ) : Type 0 where
   pub sum : sum_of rows by ≡ w
 
 -- row i gains row j
-abbrev pub addRow : List ℕ → ℕ → ℕ → List ℕ
-addRow rows i j = set rows i (bit_xor (get_or rows i 0) (get_or rows j 0))
+abbrev pub add_row : List ℕ → ℕ → ℕ → List ℕ
+add_row rows i j = set rows i (bit_xor (get_or rows i 0) (get_or rows j 0))
 
 -- rows i and j are exchanged
-abbrev pub swapRows : List ℕ → ℕ → ℕ → List ℕ
-swapRows rows i j = set (set rows i (get_or rows j 0)) j (get_or rows i 0)
+abbrev pub swap_rows : List ℕ → ℕ → ℕ → List ℕ
+swap_rows rows i j = set (set rows i (get_or rows j 0)) j (get_or rows i 0)

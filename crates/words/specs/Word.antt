@@ -10,5 +10,5 @@ bit w (suc i) = bit (w / 2) i
 pub record Earlier (a b : ℕ) : Type 0 where
   pub place : ℕ
   pub same : (i : ℕ) → i < place → bit a i ≡ bit b i
-  pub zero-here : bit a place ≡ 0
-  pub one-there : bit b place ≡ 1
+  pub zero_here : bit a place ≡ 0
+  pub one_there : bit b place ≡ 1

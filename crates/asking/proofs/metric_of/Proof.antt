@@ -11,12 +11,12 @@ use Prim.Native.Nat.{ℕ, ◌-◌, ◌≤◌}
 use Rattle.decoding.proofs.Integers.{back}
 use Rattle.decoding.specs.Metric.{limit}
 use Rattle.decoding.specs.Taking.{signed}
-use Rattle.asking.proofs.MetricSteps.{metricFrom, metric-start, metric-down, metric-end, metric-small}
+use Rattle.asking.proofs.MetricSteps.{metric_from, metric-start, metric-down, metric-end, metric-small}
 use Rattle.asking.proofs.metric_of.Statement.{statement}
 use Rattle.asking.proofs.metric_of.Tie as tie
 
 abbrev invariant-loop : tie.invariant-loop
-invariant-loop samples word metric₀ i₀ metric i = (i ≤ length samples) × (to_z w32 metric ≡ metricFrom samples word i)
+invariant-loop samples word metric₀ i₀ metric i = (i ≤ length samples) × (to_z w32 metric ≡ metric_from samples word i)
 
 abbrev decreases-loop : tie.decreases-loop
 decreases-loop samples word metric₀ i₀ metric i = i
@@ -55,7 +55,7 @@ loop-again c =
     let s = c.before.before.before.before.before in
     let l = c.before.before.before.before.loop in
     let y = get_or s.args.samples.now (l.i - 1) (pos 0) in
-    let e : c.with-sample.result ≡ metricFrom s.args.samples.now s.args.word (l.i - 1) =
+    let e : c.with-sample.result ≡ metric_from s.args.samples.now s.args.word (l.i - 1) =
     c.with-sample.ensures
     ∙ ap₂ (λ (b : ℕ) (z : ℤ). signed b z +ℤ to_z w32 l.metric) c.before.before.bit_at.ensures (to_z-of_z {w = w16} {z = y} (record { sfits = c.before.with-sample-arg.given }))
     ∙ metric-down s.args.samples.now s.args.word l.i (to_z w32 l.metric) c.before.before.before.loop-test.true l.invariant.0 l.invariant.1 in

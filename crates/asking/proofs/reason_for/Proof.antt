@@ -1,7 +1,7 @@
 -- `asking::reason_for` meets its contract: each reason in its turn.
 use borrow.Author.Rules.{rules}
 use mathlib.Core.Bool.{false, true}
-use Rattle.plates.specs.Prepare.{ofParts}
+use Rattle.plates.specs.Prepare.{of_parts}
 use Rattle.decoding.proofs.PlateSizes.{rows-there}
 use Rattle.asking.proofs.Stopping.{nothing_left, stopped}
 use Rattle.asking.proofs.Reasons.{samples-fit, scores-less, sub-fits, sub_is, test-is, ties-and-loses}
@@ -14,7 +14,7 @@ returns c = search rules
 left-of-requires : tie.Need-left-of-requires
 left-of-requires c κs =
     let s = c.before.before.before in
-    let plate = ofParts s.args.n s.args.k s.args.mask s.args.rows.now s.requires.profile in
+    let plate = of_parts s.args.n s.args.k s.args.mask s.args.rows.now s.requires.profile in
     rows-there plate s.requires.asked.given
 
 stop-of-requires : tie.Need-stop-of-requires
@@ -28,19 +28,19 @@ returns-2 c =
 metric-of-requires : tie.Need-metric-of-requires
 metric-of-requires c κs =
     let s = c.before.before.before.before.before in
-    let plate = ofParts s.args.n s.args.k s.args.mask s.args.rows.now s.requires.profile in
+    let plate = of_parts s.args.n s.args.k s.args.mask s.args.rows.now s.requires.profile in
     samples-fit plate s.args.samples.now s.args.answer s.requires.asked
 
 sub-difference : tie.Need-overflow-sub-difference
 sub-difference c =
     let s = c.before.before.before.before.before.before.before.before in
-    let plate = ofParts s.args.n s.args.k s.args.mask s.args.rows.now s.requires.profile in
+    let plate = of_parts s.args.n s.args.k s.args.mask s.args.rows.now s.requires.profile in
     sub-fits plate s.args.samples.now s.args.answer s.requires.asked s.args.word c.before.before.metric-of.result c.before.before.metric-of.ensures
 
 returns-3 : tie.Need-returns-3
 returns-3 c =
     let s = c.before.before.before.before.before.before.before.before in
-    let plate = ofParts s.args.n s.args.k s.args.mask s.args.rows.now s.requires.profile in
+    let plate = of_parts s.args.n s.args.k s.args.mask s.args.rows.now s.requires.profile in
     let r = c.before.before.before.before.left-of in
     let m = c.before.before.metric-of in
     let codeword = nothing_left s.requires.asked.given s.args.word r.result r.ensures c.before.before.before.if2.false in
@@ -52,7 +52,7 @@ first-one-requires c κs = search rules
 returns-4 : tie.Need-returns-4
 returns-4 c =
     let s = c.before.before.before.before.before.before.before.before.before.before in
-    let plate = ofParts s.args.n s.args.k s.args.mask s.args.rows.now s.requires.profile in
+    let plate = of_parts s.args.n s.args.k s.args.mask s.args.rows.now s.requires.profile in
     let r = c.before.before.before.before.before.before.left-of in
     let m = c.before.before.before.before.metric-of in
     let codeword = nothing_left s.requires.asked.given s.args.word r.result r.ensures c.before.before.before.before.before.if2.false in

@@ -1,6 +1,6 @@
 -- `asking::why_not_parts` meets its contract: decoding's refusals, or the reason against decoding's answer.
 use borrow.Author.Rules.{rules}
-use Rattle.plates.specs.Prepare.{ofParts}
+use Rattle.plates.specs.Prepare.{of_parts}
 use Rattle.asking.proofs.Replies.{asked_of, explained, refused}
 use Rattle.asking.proofs.why_not_parts.Statement.{statement}
 use Rattle.asking.proofs.why_not_parts.Tie as tie
@@ -16,7 +16,7 @@ reason-for-requires c κs =
     let decoded = c.before.before.before.before.before.before in
     let s = decoded.before.before.before.before.before.before in
     let a = s.args in
-    let plate = ofParts a.n a.k a.mask a.rows.now a.profile.now in
+    let plate = of_parts a.n a.k a.mask a.rows.now a.profile.now in
     let d = decoded.decode-parts in
     record {
       profile = a.profile.now;
@@ -38,7 +38,7 @@ returns c =
     let decoded = c.before.before.before.before.before.before.before in
     let s = decoded.before.before.before.before.before.before in
     let a = s.args in
-    let plate = ofParts a.n a.k a.mask a.rows.now a.profile.now in
+    let plate = of_parts a.n a.k a.mask a.rows.now a.profile.now in
     let d = decoded.decode-parts in
     explained plate a.samples.now a.word a.metrics.now a.decisions.now _ _ d.result d.ensures _ c.before.before.answer.given.1
     c.reason-for.result c.reason-for.ensures
@@ -54,7 +54,7 @@ returns-2 c =
     let decoded = c.before.before.before.before.before.before in
     let s = decoded.before.before.before.before.before.before in
     let a = s.args in
-    let plate = ofParts a.n a.k a.mask a.rows.now a.profile.now in
+    let plate = of_parts a.n a.k a.mask a.rows.now a.profile.now in
     let d = decoded.decode-parts in
     refused plate a.samples.now a.word a.metrics.now a.decisions.now _ _ d.result d.ensures _ c.before.refusal.given.1
 

@@ -7,7 +7,7 @@ use mir.Val.{SFits, of_z, to_z}
 use native.Mathlib.Omega.{arith}
 use Prim.Native.Nat.{ℕ}
 use Rattle.decoding.specs.Taking.{signed}
-use Rattle.decoding.proofs.Integers.{difference-fits, difference-is, sum_fits, sum_is}
+use Rattle.decoding.proofs.Integers.{difference-fits, difference_is, sum_fits, sum_is}
 use Rattle.decoding.proofs.Preference.{minus, sign-size}
 use Rattle.asking.proofs.with_sample.Statement.{statement}
 use Rattle.asking.proofs.with_sample.Tie as tie
@@ -33,14 +33,14 @@ sub-result c = difference-fits (pos 0) c.before.args.sample refl (gain-is c.befo
 add-result-2 : tie.Need-overflow-add-result-2
 add-result-2 c =
     let y = c.before.args.sample in
-    let e = difference-is (pos 0) c.before.args.sample refl (gain-is c.before.ranges.sample) (omega arith) (omega (arith, c.before.requires.within)) ∙ minus c.before.args.bit y c.if1.false in
+    let e = difference_is (pos 0) c.before.args.sample refl (gain-is c.before.ranges.sample) (omega arith) (omega (arith, c.before.requires.within)) ∙ minus c.before.args.bit y c.if1.false in
     sum_fits (signed c.before.args.bit y) c.before.args.metric e (to_z-of_z c.before.ranges.metric)
     (omega (arith, sign-size c.before.args.bit y, c.before.requires.within)) (omega (arith, c.before.requires.small))
 
 returns-2 : tie.Need-returns-2
 returns-2 c =
     let y = c.before.args.sample in
-    let e = difference-is (pos 0) c.before.args.sample refl (gain-is c.before.ranges.sample) (omega arith) (omega (arith, c.before.requires.within)) ∙ minus c.before.args.bit y c.if1.false in
+    let e = difference_is (pos 0) c.before.args.sample refl (gain-is c.before.ranges.sample) (omega arith) (omega (arith, c.before.requires.within)) ∙ minus c.before.args.bit y c.if1.false in
     sum_is (signed c.before.args.bit y) c.before.args.metric e (to_z-of_z c.before.ranges.metric)
     (omega (arith, sign-size c.before.args.bit y, c.before.requires.within)) (omega (arith, c.before.requires.small))
 

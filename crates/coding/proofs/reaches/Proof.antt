@@ -31,16 +31,16 @@ returns c =
     let w : ℕ = c.before.args.word in
     let k : ℕ = c.before.args.k in
     record {
-      yes-is = λ e. at_least w k (eqb-false (w / 2 ^ k) 0 (not-true (eqb (w / 2 ^ k) 0) e));
-      no-is = λ e. below w k (eqb-true (w / 2 ^ k) 0 (not-false (eqb (w / 2 ^ k) 0) e));
+      yes_is = λ e. at_least w k (eqb-false (w / 2 ^ k) 0 (not-true (eqb (w / 2 ^ k) 0) e));
+      no_is = λ e. below w k (eqb-true (w / 2 ^ k) 0 (not-false (eqb (w / 2 ^ k) 0) e));
     }
 
 returns-2 : tie.Need-returns-2
 returns-2 c =
     let h : 64 ≤ c.before.args.k = omega (arith, c.if1.false) in
     record {
-      yes-is = λ e. absurd (false≢true e);
-      no-is = λ e. lt_of_lt_of_le c.before.ranges.word.fits (pow_mono h);
+      yes_is = λ e. absurd (false≢true e);
+      no_is = λ e. lt_of_lt_of_le c.before.ranges.word.fits (pow_mono h);
     }
 
 pub reaches-spec : {M : Type 1} → statement M

@@ -7,12 +7,12 @@ use native.Mathlib.Omega.{arith}
 use Prim.Native.Nat.{ℕ, ◌-◌, ◌≤◌, ◌<◌}
 use Rattle.words.proofs.Word.{bit-lt}
 use Rattle.words.specs.Sum.{taken}
-use Rattle.coding.proofs.SummingRows.{sumFrom, sum-start, sum-down, sum-end}
+use Rattle.coding.proofs.SummingRows.{sum_from, sum-start, sum-down, sum-end}
 use Rattle.coding.proofs.sum_rows.Statement.{statement}
 use Rattle.coding.proofs.sum_rows.Tie as tie
 
 abbrev invariant-loop : tie.invariant-loop
-invariant-loop rows k information sum₀ j₀ sum j = (j ≤ k) × (sum ≡ sumFrom rows k information j)
+invariant-loop rows k information sum₀ j₀ sum j = (j ≤ k) × (sum ≡ sum_from rows k information j)
 
 abbrev decreases-loop : tie.decreases-loop
 decreases-loop rows k information sum₀ j₀ sum j = j

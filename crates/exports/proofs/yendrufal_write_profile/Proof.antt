@@ -2,7 +2,7 @@
 use borrow.Author.Rules.{rules}
 use native.Mathlib.Omega.{arith}
 use Rattle.exports.proofs.CallsMade.{misshaped, wrote}
-use Rattle.exports.specs.Flat.{plateOf}
+use Rattle.exports.specs.Flat.{plate_of}
 use Rattle.listings.specs.Writing.{WritesProfile}
 use Rattle.exports.proofs.yendrufal_write_profile.Statement.{statement}
 use Rattle.exports.proofs.yendrufal_write_profile.Tie as tie
@@ -12,7 +12,7 @@ returns-3 c =
     let done = c.before.before.before.before.before.before in
     let start = done.before.before.before.before.before.before.before.before.before.before.before.before in
     let a = start.args in
-    wrote (WritesProfile (plateOf a.plate.now)) _ _ _ _ _ done.write-profile-parts.result (search rules)
+    wrote (WritesProfile (plate_of a.plate.now)) _ _ _ _ _ done.write-profile-parts.result (search rules)
     done.write-profile-parts.ensures
     c.before.before.written-length.ensures
 

@@ -3,7 +3,7 @@ use borrow.Author.Rules.{rules}
 use mir.Facts.{to_z-of_z}
 use native.Mathlib.Omega.{arith}
 use Rattle.exports.proofs.CallsMade.{misshaped, wrote}
-use Rattle.exports.specs.Flat.{plateOf}
+use Rattle.exports.specs.Flat.{plate_of}
 use Rattle.listings.specs.Writing.{WritesWord}
 use Rattle.exports.proofs.yendrufal_write_word.Statement.{statement}
 use Rattle.exports.proofs.yendrufal_write_word.Tie as tie
@@ -13,7 +13,7 @@ returns-3 c =
     let done = c.before.before.before.before.before.before in
     let start = done.before.before.before.before.before.before.before.before.before.before.before.before in
     let a = start.args in
-    wrote (WritesWord (plateOf a.plate.now) a.word a.metric a.additions a.comparisons) _ _ _ _ _ done.write-word-parts.result (search rules)
+    wrote (WritesWord (plate_of a.plate.now) a.word a.metric a.additions a.comparisons) _ _ _ _ _ done.write-word-parts.result (search rules)
     (rw (to_z-of_z start.ranges.metric) at done.write-word-parts.ensures)
     c.before.before.written-length.ensures
 

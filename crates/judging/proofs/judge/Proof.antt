@@ -22,7 +22,7 @@ without-surplus-requires c κs = search rules
 returns : tie.Need-returns
 returns c =
     let s = c.before.before.before.before.before in
-    refused-reply s.args.plate s.args.text.now s.args.room.now NotPrepared (refused-5 s.args.plate s.args.text.now s.args.room.now (c.before.before.is-prepared.ensures.no-is (not-true _ c.before.if1.true))) c.without-surplus.result c.without-surplus.ensures
+    refused-reply s.args.plate s.args.text.now s.args.room.now NotPrepared (refused-5 s.args.plate s.args.text.now s.args.room.now (c.before.before.is-prepared.ensures.no_is (not-true _ c.before.if1.true))) c.without-surplus.result c.without-surplus.ensures
 
 count-lines-requires : tie.Need-count-lines-requires
 count-lines-requires c κs = search rules
@@ -34,7 +34,7 @@ returns-2 : tie.Need-returns-2
 returns-2 c =
     let s = c.before.before.before.before.before.before.before in
     let plate = s.args.plate in
-    let given = c.before.before.before.before.is-prepared.ensures.yes-is (not-false _ c.before.before.before.if1.false) in
+    let given = c.before.before.before.before.is-prepared.ensures.yes_is (not-false _ c.before.before.before.if1.false) in
     refused-reply plate s.args.text.now s.args.room.now TooManyLines (refused-28 plate s.args.text.now s.args.room.now given (omega (arith, c.before.if2.true, c.before.before.count-lines.ensures))) c.without-surplus2.result c.without-surplus2.ensures
 
 first-faulty-requires : tie.Need-first-faulty-requires
@@ -50,7 +50,7 @@ returns-3 : tie.Need-returns-3
 returns-3 c =
     let s = c.before.before.before.before.before.before.before.before.before in
     let plate = s.args.plate in
-    let given = c.before.before.before.before.before.before.is-prepared.ensures.yes-is (not-false _ c.before.before.before.before.before.if1.false) in
+    let given = c.before.before.before.before.before.before.is-prepared.ensures.yes_is (not-false _ c.before.before.before.before.before.if1.false) in
     refused-reply plate s.args.text.now s.args.room.now (BranchFault (c.before.before.first-faulty.result + 1)) (refused-26 plate s.args.text.now s.args.room.now given (omega (arith, c.before.before.before.if2.false, c.before.before.before.before.count-lines.ensures)) c.before.before.first-faulty.result c.before.before.first-faulty.ensures (omega (arith, c.before.if3.true, c.before.before.before.before.count-lines.ensures))) c.without-surplus3.result c.without-surplus3.ensures
 
 first-repeating-requires : tie.Need-first-repeating-requires
@@ -71,7 +71,7 @@ returns-4 : tie.Need-returns-4
 returns-4 c =
     let s = c.before.before.before.before.before.before.before.before.before.before.before in
     let plate = s.args.plate in
-    let given = c.before.before.before.before.before.before.before.before.is-prepared.ensures.yes-is (not-false _ c.before.before.before.before.before.before.before.if1.false) in
+    let given = c.before.before.before.before.before.before.before.before.is-prepared.ensures.yes_is (not-false _ c.before.before.before.before.before.before.before.if1.false) in
     refused-reply plate s.args.text.now s.args.room.now (BranchTwice (c.before.before.first-repeating.result + 1)) (refused-27 plate s.args.text.now s.args.room.now given (omega (arith, c.before.before.before.before.before.if2.false, c.before.before.before.before.before.before.count-lines.ensures)) c.before.before.before.before.first-faulty.result c.before.before.before.before.first-faulty.ensures (omega (arith, c.before.before.before.if3.false, c.before.before.before.before.before.before.count-lines.ensures)) c.before.before.first-repeating.result c.before.before.first-repeating.ensures (omega (arith, c.before.if4.true, c.before.before.before.before.before.before.count-lines.ensures))) c.without-surplus4.result c.without-surplus4.ensures
 
 without-surplus-requires-5 : tie.Need-without-surplus-requires-5
@@ -81,21 +81,21 @@ returns-5 : tie.Need-returns-5
 returns-5 c =
     let s = c.before.before.before.before.before.before.before.before.before.before.before.before in
     let plate = s.args.plate in
-    let given = c.before.before.before.before.before.before.before.before.before.is-prepared.ensures.yes-is (not-false _ c.before.before.before.before.before.before.before.before.if1.false) in
+    let given = c.before.before.before.before.before.before.before.before.before.is-prepared.ensures.yes_is (not-false _ c.before.before.before.before.before.before.before.before.if1.false) in
     refused-reply plate s.args.text.now s.args.room.now MetricRoom (refused-8 plate s.args.text.now s.args.room.now given (omega (arith, c.before.before.before.before.before.before.if2.false, c.before.before.before.before.before.before.before.count-lines.ensures)) c.before.before.before.before.before.first-faulty.result c.before.before.before.before.before.first-faulty.ensures (omega (arith, c.before.before.before.before.if3.false, c.before.before.before.before.before.before.before.count-lines.ensures)) c.before.before.before.first-repeating.result c.before.before.before.first-repeating.ensures (omega (arith, c.before.before.if4.false, c.before.before.before.before.before.before.before.count-lines.ensures)) (omega (arith, c.before.if5.true, c.before.before.before.before.before.before.before.count-lines.ensures))) c.without-surplus5.result c.without-surplus5.ensures
 
 array-share-prefix-rows : tie.Need-array-share-prefix-rows
 array-share-prefix-rows c =
     let s = c.before.before.before.before.before.before.before.before.before.before.before.before in
     let plate = s.args.plate in
-    let given = c.before.before.before.before.before.before.before.before.before.is-prepared.ensures.yes-is (not-false _ c.before.before.before.before.before.before.before.before.if1.false) in
+    let given = c.before.before.before.before.before.before.before.before.before.is-prepared.ensures.yes_is (not-false _ c.before.before.before.before.before.before.before.before.if1.false) in
     omega (arith, (sound given).few, (sound given).table)
 
 slice-aggregate-judged : tie.Need-slice-aggregate-judged
 slice-aggregate-judged c =
     let s = c.before.before.before.before.before.before.before.before.before.before.before.before.before in
     let plate = s.args.plate in
-    let given = c.before.before.before.before.before.before.before.before.before.before.is-prepared.ensures.yes-is (not-false _ c.before.before.before.before.before.before.before.before.before.if1.false) in
+    let given = c.before.before.before.before.before.before.before.before.before.before.is-prepared.ensures.yes_is (not-false _ c.before.before.before.before.before.before.before.before.before.if1.false) in
     sym (length-take-le plate.k plate.rows (omega (arith, (sound given).few, (sound given).table)))
 
 slice-relend-prefix-judged : tie.Need-slice-relend-prefix-judged
@@ -105,14 +105,14 @@ slice-aggregate-judged-2 : tie.Need-slice-aggregate-judged-2
 slice-aggregate-judged-2 c =
     let s = c.before.before.before.before.before.before.before.before.before.before.before.before.before.before in
     let plate = s.args.plate in
-    let given = c.before.before.before.before.before.before.before.before.before.before.before.is-prepared.ensures.yes-is (not-false _ c.before.before.before.before.before.before.before.before.before.before.if1.false) in
+    let given = c.before.before.before.before.before.before.before.before.before.before.before.is-prepared.ensures.yes_is (not-false _ c.before.before.before.before.before.before.before.before.before.before.if1.false) in
     sym (length-take-le (4 * c.before.before.before.before.before.before.before.before.before.count-lines.result) s.args.room.now (omega (arith, c.before.before.before.if5.false)))
 
 judged-requires : tie.Need-judged-requires
 judged-requires c κs =
     let s = c.before.before.before.before.before.before.before.before.before.before.before.before.before.before in
     let plate = s.args.plate in
-    let given = c.before.before.before.before.before.before.before.before.before.before.before.is-prepared.ensures.yes-is (not-false _ c.before.before.before.before.before.before.before.before.before.before.if1.false) in
+    let given = c.before.before.before.before.before.before.before.before.before.before.before.is-prepared.ensures.yes_is (not-false _ c.before.before.before.before.before.before.before.before.before.before.if1.false) in
     record {
       plate = of-this-plate plate s.args.text.now s.args.room.now given (omega (arith, c.before.before.before.before.before.before.before.before.if2.false, c.before.before.before.before.before.before.before.before.before.count-lines.ensures)) c.before.before.before.before.before.before.before.first-faulty.result c.before.before.before.before.before.before.before.first-faulty.ensures (omega (arith, c.before.before.before.before.before.before.if3.false, c.before.before.before.before.before.before.before.before.before.count-lines.ensures)) c.before.before.before.before.before.first-repeating.result c.before.before.before.before.before.first-repeating.ensures (omega (arith, c.before.before.before.before.if4.false, c.before.before.before.before.before.before.before.before.before.count-lines.ensures));
       clean = all-clean plate s.args.text.now s.args.room.now given (omega (arith, c.before.before.before.before.before.before.before.before.if2.false, c.before.before.before.before.before.before.before.before.before.count-lines.ensures)) c.before.before.before.before.before.before.before.first-faulty.result c.before.before.before.before.before.before.before.first-faulty.ensures (omega (arith, c.before.before.before.before.before.before.if3.false, c.before.before.before.before.before.before.before.before.before.count-lines.ensures)) c.before.before.before.before.before.first-repeating.result c.before.before.before.before.before.first-repeating.ensures (omega (arith, c.before.before.before.before.if4.false, c.before.before.before.before.before.before.before.before.before.count-lines.ensures));
@@ -127,7 +127,7 @@ returns-6 : tie.Need-returns-6
 returns-6 c =
     let s = c.before.before.before.before.before.before.before.before.before.before.before.before.before.before.before.before.before in
     let plate = s.args.plate in
-    let given = c.before.before.before.before.before.before.before.before.before.before.before.before.before.before.is-prepared.ensures.yes-is (not-false _ c.before.before.before.before.before.before.before.before.before.before.before.before.before.if1.false) in
+    let given = c.before.before.before.before.before.before.before.before.before.before.before.before.before.before.is-prepared.ensures.yes_is (not-false _ c.before.before.before.before.before.before.before.before.before.before.before.before.before.if1.false) in
     let k : ℕ = 4 * c.before.before.before.before.before.before.before.before.before.before.before.before.count-lines.result in
     let full : length (take k s.args.room.now) ≡ k = length-take-le k s.args.room.now (omega (arith, c.before.before.before.before.before.before.if5.false)) in
     judged-reply plate s.args.text.now s.args.room.now given (omega (arith, c.before.before.before.before.before.before.before.before.before.before.before.if2.false, c.before.before.before.before.before.before.before.before.before.before.before.before.count-lines.ensures)) c.before.before.before.before.before.before.before.before.before.before.first-faulty.result c.before.before.before.before.before.before.before.before.before.before.first-faulty.ensures (omega (arith, c.before.before.before.before.before.before.before.before.before.if3.false, c.before.before.before.before.before.before.before.before.before.before.before.before.count-lines.ensures)) c.before.before.before.before.before.before.before.before.first-repeating.result c.before.before.before.before.before.before.before.before.first-repeating.ensures (omega (arith, c.before.before.before.before.before.before.before.if4.false, c.before.before.before.before.before.before.before.before.before.before.before.before.count-lines.ensures)) (omega (arith, c.before.before.before.before.before.before.if5.false, c.before.before.before.before.before.before.before.before.before.before.before.before.count-lines.ensures)) c.before.before.judged.result c.before.before.judged.ensures.0 _

@@ -14,24 +14,24 @@ is-good-requires : tie.Need-is-good-requires
 is-good-requires c κs = search rules
 
 returns : tie.Need-returns
-returns c = inl (c.before.is-good.ensures.no-is (not-true _ c.if1.true), refl)
+returns c = inl (c.before.is-good.ensures.no_is (not-true _ c.if1.true), refl)
 
 is-not-a-number-requires : tie.Need-is-not-a-number-requires
 is-not-a-number-requires c κs = search rules
 
 returns-2 : tie.Need-returns-2
 returns-2 c =
-    let good = c.before.before.before.is-good.ensures.yes-is (not-false _ c.before.before.if1.false) in
+    let good = c.before.before.before.is-good.ensures.yes_is (not-false _ c.before.before.if1.false) in
     inr (good-passed good, inl (found c.before.is-not-a-number.ensures c.if2.true, refl))
 
 level-of-sample-requires : tie.Need-level-of-sample-requires
 level-of-sample-requires c κs =
-    let good = c.before.before.before.is-good.ensures.yes-is (not-false _ c.before.before.if1.false) in
+    let good = c.before.before.before.is-good.ensures.yes_is (not-false _ c.before.before.if1.false) in
     (good, not_found c.before.is-not-a-number.ensures c.if2.false)
 
 returns-3 : tie.Need-returns-3
 returns-3 c =
-    let good = c.before.before.before.before.is-good.ensures.yes-is (not-false _ c.before.before.before.if1.false) in
+    let good = c.before.before.before.before.is-good.ensures.yes_is (not-false _ c.before.before.before.if1.false) in
     let number = not_found c.before.before.is-not-a-number.ensures c.before.if2.false in
     rw (to_z-of_z {w = w16} (record { sfits = c.level-of-sample.type-inv })) (sample-passes good c.before.before.before.before.before.args.sample number, c.level-of-sample.ensures)
 

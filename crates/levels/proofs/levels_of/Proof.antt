@@ -19,18 +19,18 @@ is-good-requires c κs = search rules
 returns-3 : tie.Need-returns-3
 returns-3 c =
     let fits = length-passed c.before.before.before.if1.false c.before.before.if2.false in
-    (inr (fits, inl (c.before.is-good.ensures.no-is (not-true _ c.if3.true), refl)), refl)
+    (inr (fits, inl (c.before.is-good.ensures.no_is (not-true _ c.if3.true), refl)), refl)
 
 returns-4 : tie.Need-returns-4
 returns-4 c =
     let fits = length-passed c.before.before.before.before.if1.false c.before.before.before.if2.false in
-    let good = good-passed (c.before.before.is-good.ensures.yes-is (not-false _ c.before.if3.false)) in
+    let good = good-passed (c.before.before.is-good.ensures.yes_is (not-false _ c.before.if3.false)) in
     (inr (fits, inr (good, inl (inl c.if4.true, refl))), refl)
 
 returns-5 : tie.Need-returns-5
 returns-5 c =
     let fits = length-passed c.before.before.before.before.before.if1.false c.before.before.before.before.if2.false in
-    let good = good-passed (c.before.before.before.is-good.ensures.yes-is (not-false _ c.before.before.if3.false)) in
+    let good = good-passed (c.before.before.before.is-good.ensures.yes_is (not-false _ c.before.before.if3.false)) in
     (inr (fits, inr (good, inl (inr c.if5.true, refl))), refl)
 
 first-not-a-number-requires : tie.Need-first-not-a-number-requires
@@ -40,7 +40,7 @@ returns-6 : tie.Need-returns-6
 returns-6 c =
     let five = c.before.before in
     let fits = length-passed five.before.before.before.before.before.if1.false five.before.before.before.before.if2.false in
-    let good = good-passed (five.before.before.before.is-good.ensures.yes-is (not-false _ five.before.before.if3.false)) in
+    let good = good-passed (five.before.before.before.is-good.ensures.yes_is (not-false _ five.before.before.if3.false)) in
     let args = five.before.before.before.before.before.before.before.args in
     let count = count-passed args.values.now args.room.now five.before.if4.false five.if5.false in
     (inr (fits, inr (good, inr (count, inl (number-refused c.before.first-not-a-number.ensures five.before.if4.false c.if6.true)))), refl)
@@ -48,7 +48,7 @@ returns-6 c =
 write-levels-requires : tie.Need-write-levels-requires
 write-levels-requires c κs =
     let five = c.before.before.before in
-    let good = five.before.before.before.is-good.ensures.yes-is (not-false _ five.before.before.if3.false) in
+    let good = five.before.before.before.is-good.ensures.yes_is (not-false _ five.before.before.if3.false) in
     writable c.before.before.first-not-a-number.ensures five.before.if4.false c.before.if6.false good five.if5.false
 
 same_length : tie.Need-same-length
@@ -58,7 +58,7 @@ returns-7 : tie.Need-returns-7
 returns-7 c =
     let five = c.before.before.before.before.before in
     let fits = length-passed five.before.before.before.before.before.if1.false five.before.before.before.before.if2.false in
-    let good = good-passed (five.before.before.before.is-good.ensures.yes-is (not-false _ five.before.before.if3.false)) in
+    let good = good-passed (five.before.before.before.is-good.ensures.yes_is (not-false _ five.before.before.if3.false)) in
     let args = five.before.before.before.before.before.before.before.args in
     let count = count-passed args.values.now args.room.now five.before.if4.false five.if5.false in
     let numbers = numbers-passed c.before.before.before.before.first-not-a-number.ensures five.before.if4.false c.before.before.before.if6.false in

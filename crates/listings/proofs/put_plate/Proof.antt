@@ -1,6 +1,6 @@
 -- `listings::put_plate` meets its contract.
 use borrow.Author.Rules.{rules}
-use Rattle.listings.specs.Lines.{plateLine}
+use Rattle.listings.specs.Lines.{plate_line}
 use Rattle.listings.proofs.Conditions.{built-written}
 use Rattle.listings.proofs.Fits256.{plate-fits-256}
 use Rattle.listings.proofs.Prepending.{Built, prepend-then, built-ends}
@@ -34,8 +34,8 @@ start c = c.before.before.before.before.before.before.before.before.before.befor
 
 -- the whole line stands at the end of the array
 built : (c : tie.After-prepend-name)
-    → Built (plateLine (start c).args.n (start c).args.k (start c).args.entries.now) c.prepend-name.new.0 c.prepend-name.result
-unfolding plateLine
+    → Built (plate_line (start c).args.n (start c).args.k (start c).args.entries.now) c.prepend-name.new.0 c.prepend-name.result
+unfolding plate_line
 built c =
     let a = (start c).args in
     let n = c.before.before.before in

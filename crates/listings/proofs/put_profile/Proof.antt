@@ -1,6 +1,6 @@
 -- `listings::put_profile` meets its contract.
 use borrow.Author.Rules.{rules}
-use Rattle.listings.specs.Lines.{profileLine}
+use Rattle.listings.specs.Lines.{profile_line}
 use Rattle.listings.proofs.Conditions.{built-written}
 use Rattle.listings.proofs.Prepending.{Built, prepend-then, built-ends}
 use Rattle.listings.proofs.put_profile.Statement.{statement}
@@ -20,8 +20,8 @@ abbrev start : tie.After-prepend-name → tie.Start
 start c = c.before.before.before.before.before.before.before
 
 -- the whole line stands at the end of the array
-built : (c : tie.After-prepend-name) → Built (profileLine (start c).args.entries.now) c.prepend-name.new.0 c.prepend-name.result
-unfolding profileLine
+built : (c : tie.After-prepend-name) → Built (profile_line (start c).args.entries.now) c.prepend-name.new.0 c.prepend-name.result
+unfolding profile_line
 built c =
     let entries = c.before.before.before in
     record { short = (start c).requires; put = prepend-then entries.prepend-entries.ensures c.prepend-name.ensures }

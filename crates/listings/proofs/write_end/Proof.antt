@@ -1,6 +1,6 @@
 -- `listings::write_end` meets its contract.
 use borrow.Author.Rules.{rules}
-use Rattle.listings.specs.Lines.{endLine}
+use Rattle.listings.specs.Lines.{line_of_end}
 use Rattle.listings.proofs.Conditions.{built-written}
 use Rattle.listings.proofs.Fits256.{end-fits-256}
 use Rattle.listings.proofs.Prepending.{Built, prepend-then, built-ends}
@@ -24,8 +24,8 @@ abbrev start : tie.After-prepend-name → tie.Start
 start c = c.before.before.before.before.before.before.before.before
 
 -- the whole line stands at the end of the array
-built : (c : tie.After-prepend-name) → Built (endLine (start c).args.blocks) c.prepend-name.new.0 c.prepend-name.result
-unfolding endLine
+built : (c : tie.After-prepend-name) → Built (line_of_end (start c).args.blocks) c.prepend-name.new.0 c.prepend-name.result
+unfolding line_of_end
 built c =
     let a = (start c).args in
     let blocks = c.before.before.before in

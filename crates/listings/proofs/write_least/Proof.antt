@@ -1,6 +1,6 @@
 -- `listings::write_least` meets its contract.
 use borrow.Author.Rules.{rules}
-use Rattle.listings.specs.Lines.{leastLine}
+use Rattle.listings.specs.Lines.{least_line}
 use Rattle.listings.proofs.Conditions.{built-written}
 use Rattle.listings.proofs.Fits256.{least-fits-256}
 use Rattle.listings.proofs.Prepending.{Built, prepend-then, built-ends}
@@ -24,8 +24,8 @@ abbrev start : tie.After-prepend-name → tie.Start
 start c = c.before.before.before.before.before.before.before.before
 
 -- the whole line stands at the end of the array
-built : (c : tie.After-prepend-name) → Built (leastLine (start c).args.weight) c.prepend-name.new.0 c.prepend-name.result
-unfolding leastLine
+built : (c : tie.After-prepend-name) → Built (least_line (start c).args.weight) c.prepend-name.new.0 c.prepend-name.result
+unfolding least_line
 built c =
     let a = (start c).args in
     let blocks = c.before.before.before in

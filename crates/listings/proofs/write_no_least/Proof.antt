@@ -1,6 +1,6 @@
 -- `listings::write_no_least` meets its contract.
 use borrow.Author.Rules.{rules}
-use Rattle.listings.specs.Lines.{noLeastLine}
+use Rattle.listings.specs.Lines.{no_least_line}
 use Rattle.listings.proofs.Conditions.{built-written}
 use Rattle.listings.proofs.Fits256.{no-least-fits-256}
 use Rattle.listings.proofs.Prepending.{Built, prepend-then, built-ends}
@@ -17,8 +17,8 @@ prepend-name-requires : tie.Need-prepend-name-requires
 prepend-name-requires c κs = search rules
 
 -- the whole line stands at the end of the array
-built : (c : tie.After-prepend-name) → Built (noLeastLine) c.prepend-name.new.0 c.prepend-name.result
-unfolding noLeastLine
+built : (c : tie.After-prepend-name) → Built (no_least_line) c.prepend-name.new.0 c.prepend-name.result
+unfolding no_least_line
 built c =
     let feed = c.before.before.before in
     record {

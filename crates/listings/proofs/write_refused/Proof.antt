@@ -1,6 +1,6 @@
 -- `listings::write_refused` meets its contract.
 use borrow.Author.Rules.{rules}
-use Rattle.listings.specs.Lines.{refusedLine}
+use Rattle.listings.specs.Lines.{refused_line}
 use Rattle.listings.proofs.Conditions.{built-written}
 use Rattle.listings.proofs.Fits256.{refused-fits-256}
 use Rattle.listings.proofs.Prepending.{Built, prepend-then, built-ends}
@@ -30,8 +30,8 @@ abbrev start : tie.After-prepend-name → tie.Start
 start c = c.before.before.before.before.before.before.before.before.before.before.before
 
 -- the whole line stands at the end of the array
-built : (c : tie.After-prepend-name) → Built (refusedLine (start c).args.number (start c).args.place (start c).args.field) c.prepend-name.new.0 c.prepend-name.result
-unfolding refusedLine
+built : (c : tie.After-prepend-name) → Built (refused_line (start c).args.number (start c).args.place (start c).args.field) c.prepend-name.new.0 c.prepend-name.result
+unfolding refused_line
 built c =
     let a = (start c).args in
     let number = c.before.before.before in

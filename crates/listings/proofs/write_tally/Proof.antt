@@ -1,6 +1,6 @@
 -- `listings::write_tally` meets its contract.
 use borrow.Author.Rules.{rules}
-use Rattle.listings.specs.Lines.{tallyLine}
+use Rattle.listings.specs.Lines.{tally_line}
 use Rattle.listings.proofs.Conditions.{built-written}
 use Rattle.listings.proofs.Fits256.{tally-fits-256}
 use Rattle.listings.proofs.Prepending.{Built, prepend-then, built-ends}
@@ -48,8 +48,8 @@ abbrev start : tie.After-prepend-name → tie.Start
 start c = c.before.before.before.before.before.before.before.before.before.before.before.before.before.before.before.before.before.before.before.before.before.before.before.before
 
 -- the whole line stands at the end of the array
-built : (c : tie.After-prepend-name) → Built (tallyLine (start c).args.tally) c.prepend-name.new.0 c.prepend-name.result
-unfolding tallyLine
+built : (c : tie.After-prepend-name) → Built (tally_line (start c).args.tally) c.prepend-name.new.0 c.prepend-name.result
+unfolding tally_line
 built c =
     let decoded = c.before.before.before in
     let refused = decoded.before.before in

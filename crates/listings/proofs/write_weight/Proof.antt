@@ -1,6 +1,6 @@
 -- `listings::write_weight` meets its contract.
 use borrow.Author.Rules.{rules}
-use Rattle.listings.specs.Lines.{weightLine}
+use Rattle.listings.specs.Lines.{weight_line}
 use Rattle.listings.proofs.Conditions.{built-written}
 use Rattle.listings.proofs.Fits256.{weight-fits-256}
 use Rattle.listings.proofs.Prepending.{Built, prepend-then, built-ends}
@@ -27,8 +27,8 @@ abbrev start : tie.After-prepend-name → tie.Start
 start c = c.before.before.before.before.before.before.before.before.before.before
 
 -- the whole line stands at the end of the array
-built : (c : tie.After-prepend-name) → Built (weightLine (start c).args.weight (start c).args.count) c.prepend-name.new.0 c.prepend-name.result
-unfolding weightLine
+built : (c : tie.After-prepend-name) → Built (weight_line (start c).args.weight (start c).args.count) c.prepend-name.new.0 c.prepend-name.result
+unfolding weight_line
 built c =
     let a = (start c).args in
     let number = c.before.before.before in

@@ -4,7 +4,7 @@ use mathlib.Core.Path.{◌∙◌, sym}
 use native.Mathlib.Omega.{arith}
 use Prim.Native.Nat.{◌-◌}
 use Rattle.sheets.proofs.BlockPlaces.{counted-there, placed-there, room-stays}
-use Rattle.sheets.specs.Blocks.{blockAt}
+use Rattle.sheets.specs.Blocks.{block_at}
 use Rattle.sheets.proofs.read_block.Statement.{statement}
 use Rattle.sheets.proofs.read_block.Tie as tie
 
@@ -20,7 +20,7 @@ enum_told c = search rules
 returns : tie.Need-returns
 returns c =
     let e = sym c.enum_told.given.1 ∙ c.before.before.block_at.ensures.reply in
-    record { reply = e; samples = room-stays c.before.before.before.before.args.order (blockAt c.before.before.before.before.args.heard c.before.before.before.before.args.input.now c.before.before.before.before.args.at) _ _ e }
+    record { reply = e; samples = room-stays c.before.before.before.before.args.order (block_at c.before.before.before.before.args.heard c.before.before.before.before.args.input.now c.before.before.before.before.args.at) _ _ e }
 
 sub-end : tie.Need-overflow-sub-end
 sub-end c =

@@ -1,7 +1,7 @@
 -- `weights::count_weights_parts` meets its contract: each refusal in its order, and the numbers.
 use borrow.Author.Rules.{rules}
 use native.Mathlib.Omega.{arith}
-use Rattle.plates.specs.Prepare.{ofParts}
+use Rattle.plates.specs.Prepare.{of_parts}
 use Rattle.weights.proofs.WeightCalls.{Ready, counts-still, least-found, made-ready, none_found, tally-asks, working-count}
 use Rattle.weights.proofs.WeightCalls.{entries-small, need-fits, profile-long, rooms-refused, rows-count, unprepared, whole-space}
 use Rattle.weights.proofs.count_weights_parts.Statement.{statement}
@@ -12,7 +12,7 @@ abbrev start : tie.Else3 → tie.Start
 start c = c.before.before.before.before.before.before.before.before.before.before
 
 ready : (c : tie.Else3) → let a = (start c).args in
-    Ready (ofParts a.n a.k a.mask a.rows.now a.profile.now) c.before.before.before.half_of_lem.result a.counts.now a.working.now
+    Ready (of_parts a.n a.k a.mask a.rows.now a.profile.now) c.before.before.before.half_of_lem.result a.counts.now a.working.now
 ready c =
     let tested = c.before.before in
     let given = tested.before.before in
@@ -36,7 +36,7 @@ slice-aggregate-tally c =
     rows-count given.before.parts-prepared.ensures given.if1.false
 
 tally-requires : tie.Need-tally-requires
-tally-requires c κs = let r = ready c.before.before.before in (tally-asks r, r.counts-there)
+tally-requires c κs = let r = ready c.before.before.before in (tally-asks r, r.counts_there)
 
 find-least-requires : tie.Need-find-least-requires
 find-least-requires c κs =
@@ -67,7 +67,7 @@ count-weights-parts-spec =
     (λ c. let given = c.before.before.before in whole-space given.before.parts-prepared.ensures given.if1.false _ _ c.if2.true)
     returns-3
     slice-aggregate-tally
-    (λ c. (ready c.before).working-there)  -- working[..need]
+    (λ c. (ready c.before).working_there)  -- working[..need]
     (λ c. working-count (ready c.before.before))  -- working[..need]
     tally-requires
     find-least-requires

@@ -3,8 +3,8 @@ use borrow.Author.Tests.{not-false, not-true}
 use lib.ListN.{drop, length}
 use mathlib.Core.Path.{sym, ◌∙◌}
 use Prim.Native.Nat.{◌-◌}
-use Rattle.alists.specs.Reading.{listsFrom}
-use Rattle.alists.specs.Working.{laidFrom}
+use Rattle.alists.specs.Reading.{lists_from}
+use Rattle.alists.specs.Working.{laid_from}
 use Rattle.alists.proofs.Judging.{Laying, laying-bad, laying-end, laying-hidden, laying-on, laying-start}
 use borrow.Author.Rules.{rules}
 use native.Mathlib.Omega.{arith}
@@ -12,7 +12,7 @@ use Rattle.alists.proofs.lists.lists_at.Statement.{statement}
 use Rattle.alists.proofs.lists.lists_at.Tie as tie
 
 abbrev invariant-loop : tie.invariant-loop
-invariant-loop text from most size seen weights table₀ at₀ i₀ table at i = Laying most size seen weights text at i table (laidFrom table₀ 0 (listsFrom most size seen 0 weights (drop from text))) (length table₀)
+invariant-loop text from most size seen weights table₀ at₀ i₀ table at i = Laying most size seen weights text at i table (laid_from table₀ 0 (lists_from most size seen 0 weights (drop from text))) (length table₀)
 
 abbrev decreases-loop : tie.decreases-loop
 decreases-loop text from most size seen weights table₀ at₀ i₀ table at i = length weights - i

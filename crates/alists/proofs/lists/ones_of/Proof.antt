@@ -3,7 +3,7 @@ use borrow.Author.Tests.{not-false, not-true}
 use lib.ListN.{drop, get_or, length}
 use mathlib.Core.Path.{◌≡◌, refl, sym, ◌∙◌}
 use Prim.Native.Nat.{◌-◌, ◌<◌, ◌^◌, ◌≤◌}
-use Rattle.alists.specs.Reading.{onesOf}
+use Rattle.alists.specs.Reading.{ones_of}
 use Rattle.alists.proofs.OnesRead.{index-fits, one_more, ones-end, ones-here, ones-other, shifted_one}
 use borrow.Author.Rules.{rules}
 use native.Mathlib.Omega.{arith}
@@ -11,7 +11,7 @@ use Rattle.alists.proofs.lists.ones_of.Statement.{statement}
 use Rattle.alists.proofs.lists.ones_of.Tie as tie
 
 abbrev invariant-loop : tie.invariant-loop
-invariant-loop list size used₀ i₀ used i = (i ≤ length list) × (used < 2 ^ 64) × (onesOf size used (drop i list) ≡ onesOf size 0 list)
+invariant-loop list size used₀ i₀ used i = (i ≤ length list) × (used < 2 ^ 64) × (ones_of size used (drop i list) ≡ ones_of size 0 list)
 
 abbrev decreases-loop : tie.decreases-loop
 decreases-loop list size used₀ i₀ used i = length list - i

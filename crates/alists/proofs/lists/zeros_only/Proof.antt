@@ -3,14 +3,14 @@ use native.Mathlib.Omega.{arith}
 use lib.ListN.{drop, length}
 use mathlib.Core.Path.{◌≡◌, refl, sym, ◌∙◌}
 use Prim.Native.Nat.{◌-◌, ◌≤◌}
-use Rattle.alists.specs.Reading.{zerosOnly}
+use Rattle.alists.specs.Reading.{zeros_only}
 use Rattle.alists.proofs.NumbersFound.{zeros-end, zeros-here, zeros-other}
 use borrow.Author.Rules.{rules}
 use Rattle.alists.proofs.lists.zeros_only.Statement.{statement}
 use Rattle.alists.proofs.lists.zeros_only.Tie as tie
 
 abbrev invariant-loop : tie.invariant-loop
-invariant-loop list i₀ i = (i ≤ length list) × (zerosOnly (drop i list) ≡ zerosOnly list)
+invariant-loop list i₀ i = (i ≤ length list) × (zeros_only (drop i list) ≡ zeros_only list)
 
 abbrev decreases-loop : tie.decreases-loop
 decreases-loop list i₀ i = length list - i

@@ -2,7 +2,7 @@
 use lib.Seq.{sets}
 use mathlib.Core.Path.{◌≡◌, sym, ◌∙◌}
 use Prim.Native.Nat.{◌-◌, ◌≤◌}
-use Rattle.alists.specs.Lists.{columnsFrom}
+use Rattle.alists.specs.Lists.{columns_from}
 use Rattle.alists.proofs.Filling.{columns-end, columns-on, columns-start}
 use borrow.Author.Rules.{rules}
 use native.Mathlib.Omega.{arith}
@@ -10,7 +10,7 @@ use Rattle.alists.proofs.matrix.fill_columns.Statement.{statement}
 use Rattle.alists.proofs.matrix.fill_columns.Tie as tie
 
 abbrev invariant-loop : tie.invariant-loop
-invariant-loop rows n table₀ i₀ table i = (i ≤ n) × (sets table i (columnsFrom rows i (n - i)) ≡ sets table₀ 0 (columnsFrom rows 0 n))
+invariant-loop rows n table₀ i₀ table i = (i ≤ n) × (sets table i (columns_from rows i (n - i)) ≡ sets table₀ 0 (columns_from rows 0 n))
 
 abbrev decreases-loop : tie.decreases-loop
 decreases-loop rows n table₀ i₀ table i = n - i

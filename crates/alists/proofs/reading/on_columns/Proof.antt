@@ -4,7 +4,7 @@ use lib.Seq.{length-take-le}
 use mathlib.Core.List.{[]}
 use mathlib.Core.Path.{sym}
 use Prim.Native.Nat.{ℕ}
-use Rattle.alists.specs.Reading.{listsFrom}
+use Rattle.alists.specs.Reading.{lists_from}
 use Rattle.alists.proofs.Bounds.{front}
 use Rattle.alists.proofs.Chain.{answer-fault, columns-fault, columns-good, fault-read, lists-long, words-read}
 use borrow.Author.Rules.{rules}
@@ -42,23 +42,23 @@ slice-aggregate-on-rows c =
 on-rows-requires : tie.Need-on-rows-requires
 on-rows-requires c κs =
     let e = rw c.before.before.before.lists2.given.1 at c.before.before.before.before.before.lists_at.ensures.is in
-    let w = words-read (listsFrom c.before.before.before.before.before.before.before.before.before.before.before.args.tall c.before.before.before.before.before.before.before.before.before.before.before.args.m [] 0 c.before.before.before.before.before.before.before.before.before.before.before.args.heights.now (drop c.before.before.before.before.before.before.before.before.before.before.before.args.at c.before.before.before.before.before.before.before.before.before.before.before.args.text.now)) (length c.before.before.before.before.before.before.before.before.before.before.before.args.heights.now) (lists-long c.before.before.before.before.before.before.before.before.before.before.before.args.tall c.before.before.before.before.before.before.before.before.before.before.before.args.m [] 0 c.before.before.before.before.before.before.before.before.before.before.before.args.heights.now (drop c.before.before.before.before.before.before.before.before.before.before.before.args.at c.before.before.before.before.before.before.before.before.before.before.before.args.text.now)) _ _ e.0 in
+    let w = words-read (lists_from c.before.before.before.before.before.before.before.before.before.before.before.args.tall c.before.before.before.before.before.before.before.before.before.before.before.args.m [] 0 c.before.before.before.before.before.before.before.before.before.before.before.args.heights.now (drop c.before.before.before.before.before.before.before.before.before.before.before.args.at c.before.before.before.before.before.before.before.before.before.before.before.args.text.now)) (length c.before.before.before.before.before.before.before.before.before.before.before.args.heights.now) (lists-long c.before.before.before.before.before.before.before.before.before.before.before.args.tall c.before.before.before.before.before.before.before.before.before.before.before.args.m [] 0 c.before.before.before.before.before.before.before.before.before.before.before.args.heights.now (drop c.before.before.before.before.before.before.before.before.before.before.before.args.at c.before.before.before.before.before.before.before.before.before.before.before.args.text.now)) _ _ e.0 in
     let z = c.before.before.before.before.before.lists_at.ensures.size in
     (e.1, (c.before.before.before.before.before.before.before.before.before.before.before.requires.1.0, (c.before.before.before.before.before.before.before.before.before.before.before.requires.1.1.1.1.0, (rw (length-take-le c.before.before.before.before.before.before.before.before.before.before.before.args.n c.before.before.before.before.before.lists_at.new.1.1.1.1.1.1.0 (omega (arith, z, length-replicate {A = ℕ} 64 0))) c.before.before.before.before.before.before.before.before.before.before.before.requires.1.0, c.before.before.before.before.before.before.before.before.before.before.before.requires.1.1.1.1.1.1))))
 
 returns : tie.Need-returns
 returns c =
     let e = rw c.before.lists.given.1 at c.before.before.before.lists_at.ensures.is in
-    answer-fault _ c.before.before.before.before.before.before.before.before.before.args.table.now (columns-fault c.before.before.before.before.before.before.before.before.before.args.n c.before.before.before.before.before.before.before.before.before.args.wide c.before.before.before.before.before.before.before.before.before.args.widths.now (listsFrom c.before.before.before.before.before.before.before.before.before.args.tall c.before.before.before.before.before.before.before.before.before.args.m [] 0 c.before.before.before.before.before.before.before.before.before.args.heights.now (drop c.before.before.before.before.before.before.before.before.before.args.at c.before.before.before.before.before.before.before.before.before.args.text.now)) c.before.lists.given.0.0 (fault-read (listsFrom c.before.before.before.before.before.before.before.before.before.args.tall c.before.before.before.before.before.before.before.before.before.args.m [] 0 c.before.before.before.before.before.before.before.before.before.args.heights.now (drop c.before.before.before.before.before.before.before.before.before.args.at c.before.before.before.before.before.before.before.before.before.args.text.now)) _ c.before.lists.given.0.0 e.0))
+    answer-fault _ c.before.before.before.before.before.before.before.before.before.args.table.now (columns-fault c.before.before.before.before.before.before.before.before.before.args.n c.before.before.before.before.before.before.before.before.before.args.wide c.before.before.before.before.before.before.before.before.before.args.widths.now (lists_from c.before.before.before.before.before.before.before.before.before.args.tall c.before.before.before.before.before.before.before.before.before.args.m [] 0 c.before.before.before.before.before.before.before.before.before.args.heights.now (drop c.before.before.before.before.before.before.before.before.before.args.at c.before.before.before.before.before.before.before.before.before.args.text.now)) c.before.lists.given.0.0 (fault-read (lists_from c.before.before.before.before.before.before.before.before.before.args.tall c.before.before.before.before.before.before.before.before.before.args.m [] 0 c.before.before.before.before.before.before.before.before.before.args.heights.now (drop c.before.before.before.before.before.before.before.before.before.args.at c.before.before.before.before.before.before.before.before.before.args.text.now)) _ c.before.lists.given.0.0 e.0))
 
 returns-2 : tie.Need-returns-2
 returns-2 c =
     let e = rw c.before.before.before.before.lists2.given.1 at c.before.before.before.before.before.before.lists_at.ensures.is in
-    let w = words-read (listsFrom c.before.before.before.before.before.before.before.before.before.before.before.before.args.tall c.before.before.before.before.before.before.before.before.before.before.before.before.args.m [] 0 c.before.before.before.before.before.before.before.before.before.before.before.before.args.heights.now (drop c.before.before.before.before.before.before.before.before.before.before.before.before.args.at c.before.before.before.before.before.before.before.before.before.before.before.before.args.text.now)) (length c.before.before.before.before.before.before.before.before.before.before.before.before.args.heights.now) (lists-long c.before.before.before.before.before.before.before.before.before.before.before.before.args.tall c.before.before.before.before.before.before.before.before.before.before.before.before.args.m [] 0 c.before.before.before.before.before.before.before.before.before.before.before.before.args.heights.now (drop c.before.before.before.before.before.before.before.before.before.before.before.before.args.at c.before.before.before.before.before.before.before.before.before.before.before.before.args.text.now)) _ _ e.0 in
+    let w = words-read (lists_from c.before.before.before.before.before.before.before.before.before.before.before.before.args.tall c.before.before.before.before.before.before.before.before.before.before.before.before.args.m [] 0 c.before.before.before.before.before.before.before.before.before.before.before.before.args.heights.now (drop c.before.before.before.before.before.before.before.before.before.before.before.before.args.at c.before.before.before.before.before.before.before.before.before.before.before.before.args.text.now)) (length c.before.before.before.before.before.before.before.before.before.before.before.before.args.heights.now) (lists-long c.before.before.before.before.before.before.before.before.before.before.before.before.args.tall c.before.before.before.before.before.before.before.before.before.before.before.before.args.m [] 0 c.before.before.before.before.before.before.before.before.before.before.before.before.args.heights.now (drop c.before.before.before.before.before.before.before.before.before.before.before.before.args.at c.before.before.before.before.before.before.before.before.before.before.before.before.args.text.now)) _ _ e.0 in
     let g = w.long in
     let f = front w.words c.before.before.before.before.before.before.before.before.before.before.before.before.args.n (omega (arith, g)) c.before.before.before.before.before.before.before.before.before.before.before.before.requires.1.0 in
     let s = w.stands in
-    let k = columns-good c.before.before.before.before.before.before.before.before.before.before.before.before.args.n c.before.before.before.before.before.before.before.before.before.before.before.before.args.wide c.before.before.before.before.before.before.before.before.before.before.before.before.args.widths.now (listsFrom c.before.before.before.before.before.before.before.before.before.before.before.before.args.tall c.before.before.before.before.before.before.before.before.before.before.before.before.args.m [] 0 c.before.before.before.before.before.before.before.before.before.before.before.before.args.heights.now (drop c.before.before.before.before.before.before.before.before.before.before.before.before.args.at c.before.before.before.before.before.before.before.before.before.before.before.before.args.text.now)) w.words _ w.is in
+    let k = columns-good c.before.before.before.before.before.before.before.before.before.before.before.before.args.n c.before.before.before.before.before.before.before.before.before.before.before.before.args.wide c.before.before.before.before.before.before.before.before.before.before.before.before.args.widths.now (lists_from c.before.before.before.before.before.before.before.before.before.before.before.before.args.tall c.before.before.before.before.before.before.before.before.before.before.before.before.args.m [] 0 c.before.before.before.before.before.before.before.before.before.before.before.before.args.heights.now (drop c.before.before.before.before.before.before.before.before.before.before.before.before.args.at c.before.before.before.before.before.before.before.before.before.before.before.before.args.text.now)) w.words _ w.is in
     rw k (rw (s, f) at c.on-rows.ensures)
 
 pub on-columns-spec : {M : Type 1} → statement M

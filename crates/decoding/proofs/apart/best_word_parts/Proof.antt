@@ -1,6 +1,6 @@
 -- `decoding::apart::best_word_parts` meets its contract: the answer of decoding without its metric, or its refusal.
 use borrow.Author.Rules.{rules}
-use Rattle.plates.specs.Prepare.{ofParts}
+use Rattle.plates.specs.Prepare.{of_parts}
 use Rattle.decoding.proofs.ApartCalls.{chosen, refused}
 use Rattle.decoding.proofs.apart.best_word_parts.Statement.{statement}
 use Rattle.decoding.proofs.apart.best_word_parts.Tie as tie
@@ -23,7 +23,7 @@ same-length-2 c = search rules
 returns : tie.Need-returns
 returns c =
     let s = c.before.before.before.before.before.before.before.before.before.before.before.before.before in
-    let plate = ofParts s.args.n s.args.k s.args.mask s.args.rows.now s.args.profile.now in
+    let plate = of_parts s.args.n s.args.k s.args.mask s.args.rows.now s.args.profile.now in
     let d = c.before.before.before.before.before.before.before.decode-parts in
     chosen plate s.args.samples.now s.args.metrics.now s.args.decisions.now _ _ d.result d.ensures _ c.before.before.answer.given.1
 
@@ -36,7 +36,7 @@ same-length-4 c = search rules
 returns-2 : tie.Need-returns-2
 returns-2 c =
     let s = c.before.before.before.before.before.before.before.before.before.before.before.before in
-    let plate = ofParts s.args.n s.args.k s.args.mask s.args.rows.now s.args.profile.now in
+    let plate = of_parts s.args.n s.args.k s.args.mask s.args.rows.now s.args.profile.now in
     let d = c.before.before.before.before.before.before.decode-parts in
     refused plate s.args.samples.now s.args.metrics.now s.args.decisions.now _ _ d.result d.ensures _ c.before.refusal.given.1
 

@@ -6,7 +6,7 @@ use Rattle.decoding.proofs.batch.put_block.Tie as tie
 returns : tie.Need-returns
 returns c =
     let found = c.before.before.before.before.before.search-block in
-    record { answer = found.result; searched = found.ensures; words_are = search rules; scores-are = search rules; counts-are = search rules }
+    record { answer = found.result; searched = found.ensures; words_are = search rules; scores_are = search rules; counts_are = search rules }
 
 pub put-block-spec : {M : Type 1} → statement M
 put-block-spec =

@@ -79,13 +79,13 @@ same_length : tie.Need-same-length invariant-loop decreases-loop
 same_length c = c.before.loop.invariant.1.words_size
 
 same-length-2 : tie.Need-same-length-2 invariant-loop decreases-loop
-same-length-2 c = c.before.loop.invariant.1.scores-size
+same-length-2 c = c.before.loop.invariant.1.scores_size
 
 same-length-3 : tie.Need-same-length-3 invariant-loop decreases-loop
-same-length-3 c = c.before.loop.invariant.1.kept.metrics-size
+same-length-3 c = c.before.loop.invariant.1.kept.metrics_size
 
 same-length-4 : tie.Need-same-length-4 invariant-loop decreases-loop
-same-length-4 c = c.before.loop.invariant.1.kept.decisions-size
+same-length-4 c = c.before.loop.invariant.1.kept.decisions_size
 
 returns : tie.Need-returns invariant-loop decreases-loop
 returns c =

@@ -3,7 +3,7 @@ use borrow.Author.Rules.{rules}
 use mathlib.Core.Path.{refl}
 use mir.Facts.{to_z-of_z}
 use native.Mathlib.Omega.{arith}
-use Rattle.decoding.proofs.Preference.{first_fits, metric-is, raised-fits, second_fits, taken_is}
+use Rattle.decoding.proofs.Preference.{first_fits, metric_is, raised-fits, second_fits, taken_is}
 use Rattle.decoding.proofs.choices.choose.Statement.{statement}
 use Rattle.decoding.proofs.choices.choose.Tie as tie
 
@@ -35,7 +35,7 @@ returns : tie.Need-returns
 returns c =
     let e = taken_is c.before.before.before.before.args.near c.before.before.before.before.args.far c.before.before.before.before.args.sign c.before.before.before.before.args.tie c.before.before.before.before.requires.near c.before.before.before.before.requires.far c.before.before.before.before.requires.sign c.before.before.before.before.requires.tie (to_z-of_z c.before.before.before.before.ranges.near) (to_z-of_z c.before.before.before.before.ranges.far) (to_z-of_z c.before.before.before.before.ranges.sign) (to_z-of_z c.before.before.before.before.ranges.tie) c.before.before.is-less.result c.before.before.is-less.ensures in
     record {
-      metric = metric-is c.before.before.before.before.args.near c.before.before.before.before.args.far c.before.before.before.before.args.sign c.before.before.before.before.args.tie c.before.before.before.before.requires.near c.before.before.before.before.requires.far c.before.before.before.before.requires.sign c.before.before.before.before.requires.tie (to_z-of_z c.before.before.before.before.ranges.near) (to_z-of_z c.before.before.before.before.ranges.far) (to_z-of_z c.before.before.before.before.ranges.sign) (to_z-of_z c.before.before.before.before.ranges.tie) c.before.before.is-less.result c.either.result e c.either.ensures;
+      metric = metric_is c.before.before.before.before.args.near c.before.before.before.before.args.far c.before.before.before.before.args.sign c.before.before.before.before.args.tie c.before.before.before.before.requires.near c.before.before.before.before.requires.far c.before.before.before.before.requires.sign c.before.before.before.before.requires.tie (to_z-of_z c.before.before.before.before.ranges.near) (to_z-of_z c.before.before.before.before.ranges.far) (to_z-of_z c.before.before.before.before.ranges.sign) (to_z-of_z c.before.before.before.before.ranges.tie) c.before.before.is-less.result c.either.result e c.either.ensures;
       second = e;
       additions = omega arith;
       comparisons = refl;

@@ -7,13 +7,13 @@ use mathlib.Core.Path.{◌≡◌, ◌∙◌, ap, refl, sym}
 use native.Mathlib.Numerals.{add-one}
 use native.Mathlib.Omega.{arith}
 use Prim.Native.Nat.{ℕ, suc, ◌-◌, ◌≤◌}
-use Rattle.decoding.specs.Cosets.{takenOff}
+use Rattle.decoding.specs.Cosets.{taken_off}
 use Rattle.decoding.proofs.RestOfWords.{off_next}
 use Rattle.decoding.proofs.cosets.rest_of.Statement.{statement}
 use Rattle.decoding.proofs.cosets.rest_of.Tie as tie
 
 abbrev invariant-loop : tie.invariant-loop
-invariant-loop rows word rest₀ j₀ rest j = (j ≤ length rows) × (takenOff (drop j rows) rest ≡ takenOff rows word)
+invariant-loop rows word rest₀ j₀ rest j = (j ≤ length rows) × (taken_off (drop j rows) rest ≡ taken_off rows word)
 
 abbrev decreases-loop : tie.decreases-loop
 decreases-loop rows word rest₀ j₀ rest j = length rows - j
@@ -41,8 +41,8 @@ loop-again c =
     let s = c.before.before.before.before.before in
     let l = c.before.before.before in (
       omega (arith, c.before.before.loop-test.true),
-      ap (λ (x : ℕ). takenOff (drop x s.args.rows.now) c.less-row.result) (add-one l.loop.j)
-          ∙ ap (takenOff (drop (suc l.loop.j) s.args.rows.now)) c.less-row.ensures
+      ap (λ (x : ℕ). taken_off (drop x s.args.rows.now) c.less-row.result) (add-one l.loop.j)
+          ∙ ap (taken_off (drop (suc l.loop.j) s.args.rows.now)) c.less-row.ensures
           ∙ sym (off_next s.args.rows.now l.loop.j l.loop.rest c.before.before.loop-test.true) ∙ l.loop.invariant.1,
     )
 
@@ -51,7 +51,7 @@ returns c =
     let s = c.before.before.before in
     let l = c.before.loop in
     let none : drop l.j s.args.rows.now ≡ [] = drop_of_length-le s.args.rows.now {i = l.j} (omega (arith, c.loop-test.false)) in
-    ap (λ (rows : List ℕ). takenOff rows l.rest) (sym none) ∙ l.invariant.1
+    ap (λ (rows : List ℕ). taken_off rows l.rest) (sym none) ∙ l.invariant.1
 
 pub rest-of-spec : {M : Type 1} → statement M
 rest-of-spec =

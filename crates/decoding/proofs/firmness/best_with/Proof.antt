@@ -36,7 +36,7 @@ sweep-requires c κs =
 mul-best : tie.Need-overflow-mul-best
 mul-best c =
     let s = c.before.before.before.before.before.before.before.before.before.before.before.before in
-    record { fits = omega (arith, from-few s.args.rows.now s.args.sizes s.args.samples.now s.args.metrics.now s.args.decisions.now s.requires.0 s.requires.1.1.0 s.args.position s.args.bit s.requires.1.1.1 _ (sign-copy s.args.bit (pos forcing) _ (omega arith) c.before.before.before.before.before.before.before.before.before.sign_of.ensures) s.args.ends.now s.requires.1.0 _ _ _ c.before.before.before.sweep.ensures, s.requires.0.half-small) }
+    record { fits = omega (arith, from-few s.args.rows.now s.args.sizes s.args.samples.now s.args.metrics.now s.args.decisions.now s.requires.0 s.requires.1.1.0 s.args.position s.args.bit s.requires.1.1.1 _ (sign-copy s.args.bit (pos forcing) _ (omega arith) c.before.before.before.before.before.before.before.before.before.sign_of.ensures) s.args.ends.now s.requires.1.0 _ _ _ c.before.before.before.sweep.ensures, s.requires.0.half_small) }
 
 slice-copy-out-best : tie.Need-slice-copy-out-best
 slice-copy-out-best c =
@@ -54,10 +54,10 @@ add-result c =
     total-fits s.args.rows.now s.args.sizes s.args.samples.now s.args.metrics.now s.args.decisions.now s.requires.0 s.requires.1.1.0 s.args.position s.args.bit s.requires.1.1.1 _ (sign-copy s.args.bit (pos forcing) _ (omega arith) c.before.before.before.before.before.before.before.before.before.before.sign_of.ensures) s.args.ends.now s.requires.1.0 _ _ _ c.before.before.before.before.sweep.ensures _ (own-copy s.args.rows.now s.args.sizes s.args.samples.now s.args.metrics.now s.args.decisions.now s.requires.0 s.requires.1.1.0 s.args.position s.args.bit s.requires.1.1.1 _ _ (c.before.before.before.before.before.before.before.before.gain.ensures ∙ to_z-of_z {w = w16} (record { sfits = c.before.before.before.before.before.before.before.before.before.gain-arg.given })) c.before.before.before.before.before.before.before.sign-of2.ensures)
 
 same_length : tie.Need-same-length
-same_length c = c.before.before.before.before.sweep.ensures.kept.metrics-size
+same_length c = c.before.before.before.before.sweep.ensures.kept.metrics_size
 
 same-length-2 : tie.Need-same-length-2
-same-length-2 c = c.before.before.before.before.sweep.ensures.kept.decisions-size
+same-length-2 c = c.before.before.before.before.sweep.ensures.kept.decisions_size
 
 returns : tie.Need-returns
 returns c =

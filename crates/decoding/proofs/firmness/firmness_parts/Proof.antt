@@ -6,9 +6,9 @@ use lib.ListN.{length}
 use mathlib.Core.Path.{◌∙◌, ap, subst, sym}
 use native.Mathlib.Omega.{arith}
 use Prim.Native.Nat.{ℕ, ◌+◌, ◌*◌, ◌^◌, ◌<◌, ◌≤◌}
-use Rattle.plates.specs.Prepare.{ofParts}
+use Rattle.plates.specs.Prepare.{of_parts}
 use Rattle.decoding.specs.declared.sweep.Sizes.{Sizes}
-use Rattle.decoding.specs.Decode.{decisionNeed, metricNeed}
+use Rattle.decoding.specs.Decode.{decision_need, metric_need}
 use Rattle.decoding.specs.Forcing.{ReadAt}
 use Rattle.decoding.specs.Sweeping.{RoomsFit, SizesFit}
 use Rattle.decoding.proofs.Filled.{length-filled}
@@ -23,14 +23,14 @@ parts-prepared-requires c κs = search rules
 returns : tie.Need-returns
 returns c =
     let s = c.before.before.before.before.before in
-    let plate = ofParts s.args.n s.args.k s.args.mask s.args.rows.now s.args.profile.now in
-    refused-5 plate s.args.samples.now s.args.position s.args.metrics.now s.args.decisions.now (c.before.parts-prepared.ensures.no-is (not-true _ c.if1.true))
+    let plate = of_parts s.args.n s.args.k s.args.mask s.args.rows.now s.args.profile.now in
+    refused-5 plate s.args.samples.now s.args.position s.args.metrics.now s.args.decisions.now (c.before.parts-prepared.ensures.no_is (not-true _ c.if1.true))
 
 returns-2 : tie.Need-returns-2
 returns-2 c =
     let s = c.before.before.before.before.before.before in
-    let plate = ofParts s.args.n s.args.k s.args.mask s.args.rows.now s.args.profile.now in
-    let given = c.before.before.parts-prepared.ensures.yes-is (not-false _ c.before.if1.false) in
+    let plate = of_parts s.args.n s.args.k s.args.mask s.args.rows.now s.args.profile.now in
+    let given = c.before.before.parts-prepared.ensures.yes_is (not-false _ c.before.if1.false) in
     refused-6 plate s.args.samples.now s.args.position s.args.metrics.now s.args.decisions.now given c.if2.true
 
 first-over-requires : tie.Need-first-over-requires
@@ -39,97 +39,97 @@ first-over-requires c κs = search rules
 returns-3 : tie.Need-returns-3
 returns-3 c =
     let s = c.before.before.before.before.before.before.before.before in
-    let plate = ofParts s.args.n s.args.k s.args.mask s.args.rows.now s.args.profile.now in
-    let given = c.before.before.before.before.parts-prepared.ensures.yes-is (not-false _ c.before.before.before.if1.false) in
+    let plate = of_parts s.args.n s.args.k s.args.mask s.args.rows.now s.args.profile.now in
+    let given = c.before.before.before.before.parts-prepared.ensures.yes_is (not-false _ c.before.before.before.if1.false) in
     refused-7 plate s.args.samples.now s.args.position s.args.metrics.now s.args.decisions.now given c.before.before.if2.false c.before.first-over.result c.before.first-over.ensures c.if3.true
 
 sizes-of-requires : tie.Need-sizes-of-requires
 sizes-of-requires c κs =
     let s = c.before.before.before.before.before.before.before.before in
-    let plate = ofParts s.args.n s.args.k s.args.mask s.args.rows.now s.args.profile.now in
-    let given = c.before.before.before.before.parts-prepared.ensures.yes-is (not-false _ c.before.before.before.if1.false) in
+    let plate = of_parts s.args.n s.args.k s.args.mask s.args.rows.now s.args.profile.now in
+    let given = c.before.before.before.before.parts-prepared.ensures.yes_is (not-false _ c.before.before.before.if1.false) in
     given
 
 add-metric-need : tie.Need-overflow-add-metric-need
 add-metric-need c =
     let s = c.before.before.before.before.before.before.before.before.before.before in
-    let plate = ofParts s.args.n s.args.k s.args.mask s.args.rows.now s.args.profile.now in
-    let given = c.before.before.before.before.before.before.parts-prepared.ensures.yes-is (not-false _ c.before.before.before.before.before.if1.false) in
+    let plate = of_parts s.args.n s.args.k s.args.mask s.args.rows.now s.args.profile.now in
+    let given = c.before.before.before.before.before.before.parts-prepared.ensures.yes_is (not-false _ c.before.before.before.before.before.if1.false) in
     let e = sizes-are plate given c.before.sizes-of.result c.before.sizes-of.ensures in
-    record { fits = omega (arith, ap (λ (z : Sizes). z.half) e, (plate-sizes-fit plate given).half-small) }
+    record { fits = omega (arith, ap (λ (z : Sizes). z.half) e, (plate-sizes-fit plate given).half_small) }
 
 mul-decision-need : tie.Need-overflow-mul-decision-need
 mul-decision-need c =
     let s = c.before.before.before.before.before.before.before.before.before.before.before in
-    let plate = ofParts s.args.n s.args.k s.args.mask s.args.rows.now s.args.profile.now in
-    let given = c.before.before.before.before.before.before.before.parts-prepared.ensures.yes-is (not-false _ c.before.before.before.before.before.before.if1.false) in
+    let plate = of_parts s.args.n s.args.k s.args.mask s.args.rows.now s.args.profile.now in
+    let given = c.before.before.before.before.before.before.before.parts-prepared.ensures.yes_is (not-false _ c.before.before.before.before.before.before.if1.false) in
     let e = sizes-are plate given c.before.before.sizes-of.result c.before.before.sizes-of.ensures in
     record { fits = subst (λ (x : ℕ). s.args.n * x < 2 ^ 64) (sym (ap (λ (z : Sizes). z.words) e)) (omega (arith, decision-need-small plate given)) }
 
 returns-4 : tie.Need-returns-4
 returns-4 c =
     let s = c.before.before.before.before.before.before.before.before.before.before.before.before in
-    let plate = ofParts s.args.n s.args.k s.args.mask s.args.rows.now s.args.profile.now in
-    let given = c.before.before.before.before.before.before.before.before.parts-prepared.ensures.yes-is (not-false _ c.before.before.before.before.before.before.before.if1.false) in
+    let plate = of_parts s.args.n s.args.k s.args.mask s.args.rows.now s.args.profile.now in
+    let given = c.before.before.before.before.before.before.before.before.parts-prepared.ensures.yes_is (not-false _ c.before.before.before.before.before.before.before.if1.false) in
     refused-21 plate s.args.samples.now s.args.position s.args.metrics.now s.args.decisions.now given c.before.before.before.before.before.before.if2.false c.before.before.before.before.before.first-over.result c.before.before.before.before.before.first-over.ensures c.before.before.before.before.if3.false c.if4.true
 
 returns-5 : tie.Need-returns-5
 returns-5 c =
     let s = c.before.before.before.before.before.before.before.before.before.before.before.before.before in
-    let plate = ofParts s.args.n s.args.k s.args.mask s.args.rows.now s.args.profile.now in
-    let given = c.before.before.before.before.before.before.before.before.before.parts-prepared.ensures.yes-is (not-false _ c.before.before.before.before.before.before.before.before.if1.false) in
+    let plate = of_parts s.args.n s.args.k s.args.mask s.args.rows.now s.args.profile.now in
+    let given = c.before.before.before.before.before.before.before.before.before.parts-prepared.ensures.yes_is (not-false _ c.before.before.before.before.before.before.before.before.if1.false) in
     let e = sizes-are plate given c.before.before.before.before.sizes-of.result c.before.before.before.before.sizes-of.ensures in
-    let h : length s.args.metrics.now < metricNeed plate = omega (arith, c.if5.true, ap (λ (z : Sizes). z.half) e) in
+    let h : length s.args.metrics.now < metric_need plate = omega (arith, c.if5.true, ap (λ (z : Sizes). z.half) e) in
     refused-8 plate s.args.samples.now s.args.position s.args.metrics.now s.args.decisions.now given c.before.before.before.before.before.before.before.if2.false c.before.before.before.before.before.before.first-over.result c.before.before.before.before.before.before.first-over.ensures c.before.before.before.before.before.if3.false c.before.if4.false h
 
 returns-6 : tie.Need-returns-6
 returns-6 c =
     let s = c.before.before.before.before.before.before.before.before.before.before.before.before.before.before in
-    let plate = ofParts s.args.n s.args.k s.args.mask s.args.rows.now s.args.profile.now in
-    let given = c.before.before.before.before.before.before.before.before.before.before.parts-prepared.ensures.yes-is (not-false _ c.before.before.before.before.before.before.before.before.before.if1.false) in
+    let plate = of_parts s.args.n s.args.k s.args.mask s.args.rows.now s.args.profile.now in
+    let given = c.before.before.before.before.before.before.before.before.before.before.parts-prepared.ensures.yes_is (not-false _ c.before.before.before.before.before.before.before.before.before.if1.false) in
     let e = sizes-are plate given c.before.before.before.before.before.sizes-of.result c.before.before.before.before.before.sizes-of.ensures in
-    let m : metricNeed plate ≤ length s.args.metrics.now = omega (arith, c.before.if5.false, ap (λ (z : Sizes). z.half) e) in
-    let h : length s.args.decisions.now < decisionNeed plate = subst (λ (x : ℕ). length s.args.decisions.now < s.args.n * x) (ap (λ (z : Sizes). z.words) e) c.if6.true in
+    let m : metric_need plate ≤ length s.args.metrics.now = omega (arith, c.before.if5.false, ap (λ (z : Sizes). z.half) e) in
+    let h : length s.args.decisions.now < decision_need plate = subst (λ (x : ℕ). length s.args.decisions.now < s.args.n * x) (ap (λ (z : Sizes). z.words) e) c.if6.true in
     refused-9 plate s.args.samples.now s.args.position s.args.metrics.now s.args.decisions.now given c.before.before.before.before.before.before.before.before.if2.false c.before.before.before.before.before.before.before.first-over.result c.before.before.before.before.before.before.before.first-over.ensures c.before.before.before.before.before.before.if3.false c.before.before.if4.false m h
 
 reading-at-requires : tie.Need-reading-at-requires
 reading-at-requires c κs =
     let s = c.before.before.before.before.before.before.before.before.before.before.before.before.before.before.before.before in
-    let plate = ofParts s.args.n s.args.k s.args.mask s.args.rows.now s.args.profile.now in
-    let given = c.before.before.before.before.before.before.before.before.before.before.before.before.parts-prepared.ensures.yes-is (not-false _ c.before.before.before.before.before.before.before.before.before.before.before.if1.false) in
+    let plate = of_parts s.args.n s.args.k s.args.mask s.args.rows.now s.args.profile.now in
+    let given = c.before.before.before.before.before.before.before.before.before.before.before.before.parts-prepared.ensures.yes_is (not-false _ c.before.before.before.before.before.before.before.before.before.before.before.if1.false) in
     let e = sizes-are plate given c.before.before.before.before.before.before.before.sizes-of.result c.before.before.before.before.before.before.before.sizes-of.ensures in
-    let m : metricNeed plate ≤ length s.args.metrics.now = omega (arith, c.before.before.before.if5.false, ap (λ (z : Sizes). z.half) e) in
-    let d : decisionNeed plate ≤ length s.args.decisions.now = subst (λ (x : ℕ). s.args.n * x ≤ length s.args.decisions.now) (ap (λ (z : Sizes). z.words) e) (omega (arith, c.before.before.if6.false)) in
+    let m : metric_need plate ≤ length s.args.metrics.now = omega (arith, c.before.before.before.if5.false, ap (λ (z : Sizes). z.half) e) in
+    let d : decision_need plate ≤ length s.args.decisions.now = subst (λ (x : ℕ). s.args.n * x ≤ length s.args.decisions.now) (ap (λ (z : Sizes). z.words) e) (omega (arith, c.before.before.if6.false)) in
     subst (λ (z : Sizes). SizesFit s.args.rows.now z × (RoomsFit z s.args.samples.now s.args.metrics.now s.args.decisions.now × (s.args.position < z.n))) (sym e)
     (plate-sizes-fit plate given, (rooms-fit plate s.args.samples.now s.args.position s.args.metrics.now s.args.decisions.now given c.before.before.before.before.before.before.before.before.before.before.if2.false c.before.before.before.before.before.before.before.before.before.first-over.result c.before.before.before.before.before.before.before.before.before.first-over.ensures c.before.before.before.before.before.before.before.before.if3.false c.before.before.before.before.if4.false m d, c.before.before.before.before.if4.false))
 
 clear-metrics-requires : tie.Need-clear-metrics-requires
-clear-metrics-requires c κs = omega (arith, c.before.before.before.before.before.before.before.before.if5.false, c.before.before.before.before.reading-at.ensures.kept.metrics-size)
+clear-metrics-requires c κs = omega (arith, c.before.before.before.before.before.before.before.before.if5.false, c.before.before.before.before.reading-at.ensures.kept.metrics_size)
 
 clear-decisions-requires : tie.Need-clear-decisions-requires
-clear-decisions-requires c κs = omega (arith, c.before.before.before.before.before.before.before.before.before.before.if6.false, c.before.before.before.before.before.before.before.reading-at.ensures.kept.decisions-size)
+clear-decisions-requires c κs = omega (arith, c.before.before.before.before.before.before.before.before.before.before.if6.false, c.before.before.before.before.before.before.before.reading-at.ensures.kept.decisions_size)
 
 same_length : tie.Need-same-length
 same_length c =
     let z = c.before.before.before.before.before.before.before.before.before.before.before.before.before.before.before.before.before.before.sizes-of.result in
-    let h : z.half + z.half ≤ length c.before.before.before.before.before.before.before.before.before.before.reading-at.new.1.1.1.1.0 = omega (arith, c.before.before.before.before.before.before.before.before.before.before.before.before.before.before.if5.false, c.before.before.before.before.before.before.before.before.before.before.reading-at.ensures.kept.metrics-size) in
-    length-filled (pos 0) c.before.before.before.before.before.before.before.before.before.before.reading-at.new.1.1.1.1.0 _ (z.half + z.half) c.before.before.before.before.before.clear-metrics.ensures h ∙ c.before.before.before.before.before.before.before.before.before.before.reading-at.ensures.kept.metrics-size
+    let h : z.half + z.half ≤ length c.before.before.before.before.before.before.before.before.before.before.reading-at.new.1.1.1.1.0 = omega (arith, c.before.before.before.before.before.before.before.before.before.before.before.before.before.before.if5.false, c.before.before.before.before.before.before.before.before.before.before.reading-at.ensures.kept.metrics_size) in
+    length-filled (pos 0) c.before.before.before.before.before.before.before.before.before.before.reading-at.new.1.1.1.1.0 _ (z.half + z.half) c.before.before.before.before.before.clear-metrics.ensures h ∙ c.before.before.before.before.before.before.before.before.before.before.reading-at.ensures.kept.metrics_size
 
 same-length-2 : tie.Need-same-length-2
 same-length-2 c =
     let s = c.before.before.before.before.before.before.before.before.before.before.before.before.before.before.before.before.before.before.before.before.before.before.before.before.before.before.before in
     let z = c.before.before.before.before.before.before.before.before.before.before.before.before.before.before.before.before.before.before.sizes-of.result in
-    let h : s.args.n * z.words ≤ length c.before.before.before.before.before.before.before.before.before.before.reading-at.new.1.1.1.1.1.0 = omega (arith, c.before.before.before.before.before.before.before.before.before.before.before.before.before.if6.false, c.before.before.before.before.before.before.before.before.before.before.reading-at.ensures.kept.decisions-size) in
-    length-filled 0 c.before.before.before.before.before.before.before.before.before.before.reading-at.new.1.1.1.1.1.0 _ (s.args.n * z.words) c.before.before.clear-decisions.ensures h ∙ c.before.before.before.before.before.before.before.before.before.before.reading-at.ensures.kept.decisions-size
+    let h : s.args.n * z.words ≤ length c.before.before.before.before.before.before.before.before.before.before.reading-at.new.1.1.1.1.1.0 = omega (arith, c.before.before.before.before.before.before.before.before.before.before.before.before.before.if6.false, c.before.before.before.before.before.before.before.before.before.before.reading-at.ensures.kept.decisions_size) in
+    length-filled 0 c.before.before.before.before.before.before.before.before.before.before.reading-at.new.1.1.1.1.1.0 _ (s.args.n * z.words) c.before.before.clear-decisions.ensures h ∙ c.before.before.before.before.before.before.before.before.before.before.reading-at.ensures.kept.decisions_size
 
 returns-7 : tie.Need-returns-7
 returns-7 c =
     let s = c.before.before.before.before.before.before.before.before.before.before.before.before.before.before.before.before.before.before.before.before.before.before.before.before.before.before.before in
-    let plate = ofParts s.args.n s.args.k s.args.mask s.args.rows.now s.args.profile.now in
-    let given = c.before.before.before.before.before.before.before.before.before.before.before.before.before.before.before.before.before.before.before.before.before.before.before.parts-prepared.ensures.yes-is (not-false _ c.before.before.before.before.before.before.before.before.before.before.before.before.before.before.before.before.before.before.before.before.before.before.if1.false) in
+    let plate = of_parts s.args.n s.args.k s.args.mask s.args.rows.now s.args.profile.now in
+    let given = c.before.before.before.before.before.before.before.before.before.before.before.before.before.before.before.before.before.before.before.before.before.before.before.parts-prepared.ensures.yes_is (not-false _ c.before.before.before.before.before.before.before.before.before.before.before.before.before.before.before.before.before.before.before.before.before.before.if1.false) in
     let e = sizes-are plate given c.before.before.before.before.before.before.before.before.before.before.before.before.before.before.before.before.before.before.sizes-of.result c.before.before.before.before.before.before.before.before.before.before.before.before.before.before.before.before.before.before.sizes-of.ensures in
-    let m : metricNeed plate ≤ length s.args.metrics.now = omega (arith, c.before.before.before.before.before.before.before.before.before.before.before.before.before.before.if5.false, ap (λ (z : Sizes). z.half) e) in
-    let d : decisionNeed plate ≤ length s.args.decisions.now = subst (λ (x : ℕ). s.args.n * x ≤ length s.args.decisions.now) (ap (λ (z : Sizes). z.words) e) (omega (arith, c.before.before.before.before.before.before.before.before.before.before.before.before.before.if6.false)) in
+    let m : metric_need plate ≤ length s.args.metrics.now = omega (arith, c.before.before.before.before.before.before.before.before.before.before.before.before.before.before.if5.false, ap (λ (z : Sizes). z.half) e) in
+    let d : decision_need plate ≤ length s.args.decisions.now = subst (λ (x : ℕ). s.args.n * x ≤ length s.args.decisions.now) (ap (λ (z : Sizes). z.words) e) (omega (arith, c.before.before.before.before.before.before.before.before.before.before.before.before.before.if6.false)) in
     judged plate s.args.samples.now s.args.position s.args.metrics.now s.args.decisions.now given c.before.before.before.before.before.before.before.before.before.before.before.before.before.before.before.before.before.before.before.before.before.if2.false c.before.before.before.before.before.before.before.before.before.before.before.before.before.before.before.before.before.before.before.before.first-over.result c.before.before.before.before.before.before.before.before.before.before.before.before.before.before.before.before.before.before.before.before.first-over.ensures c.before.before.before.before.before.before.before.before.before.before.before.before.before.before.before.before.before.before.before.if3.false c.before.before.before.before.before.before.before.before.before.before.before.before.before.before.before.if4.false m d c.before.before.before.before.before.before.before.before.before.before.reading-at.new.1.1.1.1.0 c.before.before.before.before.before.before.before.before.before.before.reading-at.new.1.1.1.1.1.0 c.before.before.before.before.before.before.before.before.before.before.reading-at.result
     (subst (λ (z : Sizes). ReadAt s.args.rows.now z s.args.samples.now s.args.position s.args.metrics.now s.args.decisions.now c.before.before.before.before.before.before.before.before.before.before.reading-at.new.1.1.1.1.0 c.before.before.before.before.before.before.before.before.before.before.reading-at.new.1.1.1.1.1.0 c.before.before.before.before.before.before.before.before.before.before.reading-at.result) e c.before.before.before.before.before.before.before.before.before.before.reading-at.ensures) _ _
     (ap (λ (z : Sizes). z.half + z.half) e ∙ omega arith) (ap (λ (z : Sizes). s.args.n * z.words) e) _ c.before.before.before.before.before.clear-metrics.ensures _ c.before.before.clear-decisions.ensures

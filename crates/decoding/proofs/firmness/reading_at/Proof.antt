@@ -36,10 +36,10 @@ sub-margin : tie.Need-overflow-sub-margin
 sub-margin c = margin-fits c.before.before.before.before.before.before.before.before.before.before.best-with.result c.before.before.before.best-with2.result c.before.before.before.before.before.before.before.before.before.before.best-with.ensures.small c.before.before.before.best-with2.ensures.small
 
 same_length : tie.Need-same-length
-same_length c = c.before.before.before.best-with2.ensures.kept.metrics-size ∙ c.before.before.before.before.before.before.before.before.before.before.best-with.ensures.kept.metrics-size
+same_length c = c.before.before.before.best-with2.ensures.kept.metrics_size ∙ c.before.before.before.before.before.before.before.before.before.before.best-with.ensures.kept.metrics_size
 
 same-length-2 : tie.Need-same-length-2
-same-length-2 c = c.before.before.before.best-with2.ensures.kept.decisions-size ∙ c.before.before.before.before.before.before.before.before.before.before.best-with.ensures.kept.decisions-size
+same-length-2 c = c.before.before.before.best-with2.ensures.kept.decisions_size ∙ c.before.before.before.before.before.before.before.before.before.before.best-with.ensures.kept.decisions_size
 
 returns-2 : tie.Need-returns-2
 returns-2 c =

@@ -7,7 +7,7 @@ use Prim.Native.Nat.{suc, ◌+◌}
 use Rattle.decoding.proofs.BegunRows.{begun-few}
 use Rattle.decoding.proofs.PassedBack.{all-active, before-few, passed-back}
 use Rattle.decoding.proofs.PassedRows.{active-fits, counted, ending-few, ending-joins}
-use Rattle.decoding.specs.LiveRows.{LiveAt, activeMarks}
+use Rattle.decoding.specs.LiveRows.{LiveAt, active_marks}
 use Rattle.decoding.proofs.live.pass_back.Statement.{statement}
 use Rattle.decoding.proofs.live.pass_back.Tie as tie
 
@@ -19,10 +19,10 @@ mark-of-requires c κs = let s = c.before.before in ending-few s.requires.0 s.ar
 
 -- the rows that are active in section t
 joined : (c : tie.After-mark-of)
-    → let a = c.before.before.before.args in a.live.marks + c.mark_of.result ≡ activeMarks (take a.k a.rows.now) a.t
+    → let a = c.before.before.before.args in a.live.marks + c.mark_of.result ≡ active_marks (take a.k a.rows.now) a.t
 joined c =
     let s = c.before.before.before in
-    ending-joins s.requires.0 s.args.t s.requires.1.0 s.requires.1.1.0 s.requires.1.1.1.marks-are c.mark_of.ensures
+    ending-joins s.requires.0 s.args.t s.requires.1.0 s.requires.1.1.0 s.requires.1.1.1.marks_are c.mark_of.ensures
 
 add-active : tie.Need-overflow-add-active
 add-active c = let s = c.before.before.before.before in record { fits = active-fits s.requires.0 s.args.t (joined c.before) }
@@ -31,7 +31,7 @@ rows-before-requires : tie.Need-rows-before-requires
 rows-before-requires c κs =
     let s = c.before.before.before.before in
     let p = s.requires.0 in
-    let b = s.requires.1.1.1.next-is in
+    let b = s.requires.1.1.1.next_is in
     (p.table, omega (arith, b, begun-few (suc s.args.t) (take s.args.k s.args.rows.now), counted p, p.few))
 
 -- those of them that are live before it
@@ -39,7 +39,7 @@ before : (c : tie.After-rows-before)
     → let a = c.before.before.before.before.before.args in LiveAt (take a.k a.rows.now) a.t c.rows_before.result
 before c =
     let s = c.before.before.before.before.before in
-    c.rows_before.ensures.live s.args.k s.requires.0 (joined c.before.before) s.requires.1.1.1.next-is
+    c.rows_before.ensures.live s.args.k s.requires.0 (joined c.before.before) s.requires.1.1.1.next_is
 
 column-of-requires : tie.Need-column-of-requires
 column-of-requires c κs =

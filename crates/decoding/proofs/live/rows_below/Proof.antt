@@ -6,7 +6,7 @@ use native.Mathlib.Omega.{arith}
 use lib.Pow.{pow_pos}
 use Prim.Native.Nat.{◌-◌}
 use Rattle.trellises.proofs.AmongRows.{shifted_one}
-use Rattle.decoding.specs.LiveRows.{endingBy}
+use Rattle.decoding.specs.LiveRows.{ending_by}
 use Rattle.decoding.proofs.MarkCounts.{below-few, below-is}
 use Rattle.decoding.proofs.live.rows_below.Statement.{statement}
 use Rattle.decoding.proofs.live.rows_below.Tie as tie
@@ -27,7 +27,7 @@ rows-below-spec =
     tie.close
     (tie.spec
     (λ c. record { fits = omega (arith, ones-le 64 c.before.args.active c.before.ranges.active.fits) })  -- all of them
-    (λ c. sym (ap (endingBy c.before.args.active) c.if1.true))
+    (λ c. sym (ap (ending_by c.before.args.active) c.if1.true))
     (λ c. search rules)  -- following - 1
     (λ c. search rules)  -- as a shift
     (λ c. search rules)  -- 1 << (following - 1)

@@ -4,7 +4,7 @@ use lib.ListN.{take}
 use lib.Seq.{length-take-le}
 use mathlib.Core.Path.{◌≡◌, ◌∙◌, ap, sym}
 use native.Mathlib.Omega.{arith}
-use Rattle.decoding.specs.Cosets.{takenOff}
+use Rattle.decoding.specs.Cosets.{taken_off}
 use Rattle.decoding.proofs.RestOfWords.{off_zero}
 use Rattle.decoding.proofs.rooms.rest_of_mask.Statement.{statement}
 use Rattle.decoding.proofs.rooms.rest_of_mask.Tie as tie
@@ -13,7 +13,7 @@ returns : tie.Need-returns
 returns c =
     let s = c.before.before in
     let used = take s.args.k s.args.rows.now in
-    sym (ap (takenOff used) c.if1.true ∙ off_zero used)
+    sym (ap (taken_off used) c.if1.true ∙ off_zero used)
 
 slice-aggregate-rest-of : tie.Need-slice-aggregate-rest-of
 slice-aggregate-rest-of c = sym (length-take-le _ _ (omega arith))

@@ -31,11 +31,11 @@ returns c =
     let small : w.result < 64 = omega (arith, w.ensures, widest-most s.args.profile.now s.args.n (profile-fits _ s.requires)) in
     let half : (1 * 2 ^ w.result) % 2 ^ 64 ≡ 2 ^ w.result = shifted_one w.result small in
     record {
-      n-is = refl;
-      k-is = refl;
+      n_is = refl;
+      k_is = refl;
       half_is = half ∙ ap (λ (x : ℕ). 2 ^ x) w.ensures;
-      words-is = c.greater.ensures ∙ ap (λ (x : ℕ). max 1 (x / 64)) (half ∙ ap (λ (x : ℕ). 2 ^ x) w.ensures);
-      rest-is = c.before.before.rest-of-mask.ensures;
+      words_is = c.greater.ensures ∙ ap (λ (x : ℕ). max 1 (x / 64)) (half ∙ ap (λ (x : ℕ). 2 ^ x) w.ensures);
+      rest_is = c.before.before.rest-of-mask.ensures;
     }
 
 pub sizes-of-spec : {M : Type 1} → statement M

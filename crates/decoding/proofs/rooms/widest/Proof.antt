@@ -5,12 +5,12 @@ use mathlib.Core.Path.{◌≡◌, ◌∙◌, ap, ap₂, sym}
 use native.Mathlib.Numerals.{add-one}
 use native.Mathlib.Omega.{arith}
 use Prim.Native.Nat.{ℕ, max, ◌-◌, ◌≤◌}
-use Rattle.decoding.specs.Needs.{widestEntry}
+use Rattle.decoding.specs.Needs.{widest_entry}
 use Rattle.decoding.proofs.rooms.widest.Statement.{statement}
 use Rattle.decoding.proofs.rooms.widest.Tie as tie
 
 abbrev invariant-loop : tie.invariant-loop
-invariant-loop profile n most₀ t₀ most t = (t ≤ n) × (most ≡ widestEntry profile t)
+invariant-loop profile n most₀ t₀ most t = (t ≤ n) × (most ≡ widest_entry profile t)
 
 abbrev decreases-loop : tie.decreases-loop
 decreases-loop profile n most₀ t₀ most t = n - t
@@ -47,8 +47,8 @@ loop-again c =
     let l = c.before.before.before.before.loop in (
       omega (arith, c.before.before.before.loop-test.true),
       c.greater.ensures ∙ ap₂ max c.before.wide2.ensures l.invariant.1
-          ∙ ap (λ (x : ℕ). max (get_or c.before.before.before.before.before.before.before.before.args.profile.now x 0) (widestEntry c.before.before.before.before.before.before.before.before.args.profile.now l.t)) (add-one l.t)
-          ∙ ap (widestEntry c.before.before.before.before.before.before.before.before.args.profile.now) (sym (add-one l.t)),
+          ∙ ap (λ (x : ℕ). max (get_or c.before.before.before.before.before.before.before.before.args.profile.now x 0) (widest_entry c.before.before.before.before.before.before.before.before.args.profile.now l.t)) (add-one l.t)
+          ∙ ap (widest_entry c.before.before.before.before.before.before.before.before.args.profile.now) (sym (add-one l.t)),
     )
 
 returns : tie.Need-returns invariant-loop decreases-loop

@@ -38,7 +38,7 @@ returns c =
     record {
       most = l.invariant.0;
       before = l.invariant.1;
-      here = λ h. subst (λ (y : ℤ). limit < nat_abs y) {y = get_or c.before.before.before.before.before.args.samples.now c.before.before.before.before.loop.i (pos 0)} (to_z-of_z {w = w16} (record { sfits = c.before.before.is-over-arg.given })) (c.before.is-over.ensures.yes-is c.if1.true);
+      here = λ h. subst (λ (y : ℤ). limit < nat_abs y) {y = get_or c.before.before.before.before.before.args.samples.now c.before.before.before.before.loop.i (pos 0)} (to_z-of_z {w = w16} (record { sfits = c.before.before.is-over-arg.given })) (c.before.is-over.ensures.yes_is c.if1.true);
     }
 
 add-i : tie.Need-overflow-add-i invariant-loop decreases-loop
@@ -52,7 +52,7 @@ loop-again c =
     let l = c.before.before.before.before.loop in
     let s = c.before.before.before.before.before in (
       omega (arith, c.before.before.before.loop-test.true),
-      λ j h. passed s.args.samples.now l.i l.invariant.1 (subst (λ (y : ℤ). nat_abs y ≤ limit) {y = get_or s.args.samples.now l.i (pos 0)} (to_z-of_z {w = w16} (record { sfits = c.before.before.is-over-arg.given })) (c.before.is-over.ensures.no-is c.if1.false)) j h,
+      λ j h. passed s.args.samples.now l.i l.invariant.1 (subst (λ (y : ℤ). nat_abs y ≤ limit) {y = get_or s.args.samples.now l.i (pos 0)} (to_z-of_z {w = w16} (record { sfits = c.before.before.is-over-arg.given })) (c.before.is-over.ensures.no_is c.if1.false)) j h,
     )
 
 returns-2 : tie.Need-returns-2 invariant-loop decreases-loop

@@ -12,7 +12,7 @@ use Rattle.decoding.proofs.samples.is_over.Tie as tie
 returns : tie.Need-returns
 returns c =
     let e : lt_z (pos 2047) c.before.args.sample ≡ true = rw (to_z-of_z c.before.ranges.sample) at c.if1.true in
-    record { yes-is = λ f. over-high c.before.args.sample e; no-is = λ f. absurd (true≢false f) }
+    record { yes_is = λ f. over-high c.before.args.sample e; no_is = λ f. absurd (true≢false f) }
 
 sub-result : tie.Need-overflow-sub-result
 sub-result c = record { sfits = omega arith }

@@ -6,8 +6,8 @@ use mir.Facts.{to_z-of_z}
 use mir.Syntax.{w32}
 use native.Mathlib.Omega.{arith}
 use Rattle.decoding.specs.Sweeping.{undecided}
-use Rattle.decoding.specs.Turning.{turnedBy}
-use Rattle.decoding.proofs.SearchEnds.{from-small, metric-there, rooms-turned, rooms-unforced, swept-unforced}
+use Rattle.decoding.specs.Turning.{turned_by}
+use Rattle.decoding.proofs.SearchEnds.{from_small, metric-there, rooms-turned, rooms-unforced, swept-unforced}
 use Rattle.decoding.proofs.Undecided.{metric-searched, undecided-fits}
 use Rattle.decoding.proofs.search.search_metric.Statement.{statement}
 use Rattle.decoding.proofs.search.search_metric.Tie as tie
@@ -26,15 +26,15 @@ sweep-requires c κs =
 mul-metric : tie.Need-overflow-mul-metric
 mul-metric c =
     let s = c.before.before.before.before.before.before.before.before in
-    record { fits = omega (arith, from-small s.args.rows.now (undecided s.args.sizes) (turnedBy s.args.sizes.rest s.args.samples.now) s.args.metrics.now [] (undecided-fits s.requires.0) (rooms-turned s.args.sizes.rest s.requires.1) _ c.before.before.before.before.before.before.ending-rows.ensures _ _ _ (swept-unforced s.requires.1 c.before.before.sweep.ensures), s.requires.0.half-small) }
+    record { fits = omega (arith, from_small s.args.rows.now (undecided s.args.sizes) (turned_by s.args.sizes.rest s.args.samples.now) s.args.metrics.now [] (undecided-fits s.requires.0) (rooms-turned s.args.sizes.rest s.requires.1) _ c.before.before.before.before.before.before.ending-rows.ensures _ _ _ (swept-unforced s.requires.1 c.before.before.sweep.ensures), s.requires.0.half_small) }
 
 slice-copy-out-metric : tie.Need-slice-copy-out-metric
 slice-copy-out-metric c =
     let s = c.before.before.before.before.before.before.before.before in
-    metric-there s.args.rows.now (undecided s.args.sizes) (turnedBy s.args.sizes.rest s.args.samples.now) s.args.metrics.now [] (undecided-fits s.requires.0) (rooms-turned s.args.sizes.rest s.requires.1) _ c.before.before.before.before.before.before.ending-rows.ensures _ _ _ (swept-unforced s.requires.1 c.before.before.sweep.ensures)
+    metric-there s.args.rows.now (undecided s.args.sizes) (turned_by s.args.sizes.rest s.args.samples.now) s.args.metrics.now [] (undecided-fits s.requires.0) (rooms-turned s.args.sizes.rest s.requires.1) _ c.before.before.before.before.before.before.ending-rows.ensures _ _ _ (swept-unforced s.requires.1 c.before.before.sweep.ensures)
 
 same_length : tie.Need-same-length
-same_length c = c.before.before.before.before.sweep.ensures.kept.metrics-size
+same_length c = c.before.before.before.before.sweep.ensures.kept.metrics_size
 
 returns : tie.Need-returns
 returns c =

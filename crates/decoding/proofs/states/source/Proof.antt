@@ -3,7 +3,7 @@ use borrow.Author.Rules.{rules}
 use mathlib.Core.Path.{◌≡◌}
 use native.Mathlib.Omega.{arith}
 use Rattle.decoding.proofs.Targets.{place-lt, source_is}
-use Rattle.trellises.specs.Numbers.{leadsTo}
+use Rattle.trellises.specs.Numbers.{leads_to}
 use Rattle.decoding.proofs.states.source.Statement.{statement}
 use Rattle.decoding.proofs.states.source.Tie as tie
 
@@ -13,7 +13,7 @@ place-requires c κs = search rules
 target-requires : tie.Need-target-requires
 target-requires c κs = omega (arith, c.place.ensures, place-lt c.before.args.section c.before.requires.section)
 
-leads : (c : tie.After-target) → c.target.result ≡ leadsTo c.before.before.args.section c.before.before.args.x
+leads : (c : tie.After-target) → c.target.result ≡ leads_to c.before.before.args.section c.before.before.args.x
 leads c =
     source_is c.before.before.args.section c.before.before.requires.section c.before.before.args.x c.before.place.result c.target.result
     c.before.before.requires.branch c.before.place.ensures c.target.ensures

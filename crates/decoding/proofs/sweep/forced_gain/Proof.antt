@@ -8,7 +8,7 @@ use mir.Facts.{sfits_widen, to_z-of_z}
 use mir.Syntax.{w16, w32}
 use native.Mathlib.Omega.{arith}
 use Prim.Native.Nat.{ℕ}
-use Rattle.decoding.specs.Sweeping.{forcedTo}
+use Rattle.decoding.specs.Sweeping.{forced_to}
 use Rattle.decoding.proofs.sweep.forced_gain.Statement.{statement}
 use Rattle.decoding.proofs.sweep.forced_gain.Tie as tie
 
@@ -18,7 +18,7 @@ returns c =
     let f = s.args.forced in
     to_z-of_z {w = w32} {z = f.gain} (record { sfits = c.struct_told.given.1.0.1 })
     ∙ sym (get_or-set_same s.args.samples.now f.position f.gain (pos 0) (omega (arith, c.before.if1.true, s.requires)))
-    ∙ ap (λ (i : ℕ). get_or (forcedTo s.args.samples.now f) i (pos 0)) (sym c.before.if1.true)
+    ∙ ap (λ (i : ℕ). get_or (forced_to s.args.samples.now f) i (pos 0)) (sym c.before.if1.true)
 
 mul-gain : tie.Need-overflow-mul-gain
 mul-gain c = search rules

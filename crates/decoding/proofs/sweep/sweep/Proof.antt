@@ -5,24 +5,24 @@ use mathlib.Core.Path.{◌≡◌, ◌∙◌, subst}
 use native.Mathlib.Nat.{le_refl}
 use native.Mathlib.Omega.{arith}
 use Prim.Native.Nat.{ℕ, ◌≤◌}
-use Rattle.decoding.specs.Sweeping.{SectionSwept, Swept, gainsOf}
+use Rattle.decoding.specs.Sweeping.{SectionSwept, Swept, gains_of}
 use Rattle.decoding.proofs.SweepEnds.{before-section, kept_refl, kept_trans, room-start, rooms-kept, sweep-start}
 use Rattle.decoding.proofs.sweep.sweep.Statement.{statement}
 use Rattle.decoding.proofs.sweep.sweep.Tie as tie
 
 abbrev invariant-loop : tie.invariant-loop
-invariant-loop rows sizes ends samples forced metrics₀ decisions₀ at₀ t₀ metrics decisions at t = (t ≤ sizes.n) × SectionSwept rows sizes (gainsOf sizes samples forced) t metrics₀ decisions₀ metrics decisions at
+invariant-loop rows sizes ends samples forced metrics₀ decisions₀ at₀ t₀ metrics decisions at t = (t ≤ sizes.n) × SectionSwept rows sizes (gains_of sizes samples forced) t metrics₀ decisions₀ metrics decisions at
 
 abbrev decreases-loop : tie.decreases-loop
 decreases-loop rows sizes ends samples forced metrics₀ decisions₀ at₀ t₀ metrics decisions at t = t
 
 slice-set-of-metrics : tie.Need-slice-set-of-metrics invariant-loop decreases-loop
-slice-set-of-metrics c = let s = c.before.before in room-start s.args.rows.now s.args.sizes (gainsOf s.args.sizes s.args.samples.now s.args.forced) s.args.metrics.now s.args.decisions.now s.requires.0 s.requires.1.1
+slice-set-of-metrics c = let s = c.before.before in room-start s.args.rows.now s.args.sizes (gains_of s.args.sizes s.args.samples.now s.args.forced) s.args.metrics.now s.args.decisions.now s.requires.0 s.requires.1.1
 
 loop-holds : tie.Need-loop-init invariant-loop decreases-loop
 loop-holds c =
     let s = c.before.before in
-    (le_refl _, record { swept = (sweep-start s.args.rows.now s.args.sizes (gainsOf s.args.sizes s.args.samples.now s.args.forced) s.args.metrics.now s.args.decisions.now s.requires.0 s.requires.1.1).swept; kept = kept_refl _ _ _ })
+    (le_refl _, record { swept = (sweep-start s.args.rows.now s.args.sizes (gains_of s.args.sizes s.args.samples.now s.args.forced) s.args.metrics.now s.args.decisions.now s.requires.0 s.requires.1.1).swept; kept = kept_refl _ _ _ })
 
 sub-t : tie.Need-overflow-sub-t invariant-loop decreases-loop
 sub-t c = search rules
@@ -31,8 +31,8 @@ sweep-section-requires : tie.Need-sweep-section-requires invariant-loop decrease
 sweep-section-requires c κs =
     let s = c.before.before.before.before.before.before in
     let l = c.before.before.before.loop in
-    before-section s.args.rows.now s.args.sizes (gainsOf s.args.sizes s.args.samples.now s.args.forced) _ _ s.requires.0
-    (rooms-kept (sweep-start s.args.rows.now s.args.sizes (gainsOf s.args.sizes s.args.samples.now s.args.forced) s.args.metrics.now s.args.decisions.now s.requires.0 s.requires.1.1).kept s.requires.1.1) s.args.ends.now s.requires.1.0 l.t c.before.before.loop-test.true l.invariant.0 _ _ _ l.invariant.1
+    before-section s.args.rows.now s.args.sizes (gains_of s.args.sizes s.args.samples.now s.args.forced) _ _ s.requires.0
+    (rooms-kept (sweep-start s.args.rows.now s.args.sizes (gains_of s.args.sizes s.args.samples.now s.args.forced) s.args.metrics.now s.args.decisions.now s.requires.0 s.requires.1.1).kept s.requires.1.1) s.args.ends.now s.requires.1.0 l.t c.before.before.loop-test.true l.invariant.0 _ _ _ l.invariant.1
 
 loop-less : tie.Need-loop-smaller invariant-loop decreases-loop
 loop-less c = search rules
@@ -46,10 +46,10 @@ loop-again c =
 same_length : tie.Need-same-length invariant-loop decreases-loop
 same_length c =
     let s = c.before.before.before.before in
-    c.before.loop.invariant.1.kept.metrics-size ∙ (sweep-start s.args.rows.now s.args.sizes (gainsOf s.args.sizes s.args.samples.now s.args.forced) s.args.metrics.now s.args.decisions.now s.requires.0 s.requires.1.1).kept.metrics-size
+    c.before.loop.invariant.1.kept.metrics_size ∙ (sweep-start s.args.rows.now s.args.sizes (gains_of s.args.sizes s.args.samples.now s.args.forced) s.args.metrics.now s.args.decisions.now s.requires.0 s.requires.1.1).kept.metrics_size
 
 same-length-2 : tie.Need-same-length-2 invariant-loop decreases-loop
-same-length-2 c = c.before.loop.invariant.1.kept.decisions-size
+same-length-2 c = c.before.loop.invariant.1.kept.decisions_size
 
 returns : tie.Need-returns invariant-loop decreases-loop
 returns c =
@@ -57,8 +57,8 @@ returns c =
     let l = c.before.loop in
     let z : l.t ≡ 0 = omega (arith, c.loop-test.false) in
     record {
-      swept = subst (λ (t : ℕ). Swept (take s.args.sizes.k s.args.rows.now) s.args.sizes (gainsOf s.args.sizes s.args.samples.now s.args.forced) t l.metrics l.decisions l.at) z l.invariant.1.swept;
-      kept = kept_trans (sweep-start s.args.rows.now s.args.sizes (gainsOf s.args.sizes s.args.samples.now s.args.forced) s.args.metrics.now s.args.decisions.now s.requires.0 s.requires.1.1).kept l.invariant.1.kept;
+      swept = subst (λ (t : ℕ). Swept (take s.args.sizes.k s.args.rows.now) s.args.sizes (gains_of s.args.sizes s.args.samples.now s.args.forced) t l.metrics l.decisions l.at) z l.invariant.1.swept;
+      kept = kept_trans (sweep-start s.args.rows.now s.args.sizes (gains_of s.args.sizes s.args.samples.now s.args.forced) s.args.metrics.now s.args.decisions.now s.requires.0 s.requires.1.1).kept l.invariant.1.kept;
     }
 
 pub sweep-spec : {M : Type 1} → statement M

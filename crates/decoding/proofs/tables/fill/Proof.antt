@@ -18,7 +18,7 @@ decreases-loop signs₀ ties₀ weights word gain i₀ signs ties i = 32 - i
 
 loop-holds : tie.Need-loop-init invariant-loop decreases-loop
 loop-holds c =
-    filled_none c.args.word (to_z w32 (of_z w32 c.args.gain)) c.args.signs.now c.args.ties.now c.requires.signs-size c.requires.ties-size
+    filled_none c.args.word (to_z w32 (of_z w32 c.args.gain)) c.args.signs.now c.args.ties.now c.requires.signs_size c.requires.ties_size
 
 mul-digit : tie.Need-overflow-mul-digit invariant-loop decreases-loop
 mul-digit c = search rules
@@ -32,8 +32,8 @@ digit-requires c κs = search rules
 enter-requires : tie.Need-enter-requires invariant-loop decreases-loop
 enter-requires c κs =
     rw (to_z-of_z c.before.before.before.before.before.before.ranges.gain) (record {
-      signs-size = c.before.before.before.before.before.loop.invariant.sign.size;
-      ties-size = c.before.before.before.before.before.loop.invariant.tie.size;
+      signs_size = c.before.before.before.before.before.loop.invariant.sign.size;
+      ties_size = c.before.before.before.before.before.loop.invariant.tie.size;
       place = c.before.before.before.before.loop-test.true;
       digit = omega (arith, (digit-is c.before.before.before.before.before.before.args.word c.before.before.before.before.before.loop.i _ c.before.before.digit.result (c.before.before.before.before.before.before.requires.masks.weight c.before.before.before.before.before.loop.i c.before.before.before.before.loop-test.true) c.before.before.digit.ensures), bit-lt c.before.before.before.before.before.loop.i c.before.before.before.before.before.before.args.word);
       gain = c.before.before.before.before.before.before.requires.gain;

@@ -8,16 +8,16 @@ use Rattle.exports.proofs.cells.firmness_shaped.Statement.{statement}
 use Rattle.exports.proofs.cells.firmness_shaped.Tie as tie
 
 returns : tie.Need-returns
-returns c = record { yes-is = λ e. let z : ◌≡◌ {A = ℕ} 0 1 = cc in absurd (omega arith); no-is = λ e s. omega (arith, s.0) }
+returns c = record { yes_is = λ e. let z : ◌≡◌ {A = ℕ} 0 1 = cc in absurd (omega arith); no_is = λ e s. omega (arith, s.0) }
 
 returns-2 : tie.Need-returns-2
-returns-2 c = record { yes-is = λ e. let z : ◌≡◌ {A = ℕ} 0 1 = cc in absurd (omega arith); no-is = λ e s. omega (arith, s.1) }
+returns-2 c = record { yes_is = λ e. let z : ◌≡◌ {A = ℕ} 0 1 = cc in absurd (omega arith); no_is = λ e s. omega (arith, s.1) }
 
 returns-3 : tie.Need-returns-3
-returns-3 c = record { yes-is = λ e. let z : ◌≡◌ {A = ℕ} 0 1 = cc in absurd (omega arith); no-is = λ e s. omega (arith, s.2) }
+returns-3 c = record { yes_is = λ e. let z : ◌≡◌ {A = ℕ} 0 1 = cc in absurd (omega arith); no_is = λ e s. omega (arith, s.2) }
 
 returns-4 : tie.Need-returns-4
-returns-4 c = record { yes-is = search rules; no-is = λ e s. omega (arith, leb-false 1 c.before.before.before.args.at e, s.3) }
+returns-4 c = record { yes_is = search rules; no_is = λ e s. omega (arith, leb-false 1 c.before.before.before.args.at e, s.3) }
 
 pub firmness-shaped-spec : {M : Type 1} → statement M
 firmness-shaped-spec = tie.close (tie.spec returns returns-2 returns-3 returns-4)

@@ -2,7 +2,7 @@
 use borrow.Author.Rules.{rules}
 use mathlib.Core.Path.{◌∙◌, ap, sym}
 use Rattle.exports.proofs.CallsMade.{same_code}
-use Rattle.exports.specs.Crossing.{writtenAs}
+use Rattle.exports.specs.Crossing.{written_as}
 use Rattle.exports.proofs.cells.written_length.Statement.{statement}
 use Rattle.exports.proofs.cells.written_length.Tie as tie
 
@@ -22,10 +22,10 @@ same_length : tie.Need-same-length
 same_length c = search rules
 
 returns : tie.Need-returns
-returns c = λ room. sym (ap (writtenAs c.before.before.before.before.args.size.now room) c.before.reply.given.1)
+returns c = λ room. sym (ap (written_as c.before.before.before.before.args.size.now room) c.before.reply.given.1)
 
 returns-2 : tie.Need-returns-2
-returns-2 c = λ room. same_code c.refusal-number.ensures ∙ sym (ap (writtenAs c.before.before.before.before.before.args.size.now room) c.before.before.reply2.given.1)
+returns-2 c = λ room. same_code c.refusal-number.ensures ∙ sym (ap (written_as c.before.before.before.before.before.args.size.now room) c.before.before.reply2.given.1)
 
 pub written-length-spec : {M : Type 1} → statement M
 written-length-spec =

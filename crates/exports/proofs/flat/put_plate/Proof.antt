@@ -1,7 +1,7 @@
 -- `exports::flat::put_plate` meets its contract: the three steps.
 use borrow.Author.Rules.{rules}
 use Rattle.exports.proofs.PlatePut.{put_whole}
-use Rattle.plates.specs.Prepare.{ofParts}
+use Rattle.plates.specs.Prepare.{of_parts}
 use Rattle.exports.proofs.flat.put_plate.Statement.{statement}
 use Rattle.exports.proofs.flat.put_plate.Tie as tie
 
@@ -23,7 +23,7 @@ returns c =
     let numbers = rows.before.before.before.before in
     let start = numbers.before.before.before in
     let a = start.args in
-    put_whole a.words.now (ofParts a.n a.k a.mask a.rows.now a.profile.now) start.requires.0 start.requires.1 start.requires.2 _ _ _
+    put_whole a.words.now (of_parts a.n a.k a.mask a.rows.now a.profile.now) start.requires.0 start.requires.1 start.requires.2 _ _ _
     numbers.put-numbers.ensures
     rows.put-rows.ensures
     c.before.before.put-profile.ensures

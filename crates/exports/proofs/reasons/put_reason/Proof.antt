@@ -38,7 +38,7 @@ returns c =
     let s = c.before.before.before.before in
     record {
       told_is = ap₂ (λ (n p : ℕ). set (set s.args.told.now 0 n) 1 p) c.before.number_of_lem.ensures c.position-of.ensures;
-      difference-is = ap (λ (d : ℤ). set s.args.difference.now 0 d) (to_z-of_z {w = w32} (record { sfits = c.before.before.difference-of.type-inv }) ∙ c.before.before.difference-of.ensures);
+      difference_is = ap (λ (d : ℤ). set s.args.difference.now 0 d) (to_z-of_z {w = w32} (record { sfits = c.before.before.difference-of.type-inv }) ∙ c.before.before.difference-of.ensures);
     }
 
 pub put-reason-spec : {M : Type 1} → statement M

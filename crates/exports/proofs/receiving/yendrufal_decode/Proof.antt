@@ -12,7 +12,7 @@ use Rattle.exports.proofs.receiving.yendrufal_decode.Tie as tie
 -- the runs are long enough
 shaped : (c : tie.Else1) → let a = c.before.before.before.before.before.before.before.args in
     DecodeShape (length a.plate.now) (length a.word.now) (length a.metric.now) (length a.counts.now) (length a.at.now)
-shaped c = c.before.decode-shaped.ensures.yes-is (not-false _ c.if1.false)
+shaped c = c.before.decode-shaped.ensures.yes_is (not-false _ c.if1.false)
 
 -- so they were when the call below was made
 abbrev asked : tie.After-decode-parts → tie.Else1
@@ -50,7 +50,7 @@ yendrufal-decode-spec =
     tie.close
     (tie.spec
     (λ c κs. search rules)  -- decode_shaped
-    (λ c. misshaped (c.before.decode-shaped.ensures.no-is (not-true _ c.if1.true)))
+    (λ c. misshaped (c.before.decode-shaped.ensures.no_is (not-true _ c.if1.true)))
     (λ c. omega (arith, (shaped c.before).0))  -- plate[0]
     (λ c. omega (arith, (shaped c.before.before).0))  -- plate[1]
     (λ c. omega (arith, (shaped c.before.before.before).0))  -- plate[MASK]

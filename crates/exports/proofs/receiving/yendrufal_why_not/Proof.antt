@@ -12,7 +12,7 @@ use Rattle.exports.proofs.receiving.yendrufal_why_not.Tie as tie
 -- the runs are long enough
 shaped : (c : tie.Else1) → let a = c.before.before.before.before.before.before.args in
     PartShape (length a.plate.now) (length a.difference.now) (length a.reason.now) (length a.at.now)
-shaped c = c.before.part-shaped.ensures.yes-is (not-false _ c.if1.false)
+shaped c = c.before.part-shaped.ensures.yes_is (not-false _ c.if1.false)
 
 -- so they were when the call below was made
 abbrev asked : tie.After-why-not-parts → tie.Else1
@@ -41,7 +41,7 @@ yendrufal-why-not-spec =
     tie.close
     (tie.spec
     (λ c κs. search rules)  -- &plate[2..66]
-    (λ c. misshaped (c.before.part-shaped.ensures.no-is (not-true _ c.if1.true)))
+    (λ c. misshaped (c.before.part-shaped.ensures.no_is (not-true _ c.if1.true)))
     (λ c. omega (arith, (shaped c.before).0))  -- plate[0]
     (λ c. omega (arith, (shaped c.before.before).0))  -- plate[1]
     (λ c. omega (arith, (shaped c.before.before.before).0))  -- plate[MASK]

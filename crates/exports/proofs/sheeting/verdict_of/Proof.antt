@@ -1,12 +1,12 @@
 -- `exports::sheeting::verdict_of` meets its contract.
 use borrow.Author.Rules.{rules}
 use mathlib.Core.Path.{ap, sym}
-use Rattle.exports.specs.Sheeting.{verdictOf}
+use Rattle.exports.specs.Sheeting.{verdict_of}
 use Rattle.exports.proofs.sheeting.verdict_of.Statement.{statement}
 use Rattle.exports.proofs.sheeting.verdict_of.Tie as tie
 
 returns : tie.Need-returns
-returns c = sym (ap verdictOf c.before.stage.given.1)
+returns c = sym (ap verdict_of c.before.stage.given.1)
 
 pub verdict-of-spec : {M : Type 1} → statement M
 verdict-of-spec =

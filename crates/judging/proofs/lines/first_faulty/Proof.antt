@@ -5,13 +5,13 @@ use mathlib.Core.Path.{ap, ap₂, refl, sym, ◌∙◌, ◌≡◌}
 use native.Mathlib.Omega.{arith}
 use Prim.Native.Nat.{◌+◌, ◌-◌}
 use Rattle.sheets.specs.Listed.{entries}
-use Rattle.judging.specs.Listing.{branchIn, depthBefore, faulty, faultyAt}
+use Rattle.judging.specs.Listing.{branch_in, depth_before, faulty, faulty_at}
 use Rattle.judging.proofs.Reading.{Reading, Searching, depth-after, reading-end, reading-on, reading-start, searching-found, searching-none, searching-on, searching-start}
 use Rattle.judging.proofs.lines.first_faulty.Statement.{statement}
 use Rattle.judging.proofs.lines.first_faulty.Tie as tie
 
 abbrev invariant-loop : tie.invariant-loop
-invariant-loop text n i₀ at₀ before₀ i at before = Reading n text i at × (before ≡ depthBefore (entries n text) i) × Searching (length (entries n text)) (faultyAt (entries n text)) i
+invariant-loop text n i₀ at₀ before₀ i at before = Reading n text i at × (before ≡ depth_before (entries n text) i) × Searching (length (entries n text)) (faulty_at (entries n text)) i
 
 abbrev decreases-loop : tie.decreases-loop
 decreases-loop text n i₀ at₀ before₀ i at before = length text + 1 - at
@@ -29,7 +29,7 @@ returns : tie.Need-returns invariant-loop decreases-loop
 returns c =
     let l = c.before.before.before.before.loop in
     let m = reading-on _ _ l.i l.at l.invariant.0 c.before.before.before.loop-test.true c.before.before.read-entry.result c.before.before.read-entry.ensures in
-    searching-found l.invariant.2 m.there (ap₂ faulty m.line-is (sym l.invariant.1) ∙ sym c.before.is-faulty.ensures ∙ c.if1.true)
+    searching-found l.invariant.2 m.there (ap₂ faulty m.line_is (sym l.invariant.1) ∙ sym c.before.is-faulty.ensures ∙ c.if1.true)
 
 branch-in-requires : tie.Need-branch-in-requires invariant-loop decreases-loop
 branch-in-requires c κs = search rules
@@ -47,7 +47,7 @@ loop-again : tie.Need-loop-preserved invariant-loop decreases-loop
 loop-again c =
     let l = c.before.before.before.before.before.loop in
     let m = reading-on _ _ l.i l.at l.invariant.0 c.before.before.before.before.loop-test.true c.before.before.before.read-entry.result c.before.before.before.read-entry.ensures in
-    (m.on, depth-after _ l.i c.Branch-in.result (c.Branch-in.ensures ∙ ap branchIn (sym m.line-is)), searching-on l.invariant.2 (ap₂ faulty m.line-is (sym l.invariant.1) ∙ sym c.before.before.is-faulty.ensures ∙ c.before.if1.false))
+    (m.on, depth-after _ l.i c.Branch-in.result (c.Branch-in.ensures ∙ ap branch_in (sym m.line_is)), searching-on l.invariant.2 (ap₂ faulty m.line_is (sym l.invariant.1) ∙ sym c.before.before.is-faulty.ensures ∙ c.before.if1.false))
 
 returns-2 : tie.Need-returns-2 invariant-loop decreases-loop
 returns-2 c =

@@ -5,13 +5,13 @@ use mathlib.Core.Path.{ap, sym, ◌∙◌}
 use native.Mathlib.Omega.{arith}
 use Prim.Native.Nat.{◌+◌, ◌-◌}
 use Rattle.sheets.specs.Listed.{entries}
-use Rattle.judging.specs.Listing.{branchIn, clashes, repeatsAt}
+use Rattle.judging.specs.Listing.{branch_in, clashes, repeats_at}
 use Rattle.judging.proofs.Reading.{Reading, Searching, reading-end, reading-on, reading-start, searching-found, searching-none, searching-on, searching-start}
 use Rattle.judging.proofs.lines.first_repeating.Statement.{statement}
 use Rattle.judging.proofs.lines.first_repeating.Tie as tie
 
 abbrev invariant-loop : tie.invariant-loop
-invariant-loop text n i₀ at₀ i at = Reading n text i at × Searching (length (entries n text)) (repeatsAt (entries n text)) i
+invariant-loop text n i₀ at₀ i at = Reading n text i at × Searching (length (entries n text)) (repeats_at (entries n text)) i
 
 abbrev decreases-loop : tie.decreases-loop
 decreases-loop text n i₀ at₀ i at = length text + 1 - at
@@ -32,7 +32,7 @@ returns : tie.Need-returns invariant-loop decreases-loop
 returns c =
     let l = c.before.before.before.before.before.loop in
     let m = reading-on _ _ l.i l.at l.invariant.0 c.before.before.before.before.loop-test.true c.before.before.before.read-entry.result c.before.before.before.read-entry.ensures in
-    searching-found l.invariant.1 m.there (ap (clashes (entries c.before.before.before.before.before.before.before.args.n c.before.before.before.before.before.before.before.args.text.now) l.i) (ap branchIn m.line-is ∙ sym c.before.before.Branch-in.ensures) ∙ sym c.before.clashes-among.ensures ∙ c.if1.true)
+    searching-found l.invariant.1 m.there (ap (clashes (entries c.before.before.before.before.before.before.before.args.n c.before.before.before.before.before.before.before.args.text.now) l.i) (ap branch_in m.line_is ∙ sym c.before.before.Branch-in.ensures) ∙ sym c.before.clashes-among.ensures ∙ c.if1.true)
 
 add-i : tie.Need-overflow-add-i invariant-loop decreases-loop
 add-i c = search rules
@@ -47,7 +47,7 @@ loop-again : tie.Need-loop-preserved invariant-loop decreases-loop
 loop-again c =
     let l = c.before.before.before.before.before.loop in
     let m = reading-on _ _ l.i l.at l.invariant.0 c.before.before.before.before.loop-test.true c.before.before.before.read-entry.result c.before.before.before.read-entry.ensures in
-    (m.on, searching-on l.invariant.1 (ap (clashes (entries c.before.before.before.before.before.before.before.args.n c.before.before.before.before.before.before.before.args.text.now) l.i) (ap branchIn m.line-is ∙ sym c.before.before.Branch-in.ensures) ∙ sym c.before.clashes-among.ensures ∙ c.if1.false))
+    (m.on, searching-on l.invariant.1 (ap (clashes (entries c.before.before.before.before.before.before.before.args.n c.before.before.before.before.before.before.before.args.text.now) l.i) (ap branch_in m.line_is ∙ sym c.before.before.Branch-in.ensures) ∙ sym c.before.clashes-among.ensures ∙ c.if1.false))
 
 returns-2 : tie.Need-returns-2 invariant-loop decreases-loop
 returns-2 c =

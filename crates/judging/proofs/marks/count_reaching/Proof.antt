@@ -5,13 +5,13 @@ use mathlib.Core.Bool.{Bool}
 use mathlib.Core.Path.{◌∙◌, ap}
 use Prim.Native.Nat.{◌-◌}
 use Rattle.words.specs.Choice.{more}
-use Rattle.judging.specs.Marks.{reachTest}
+use Rattle.judging.specs.Marks.{reach_test}
 use Rattle.judging.proofs.Counting.{Tallied, tallied-end, tallied-on, tallied-small, tallied-start}
 use Rattle.judging.proofs.marks.count_reaching.Statement.{statement}
 use Rattle.judging.proofs.marks.count_reaching.Tie as tie
 
 abbrev invariant-loop : tie.invariant-loop
-invariant-loop room lines section state c₀ j₀ c j = Tallied lines (reachTest room section state) j c
+invariant-loop room lines section state c₀ j₀ c j = Tallied lines (reach_test room section state) j c
 
 abbrev decreases-loop : tie.decreases-loop
 decreases-loop room lines section state c₀ j₀ c j = j

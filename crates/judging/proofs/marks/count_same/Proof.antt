@@ -5,13 +5,13 @@ use mathlib.Core.Bool.{Bool}
 use mathlib.Core.Path.{◌∙◌, ap}
 use Prim.Native.Nat.{◌-◌}
 use Rattle.words.specs.Choice.{more}
-use Rattle.judging.specs.Marks.{sameTest}
+use Rattle.judging.specs.Marks.{same_test}
 use Rattle.judging.proofs.Counting.{Tallied, tallied-end, tallied-on, tallied-small, tallied-start}
 use Rattle.judging.proofs.marks.count_same.Statement.{statement}
 use Rattle.judging.proofs.marks.count_same.Tie as tie
 
 abbrev invariant-loop : tie.invariant-loop
-invariant-loop room first t state c₀ j₀ c j = Tallied first (sameTest room t state) j c
+invariant-loop room first t state c₀ j₀ c j = Tallied first (same_test room t state) j c
 
 abbrev decreases-loop : tie.decreases-loop
 decreases-loop room first t state c₀ j₀ c j = j

@@ -5,13 +5,13 @@ use mathlib.Core.Bool.{Bool}
 use mathlib.Core.Path.{◌∙◌, ap}
 use Prim.Native.Nat.{◌-◌}
 use Rattle.words.specs.Choice.{more}
-use Rattle.judging.specs.Marks.{usedTest}
+use Rattle.judging.specs.Marks.{used_test}
 use Rattle.judging.proofs.Counting.{Tallied, tallied-end, tallied-on, tallied-small, tallied-start}
 use Rattle.judging.proofs.marks.count_used.Statement.{statement}
 use Rattle.judging.proofs.marks.count_used.Tie as tie
 
 abbrev invariant-loop : tie.invariant-loop
-invariant-loop room lines t c₀ j₀ c j = Tallied lines (usedTest room t) j c
+invariant-loop room lines t c₀ j₀ c j = Tallied lines (used_test room t) j c
 
 abbrev decreases-loop : tie.decreases-loop
 decreases-loop room lines t c₀ j₀ c j = j

@@ -2,7 +2,7 @@
 use borrow.Author.Rules.{rules}
 use borrow.Author.Tests.{eq-eqb, ne_eqb}
 use Prim.Native.Nat.{◌/◌}
-use Rattle.judging.specs.Marks.{markAt}
+use Rattle.judging.specs.Marks.{mark_at}
 use Rattle.judging.specs.Room.{start_at}
 use Rattle.judging.proofs.marks.is_used.Statement.{statement}
 use Rattle.judging.proofs.marks.is_used.Tie as tie
@@ -32,7 +32,7 @@ shared-slice-read-if2 : tie.Need-shared-slice-read-if2
 shared-slice-read-if2 c = search rules
 
 returns-2 : tie.Need-returns-2
-returns-2 c = rw (eq-eqb (start_at c.before.before.before.before.args.room.now c.before.before.before.before.args.i / 2048) c.before.before.before.before.args.t c.before.before.if1.false, ne_eqb (markAt c.before.before.before.before.args.room.now c.before.before.before.before.args.i) 1 c.if2.true)
+returns-2 c = rw (eq-eqb (start_at c.before.before.before.before.args.room.now c.before.before.before.before.args.i / 2048) c.before.before.before.before.args.t c.before.before.if1.false, ne_eqb (mark_at c.before.before.before.before.args.room.now c.before.before.before.before.args.i) 1 c.if2.true)
 
 mul-result : tie.Need-overflow-mul-result
 mul-result c = search rules
@@ -47,7 +47,7 @@ shared-slice-read-result : tie.Need-shared-slice-read-result
 shared-slice-read-result c = search rules
 
 returns-3 : tie.Need-returns-3
-returns-3 c = rw (eq-eqb (start_at c.before.before.before.before.before.args.room.now c.before.before.before.before.before.args.i / 2048) c.before.before.before.before.before.args.t c.before.before.before.if1.false, eq-eqb (markAt c.before.before.before.before.before.args.room.now c.before.before.before.before.before.args.i) 1 c.before.if2.false)
+returns-3 c = rw (eq-eqb (start_at c.before.before.before.before.before.args.room.now c.before.before.before.before.before.args.i / 2048) c.before.before.before.before.before.args.t c.before.before.before.if1.false, eq-eqb (mark_at c.before.before.before.before.before.args.room.now c.before.before.before.before.before.args.i) 1 c.before.if2.false)
 
 pub is-used-spec : {M : Type 1} → statement M
 is-used-spec =

@@ -2,7 +2,7 @@
 use borrow.Author.Rules.{rules}
 use borrow.Author.Tests.{eq-eqb, ne_eqb}
 use Prim.Native.Nat.{◌/◌}
-use Rattle.judging.specs.Room.{leadAt, start_at}
+use Rattle.judging.specs.Room.{lead_at, start_at}
 use Rattle.judging.proofs.marks.reaches.Statement.{statement}
 use Rattle.judging.proofs.marks.reaches.Tie as tie
 
@@ -31,7 +31,7 @@ shared-slice-read-if2 : tie.Need-shared-slice-read-if2
 shared-slice-read-if2 c = search rules
 
 returns-2 : tie.Need-returns-2
-returns-2 c = rw (eq-eqb (start_at c.before.before.before.before.args.room.now c.before.before.before.before.args.k / 2048) c.before.before.before.before.args.section c.before.before.if1.false, ne_eqb (leadAt c.before.before.before.before.args.room.now c.before.before.before.before.args.k) c.before.before.before.before.args.state c.if2.true)
+returns-2 c = rw (eq-eqb (start_at c.before.before.before.before.args.room.now c.before.before.before.before.args.k / 2048) c.before.before.before.before.args.section c.before.before.if1.false, ne_eqb (lead_at c.before.before.before.before.args.room.now c.before.before.before.before.args.k) c.before.before.before.before.args.state c.if2.true)
 
 mul-result : tie.Need-overflow-mul-result
 mul-result c = search rules
@@ -46,7 +46,7 @@ shared-slice-read-result : tie.Need-shared-slice-read-result
 shared-slice-read-result c = search rules
 
 returns-3 : tie.Need-returns-3
-returns-3 c = rw (eq-eqb (start_at c.before.before.before.before.before.args.room.now c.before.before.before.before.before.args.k / 2048) c.before.before.before.before.before.args.section c.before.before.before.if1.false, eq-eqb (leadAt c.before.before.before.before.before.args.room.now c.before.before.before.before.before.args.k) c.before.before.before.before.before.args.state c.before.if2.false)
+returns-3 c = rw (eq-eqb (start_at c.before.before.before.before.before.args.room.now c.before.before.before.before.before.args.k / 2048) c.before.before.before.before.before.args.section c.before.before.before.if1.false, eq-eqb (lead_at c.before.before.before.before.before.args.room.now c.before.before.before.before.before.args.k) c.before.before.before.before.before.args.state c.before.if2.false)
 
 pub reaches-spec : {M : Type 1} → statement M
 reaches-spec =

@@ -5,7 +5,7 @@ use mathlib.Core.Path.{ap, refl, subst, sym, ◌∙◌, ◌≡◌}
 use native.Mathlib.Omega.{arith}
 use Prim.Native.Nat.{ℕ, ◌+◌, ◌-◌}
 use Rattle.sheets.specs.Listed.{entries}
-use Rattle.judging.specs.Listing.{branchIn}
+use Rattle.judging.specs.Listing.{branch_in}
 use Rattle.judging.specs.Room.{InRange, Stored}
 use Rattle.judging.proofs.Reading.{Reading, reading-end, reading-on, reading-start}
 use Rattle.judging.proofs.RoomSteps.{stored_more, stored-none}
@@ -32,7 +32,7 @@ put-requires c κs =
     let l = c.before.before.before.before.loop in
     let s = c.before.before.before.before.before.before.before in
     let m = reading-on _ _ l.i l.at l.invariant.0 c.before.before.before.loop-test.true c.before.before.read-entry.result c.before.before.read-entry.ensures in
-    (omega (arith, m.there, s.requires.0, l.invariant.1), subst InRange (ap branchIn m.line-is ∙ sym c.before.Branch-in.ensures) (s.requires.1 l.i m.there))
+    (omega (arith, m.there, s.requires.0, l.invariant.1), subst InRange (ap branch_in m.line_is ∙ sym c.before.Branch-in.ensures) (s.requires.1 l.i m.there))
 
 add-i : tie.Need-overflow-add-i invariant-loop decreases-loop
 add-i c = search rules
@@ -47,7 +47,7 @@ loop-again : tie.Need-loop-preserved invariant-loop decreases-loop
 loop-again c =
     let l = c.before.before.before.before.before.before.before.loop in
     let m = reading-on _ _ l.i l.at l.invariant.0 c.before.before.before.before.before.before.loop-test.true c.before.before.before.before.before.read-entry.result c.before.before.before.before.before.read-entry.ensures in
-    (m.on, c.before.before.put.ensures.size ∙ l.invariant.1, stored_more _ l.i l.room _ c.before.before.before.before.Branch-in.result l.invariant.2 c.before.before.put.ensures (c.before.before.before.before.Branch-in.ensures ∙ ap branchIn (sym m.line-is)))
+    (m.on, c.before.before.put.ensures.size ∙ l.invariant.1, stored_more _ l.i l.room _ c.before.before.before.before.Branch-in.result l.invariant.2 c.before.before.put.ensures (c.before.before.before.before.Branch-in.ensures ∙ ap branch_in (sym m.line_is)))
 
 same_length : tie.Need-same-length invariant-loop decreases-loop
 same_length c = c.before.loop.invariant.1

@@ -3,13 +3,13 @@ use borrow.Author.Rules.{rules}
 use borrow.Author.Tests.{eq-eqb, ne_eqb}
 use native.Mathlib.Omega.{arith}
 use Prim.Native.Nat.{◌-◌, ◌≤◌}
-use Rattle.judging.specs.Room.{keyTest, start_at}
+use Rattle.judging.specs.Room.{key_test, start_at}
 use Rattle.judging.proofs.Reading.{Searching, searching-found, searching-none, searching-on, searching-start}
 use Rattle.judging.proofs.rooms.find.Statement.{statement}
 use Rattle.judging.proofs.rooms.find.Tie as tie
 
 abbrev invariant-loop : tie.invariant-loop
-invariant-loop room lines key j₀ j = (j ≤ lines) × Searching lines (keyTest room key) j
+invariant-loop room lines key j₀ j = (j ≤ lines) × Searching lines (key_test room key) j
 
 abbrev decreases-loop : tie.decreases-loop
 decreases-loop room lines key j₀ j = lines - j

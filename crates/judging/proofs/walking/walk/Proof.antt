@@ -29,14 +29,14 @@ step-requires c κs =
     record {
       asking = record { ready = s.requires.ready; within = l.invariant.within; told = λ k j m e. s.requires.told j (omega arith) m };
       before = h;
-      theirs-small = l.invariant.theirs-small;
+      theirs_small = l.invariant.theirs_small;
       ours_small = l.invariant.ours_small;
     }
 
 with-bit-requires : tie.Need-with-bit-requires invariant-loop decreases-loop
 with-bit-requires c κs =
     let l = c.before.before.loop in
-    (omega (arith, c.before.loop-test.true, c.before.before.before.before.before.requires.ready.holds.short), l.invariant.word_small, c.step.ensures.bit-small)
+    (omega (arith, c.before.loop-test.true, c.before.before.before.before.before.requires.ready.holds.short), l.invariant.word_small, c.step.ensures.bit_small)
 
 add-t : tie.Need-overflow-add-t invariant-loop decreases-loop
 add-t c = search rules

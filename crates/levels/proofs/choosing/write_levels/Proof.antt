@@ -8,14 +8,14 @@ use mir.Syntax.{w16}
 use native.Mathlib.Omega.{arith}
 use Prim.Native.Nat.{ℕ, ◌-◌, ◌<◌, ◌≤◌}
 use Rattle.levels.specs.declared.Sample.{Sample}
-use Rattle.levels.specs.Choosing.{LevelOfSample, sampleAt, sampleOf}
+use Rattle.levels.specs.Choosing.{LevelOfSample, sample_at, sample_of}
 use Rattle.levels.specs.Testing.{IsNumber}
 use Rattle.levels.proofs.RoomWritten.{one_more}
 use Rattle.levels.proofs.choosing.write_levels.Statement.{statement}
 use Rattle.levels.proofs.choosing.write_levels.Tie as tie
 
 abbrev invariant-loop : tie.invariant-loop
-invariant-loop setting values erased room₀ i₀ room i = (i ≤ length values) × (length room ≡ length values) × ((j : ℕ) → j < i → LevelOfSample setting (sampleAt values erased j) (get_or room j (pos 0)))
+invariant-loop setting values erased room₀ i₀ room i = (i ≤ length values) × (length room ≡ length values) × ((j : ℕ) → j < i → LevelOfSample setting (sample_at values erased j) (get_or room j (pos 0)))
 
 abbrev decreases-loop : tie.decreases-loop
 decreases-loop setting values erased room₀ i₀ room i = length values - i
@@ -39,7 +39,7 @@ level-of-sample-requires : tie.Need-level-of-sample-requires invariant-loop decr
 level-of-sample-requires c κs =
     let s = c.before.before.before.before.before.before in
     let l = c.before.before.before.before.loop in
-    let same = c.sample-of.ensures ∙ ap (sampleOf _) c.before.bit_at.ensures in
+    let same = c.sample-of.ensures ∙ ap (sample_of _) c.before.bit_at.ensures in
     (s.requires.good, subst IsNumber (sym same) (s.requires.numbers l.i c.before.before.before.loop-test.true))
 
 mul-level : tie.Need-overflow-mul-level invariant-loop decreases-loop
@@ -59,7 +59,7 @@ loop-again c =
     let s = c.before.before.before.before.before.before.before in
     let l = c.before.before.before.before.before.loop in
     let taken = c.before.before.before.before.loop-test.true in
-    let same = c.before.sample-of.ensures ∙ ap (sampleOf _) c.before.before.bit_at.ensures in (
+    let same = c.before.sample-of.ensures ∙ ap (sample_of _) c.before.before.bit_at.ensures in (
       omega (arith, taken),
       length-set l.room l.i _ ∙ l.invariant.1,
       one_more s.args.setting s.args.values.now s.args.erased l.room l.i _ (omega (arith, taken, l.invariant.1)) l.invariant.2

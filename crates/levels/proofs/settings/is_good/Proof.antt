@@ -13,7 +13,7 @@ is-finite-requires : tie.Need-is-finite-requires
 is-finite-requires c κs = search rules
 
 returns : tie.Need-returns
-returns c = not_good (λ g. not_found c.before.is_finite.ensures (not-true _ c.if1.true) g.step-finite)
+returns c = not_good (λ g. not_found c.before.is_finite.ensures (not-true _ c.if1.true) g.step_finite)
 
 times-step-requires : tie.Need-times-step-requires
 times-step-requires c κs = search rules
@@ -23,7 +23,7 @@ is-finite-requires-2 c κs = search rules
 
 returns-2 : tie.Need-returns-2
 returns-2 c =
-    not_good (λ g. not_found (c.before.is-finite2.ensures ∙ ap finite c.before.before.times-step.ensures) (not-true _ c.if2.true) g.top-finite)
+    not_good (λ g. not_found (c.before.is-finite2.ensures ∙ ap finite c.before.before.times-step.ensures) (not-true _ c.if2.true) g.top_finite)
 
 returns-3 : tie.Need-returns-3
 unfolding of_bits

@@ -5,15 +5,15 @@ use lib.ListN.{length}
 use mathlib.Core.Path.{ap, ◌∙◌}
 use native.Mathlib.Omega.{arith}
 use Prim.Native.Nat.{ℕ, ◌-◌, ◌<◌, ◌≤◌}
-use Rattle.levels.specs.Choosing.{sampleAt, sampleOf}
-use Rattle.levels.specs.Giving.{notANumber}
+use Rattle.levels.specs.Choosing.{sample_at, sample_of}
+use Rattle.levels.specs.Giving.{not_a_number}
 use Rattle.levels.specs.Testing.{IsNumber}
 use Rattle.levels.proofs.Tests.{found, not_found}
 use Rattle.levels.proofs.values.first_not_a_number.Statement.{statement}
 use Rattle.levels.proofs.values.first_not_a_number.Tie as tie
 
 abbrev invariant-loop : tie.invariant-loop
-invariant-loop values erased i₀ i = (i ≤ length values) × ((j : ℕ) → j < i → IsNumber (sampleAt values erased j))
+invariant-loop values erased i₀ i = (i ≤ length values) × ((j : ℕ) → j < i → IsNumber (sample_at values erased j))
 
 abbrev decreases-loop : tie.decreases-loop
 decreases-loop values erased i₀ i = length values - i
@@ -42,7 +42,7 @@ returns c =
     record {
       most = l.invariant.0;
       before = l.invariant.1;
-      here = λ h. found (c.before.is-not-a-number.ensures ∙ ap notANumber (c.before.before.sample-of.ensures ∙ ap (sampleOf _) c.before.before.before.bit_at.ensures)) c.if1.true;
+      here = λ h. found (c.before.is-not-a-number.ensures ∙ ap not_a_number (c.before.before.sample-of.ensures ∙ ap (sample_of _) c.before.before.before.bit_at.ensures)) c.if1.true;
     }
 
 add-i : tie.Need-overflow-add-i invariant-loop decreases-loop
@@ -56,8 +56,8 @@ loop-again c =
     let l = c.before.before.before.before.before.before.loop in
     let s = c.before.before.before.before.before.before.before.before in (
       omega (arith, c.before.before.before.before.before.loop-test.true),
-      below_more (λ (j : ℕ). IsNumber (sampleAt s.args.values.now s.args.erased j)) l.i l.invariant.1
-          (not_found (c.before.is-not-a-number.ensures ∙ ap notANumber (c.before.before.sample-of.ensures ∙ ap (sampleOf _) c.before.before.before.bit_at.ensures)) c.if1.false),
+      below_more (λ (j : ℕ). IsNumber (sample_at s.args.values.now s.args.erased j)) l.i l.invariant.1
+          (not_found (c.before.is-not-a-number.ensures ∙ ap not_a_number (c.before.before.sample-of.ensures ∙ ap (sample_of _) c.before.before.before.bit_at.ensures)) c.if1.false),
     )
 
 returns-2 : tie.Need-returns-2 invariant-loop decreases-loop

@@ -1,12 +1,12 @@
 -- `levels::values::sample_of` meets its contract.
 use mathlib.Core.Path.{ap, sym}
-use Rattle.levels.specs.Choosing.{sampleOf}
+use Rattle.levels.specs.Choosing.{sample_of}
 use Rattle.levels.proofs.Tests.{erased-is}
 use Rattle.levels.proofs.values.sample_of.Statement.{statement}
 use Rattle.levels.proofs.values.sample_of.Tie as tie
 
 returns : tie.Need-returns
-returns c = sym (ap (sampleOf c.before.args.value) c.if1.true)
+returns c = sym (ap (sample_of c.before.args.value) c.if1.true)
 
 returns-2 : tie.Need-returns-2
 returns-2 c = erased-is c.before.args.value c.before.args.mark c.if1.false

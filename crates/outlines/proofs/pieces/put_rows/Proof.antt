@@ -2,7 +2,7 @@
 use borrow.Author.Rules.{rules}
 use lib.ListN.{length}
 use Prim.Native.Nat.{◌-◌}
-use Rattle.outlines.proofs.Putting.{RowsPut, rows_end, rows_on, rows-size, rows_start}
+use Rattle.outlines.proofs.Putting.{RowsPut, rows_end, rows_on, rows_size, rows_start}
 use Rattle.outlines.proofs.pieces.put_rows.Statement.{statement}
 use Rattle.outlines.proofs.pieces.put_rows.Tie as tie
 
@@ -19,5 +19,5 @@ put-rows-spec =
     (λ c. search rules)  -- i + 1
     (λ c. search rules)  -- the measure falls
     (λ c. search rows_on)  -- the loop goes on
-    (λ c. search rows-size)  -- the room keeps its length
+    (λ c. search rows_size)  -- the room keeps its length
     (λ c. search rows_end))

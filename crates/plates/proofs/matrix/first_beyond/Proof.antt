@@ -28,7 +28,7 @@ reaches-requires : tie.Need-reaches-requires invariant-loop decreases-loop
 reaches-requires c κs = search rules
 
 returns : tie.Need-returns invariant-loop decreases-loop
-returns c = search-found c.before.before.before.before.loop.invariant (c.before.reaches.ensures.yes-is c.if1.true)
+returns c = search-found c.before.before.before.before.loop.invariant (c.before.reaches.ensures.yes_is c.if1.true)
 
 add-i : tie.Need-overflow-add-i invariant-loop decreases-loop
 add-i c = search rules

@@ -28,7 +28,7 @@ ends-at-requires : tie.Need-ends-at-requires invariant-loop decreases-loop
 ends-at-requires c κs = search rules
 
 returns : tie.Need-returns invariant-loop decreases-loop
-returns c = down-found c.before.before.before.before.loop.invariant c.before.before.before.loop-test.true (c.before.ends_at.ensures.yes-is c.if1.true)
+returns c = down-found c.before.before.before.before.loop.invariant c.before.before.before.loop-test.true (c.before.ends_at.ensures.yes_is c.if1.true)
 
 loop-less : tie.Need-loop-smaller invariant-loop decreases-loop
 loop-less c = search rules

@@ -23,7 +23,7 @@ reaches-requires : tie.Need-reaches-requires
 reaches-requires c κs = search rules
 
 returns-4 : tie.Need-returns-4
-returns-4 c = fails (λ s. omega (arith, s.masked, (c.before.reaches.ensures.yes-is c.if4.true).over))
+returns-4 c = fails (λ s. omega (arith, s.masked, (c.before.reaches.ensures.yes_is c.if4.true).over))
 
 slice-aggregate-used-sound : tie.Need-slice-aggregate-used-sound
 slice-aggregate-used-sound c =

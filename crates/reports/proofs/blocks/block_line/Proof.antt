@@ -1,5 +1,5 @@
 -- `blocks::block_line` meets its contract.
-use Rattle.sheets.specs.Blocks.{blockAt, counterAt, nextLine}
+use Rattle.sheets.specs.Blocks.{block_at, counter_at, next_line}
 use Rattle.reports.proofs.WrittenSteps.{only-writes}
 use Rattle.reports.proofs.BlockSteps.{block-step, end_step, places-size}
 use Rattle.std.proofs.Common.{replicate, pos, sym, refl, ◌∙◌, rules}
@@ -18,7 +18,7 @@ read-counter-requires c κs = search rules
 samples-line-requires : tie.Need-samples-line-requires
 samples-line-requires c κs =
     let a = c.before.before.before.before.before.before.before.before.before.before.before.before.before.args in
-    rw c.before.before.before.before.before.before.before.before.read-block.ensures.samples (places-size a.report.order (replicate 64 (pos 0)) refl (blockAt a.report.heard a.input.now a.report.at))
+    rw c.before.before.before.before.before.before.before.before.read-block.ensures.samples (places-size a.report.order (replicate 64 (pos 0)) refl (block_at a.report.heard a.input.now a.report.at))
 
 enum_told : tie.Need-enum-told
 enum_told c = search rules
@@ -39,7 +39,7 @@ returns : tie.Need-returns
 returns c =
     let a = c.before.before.before.before.before.before.before.before.before.before.before.before.before.before.before.before.before.before.before.args in
     let r = c.before.before.before.before.before.before.before.before.before.before.before.before.before.before.read-block in
-    block-step (replicate 64 (pos 0)) refl (blockAt a.report.heard a.input.now a.report.at) (counterAt a.input.now a.report.at) (nextLine a.input.now a.report.at) _ _ _
+    block-step (replicate 64 (pos 0)) refl (block_at a.report.heard a.input.now a.report.at) (counter_at a.input.now a.report.at) (next_line a.input.now a.report.at) _ _ _
     (sym c.before.before.before.before.before.before.before.before.before.before.before.before.reply.given.1 ∙ r.ensures.reply) r.ensures.samples (rw c.before.before.before.before.before.before.before.before.before.before.read-counter.ensures at c.before.before.before.before.before.samples-line.ensures)
 
 same-length-4 : tie.Need-same-length-4
@@ -48,7 +48,7 @@ same-length-4 c = search rules
 returns-2 : tie.Need-returns-2
 returns-2 c =
     let a = c.before.before.before.before.before.before.before.before.before.before.before.args in
-    end_step (replicate 64 (pos 0)) refl (blockAt a.report.heard a.input.now a.report.at) (counterAt a.input.now a.report.at) (nextLine a.input.now a.report.at)
+    end_step (replicate 64 (pos 0)) refl (block_at a.report.heard a.input.now a.report.at) (counter_at a.input.now a.report.at) (next_line a.input.now a.report.at)
     (sym c.before.before.before.before.enum_told.given.1 ∙ c.before.before.before.before.before.before.read-block.ensures.reply) (only-writes c.before.before.close-line.ensures)
 
 pub block-line-spec : {M : Type 1} → statement M

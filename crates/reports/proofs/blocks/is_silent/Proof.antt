@@ -1,5 +1,5 @@
 -- `blocks::is_silent` meets its contract.
-use Rattle.reports.specs.Tally.{isRepeat}
+use Rattle.reports.specs.Tally.{is_repeat}
 use Rattle.std.proofs.Common.{ap, ◌∙◌, rules}
 use Rattle.reports.proofs.blocks.is_silent.Statement.{statement}
 use Rattle.reports.proofs.blocks.is_silent.Tie as tie
@@ -11,7 +11,7 @@ is-repeat-requires : tie.Need-is-repeat-requires
 is-repeat-requires c κs = search rules
 
 returns : tie.Need-returns
-returns c = rw c.before.before.if1.true (c.is-repeat.ensures ∙ ap isRepeat c.before.stands.ensures)
+returns c = rw c.before.before.if1.true (c.is-repeat.ensures ∙ ap is_repeat c.before.stands.ensures)
 
 returns-2 : tie.Need-returns-2
 returns-2 c = rw c.if1.false

@@ -2,7 +2,7 @@
 use Rattle.std.proofs.Common.{◌≡◌, ℕ, ◌-◌, refl, ap, ◌∙◌, arith, rules}
 use Rattle.words.proofs.Word.{bit-lt}
 use Rattle.sheets.specs.declared.Order.TheVariants.{Last}
-use Rattle.reports.specs.Printed.{printedAs}
+use Rattle.reports.specs.Printed.{printed_as}
 use Rattle.reports.proofs.PrintedWords.{Reversing, reversing-fits, reversing-on}
 use Rattle.reports.proofs.printing.reversed.Statement.{statement}
 use Rattle.reports.proofs.printing.reversed.Tie as tie
@@ -42,7 +42,7 @@ returns : tie.Need-returns invariant-loop decreases-loop
 returns c =
     let a = c.before.before.args in
     let e : c.before.loop.i ≡ a.n = omega (arith, c.before.loop.invariant.few, c.loop-test.false) in
-    c.before.loop.invariant.is ∙ ap (λ (k : ℕ). printedAs Last k a.word) e
+    c.before.loop.invariant.is ∙ ap (λ (k : ℕ). printed_as Last k a.word) e
 
 pub reversed-spec : {M : Type 1} → statement M
 reversed-spec =

@@ -1,6 +1,6 @@
 -- `tally::reference_of` meets its contract.
 use Rattle.reports.specs.declared.tally.Standing.{Standing}
-use Rattle.reports.specs.Tally.{referenceBy}
+use Rattle.reports.specs.Tally.{reference_by}
 use Rattle.std.proofs.Common.{ap, ◌∙◌, rules}
 use Rattle.reports.proofs.tally.reference_of.Statement.{statement}
 use Rattle.reports.proofs.tally.reference_of.Tie as tie
@@ -23,7 +23,7 @@ returns c = search rules
 returns-2 : tie.Need-returns-2
 returns-2 c =
     let a = c.before.before.before.before.args in
-    rw c.before.before.enum-told2.given.1 (c.reference-by.ensures ∙ ap (λ (s : Standing). referenceBy s a.counter a.reference) c.before.stands.ensures)
+    rw c.before.before.enum-told2.given.1 (c.reference-by.ensures ∙ ap (λ (s : Standing). reference_by s a.counter a.reference) c.before.stands.ensures)
 
 pub reference-of-spec : {M : Type 1} → statement M
 reference-of-spec =

@@ -1,5 +1,5 @@
 -- `tally::stands` meets its contract.
-use Rattle.reports.specs.Tally.{standingBy}
+use Rattle.reports.specs.Tally.{standing_by}
 use Rattle.std.proofs.Common.{ap, ◌∙◌, rules}
 use Rattle.reports.proofs.tally.stands.Statement.{statement}
 use Rattle.reports.proofs.tally.stands.Tie as tie
@@ -20,7 +20,7 @@ returns : tie.Need-returns
 returns c = search rules
 
 returns-2 : tie.Need-returns-2
-returns-2 c = rw c.before.before.before.reference.given.1 (c.Standing-by.ensures ∙ ap standingBy c.before.advance.ensures)
+returns-2 c = rw c.before.before.before.reference.given.1 (c.Standing-by.ensures ∙ ap standing_by c.before.advance.ensures)
 
 pub stands-spec : {M : Type 1} → statement M
 stands-spec =

@@ -1,6 +1,6 @@
 -- `body::heard_at` meets its contract.
-use Rattle.sheets.specs.Text.{lineFeed}
-use Rattle.sheets.specs.Blocks.{heardFront}
+use Rattle.sheets.specs.Text.{line_feed}
+use Rattle.sheets.specs.Blocks.{heard_front}
 use Rattle.sheets.proofs.Parts.{from_more}
 use native.Mathlib.Omega.{arith}
 use mathlib.Core.Path.{◌∙◌, ap, sym}
@@ -27,7 +27,7 @@ returns : tie.Need-returns
 returns c =
     let a = c.before.before.before.before.args in
     let u = c.before.before.until in
-    c.begins-heard.ensures ∙ ap heardFront (sym (from_more lineFeed a.input.now a.at u.result (omega arith) u.ensures))
+    c.begins-heard.ensures ∙ ap heard_front (sym (from_more line_feed a.input.now a.at u.result (omega arith) u.ensures))
 
 pub heard-at-spec : {M : Type 1} → statement M
 heard-at-spec =

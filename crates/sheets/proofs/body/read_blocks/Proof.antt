@@ -5,12 +5,12 @@ use native.Mathlib.Omega.{arith}
 use Prim.Native.Nat.{◌-◌}
 use Rattle.sheets.proofs.BlockRuns.{block_last, block_on, block-stop}
 use Rattle.sheets.proofs.Passing.{Passing, pass-start}
-use Rattle.sheets.specs.Blocks.{blocksOf}
+use Rattle.sheets.specs.Blocks.{blocks_of}
 use Rattle.sheets.proofs.body.read_blocks.Statement.{statement}
 use Rattle.sheets.proofs.body.read_blocks.Tie as tie
 
 abbrev invariant-loop : tie.invariant-loop
-invariant-loop heard input from at₀ blocks₀ at blocks = Passing (blocksOf heard) input from at blocks
+invariant-loop heard input from at₀ blocks₀ at blocks = Passing (blocks_of heard) input from at blocks
 
 abbrev decreases-loop : tie.decreases-loop
 decreases-loop heard input from at₀ blocks₀ at blocks = length input - at

@@ -1,6 +1,6 @@
 -- `counter::counter_at` meets its contract.
-use Rattle.sheets.specs.Text.{lineFeed}
-use Rattle.sheets.specs.Blocks.{counterFront}
+use Rattle.sheets.specs.Text.{line_feed}
+use Rattle.sheets.specs.Blocks.{counter_front}
 use Rattle.sheets.proofs.Parts.{from_more, from-none}
 use native.Mathlib.Omega.{arith}
 use mathlib.Core.Path.{◌∙◌, ap, sym}
@@ -11,7 +11,7 @@ use Rattle.sheets.proofs.counter.counter_at.Tie as tie
 returns : tie.Need-returns
 returns c =
     let a = c.before.before.args in
-    ap counterFront (sym (from-none lineFeed a.input.now a.at c.if1.true))
+    ap counter_front (sym (from-none line_feed a.input.now a.at c.if1.true))
 
 until-requires : tie.Need-until-requires
 until-requires c κs = search rules
@@ -32,7 +32,7 @@ returns-2 : tie.Need-returns-2
 returns-2 c =
     let a = c.before.before.before.before.before.args in
     let u = c.before.before.until in
-    c.counter-in.ensures ∙ ap counterFront (sym (from_more lineFeed a.input.now a.at u.result (omega arith) u.ensures))
+    c.counter-in.ensures ∙ ap counter_front (sym (from_more line_feed a.input.now a.at u.result (omega arith) u.ensures))
 
 pub counter-at-spec : {M : Type 1} → statement M
 counter-at-spec =

@@ -5,7 +5,7 @@ use Rattle.sheets.proofs.BlockLines.{counter-by, counter-none, counter-there, no
 use mathlib.Core.Path.{◌∙◌, ap, sym}
 use Prim.Native.Nat.{◌+◌}
 use lib.Seq.{length-take-le}
-use Rattle.sheets.specs.Text.{fieldsFrom}
+use Rattle.sheets.specs.Text.{fields_from}
 use borrow.Author.Rules.{rules}
 use Rattle.sheets.proofs.counter.counter_in.Statement.{statement}
 use Rattle.sheets.proofs.counter.counter_in.Tie as tie
@@ -26,7 +26,7 @@ returns : tie.Need-returns
 returns c =
     let a = c.before.before.before.before.before.args in
     let u = c.before.before.before.until in
-    sym (counter-by a.line.now u.result u.ensures _ (sym c.before.read_word.ensures) ∙ no-counter c.before.read_word.result (fieldsFrom a.line.now (u.result + 1)) c.match.keys2)
+    sym (counter-by a.line.now u.result u.ensures _ (sym c.before.read_word.ensures) ∙ no-counter c.before.read_word.result (fields_from a.line.now (u.result + 1)) c.match.keys2)
 
 returns-2 : tie.Need-returns-2
 returns-2 c =

@@ -1,7 +1,7 @@
 -- `cover::cover_fields` meets its contract.
 use borrow.Author.Rules.{rules}
 use mathlib.Core.Path.{sym}
-use Rattle.sheets.specs.Covers.{coverFields}
+use Rattle.sheets.specs.Covers.{cover_fields}
 use Rattle.sheets.proofs.cover.cover_fields.Statement.{statement}
 use Rattle.sheets.proofs.cover.cover_fields.Tie as tie
 
@@ -18,7 +18,7 @@ cover-of-requires : tie.Need-cover-of-requires
 cover-of-requires c κs = search rules
 
 returns : tie.Need-returns
-unfolding coverFields
+unfolding cover_fields
 returns c =
     rw (sym c.before.before.before.read_number.ensures.is, sym c.before.before.read-kind.ensures, sym c.before.read-order.ensures) c.cover-of.ensures
 

@@ -1,7 +1,7 @@
 -- `line::block_rest` meets its contract.
 use borrow.Author.Rules.{rules}
 use mathlib.Core.Path.{◌∙◌, ap}
-use Rattle.sheets.specs.Lines.{blockIs}
+use Rattle.sheets.specs.Lines.{block_is}
 use Rattle.sheets.proofs.line.block_rest.Statement.{statement}
 use Rattle.sheets.proofs.line.block_rest.Tie as tie
 
@@ -18,7 +18,7 @@ block-is-requires : tie.Need-block-is-requires
 block-is-requires c κs = search rules
 
 returns : tie.Need-returns
-returns c = c.block-is.ensures ∙ ap blockIs c.before.before.read-samples.ensures.is
+returns c = c.block-is.ensures ∙ ap block_is c.before.before.read-samples.ensures.is
 
 pub block-rest-spec : {M : Type 1} → statement M
 block-rest-spec =

@@ -1,6 +1,6 @@
 -- `line::heard_rest` meets its contract.
 use Rattle.sheets.specs.Text.{tab}
-use Rattle.sheets.specs.Lines.{blockIs}
+use Rattle.sheets.specs.Lines.{block_is}
 use Rattle.sheets.proofs.Parts.{after_last, after-some}
 use native.Mathlib.Omega.{arith}
 use mathlib.Core.Path.{◌∙◌, ap}
@@ -25,7 +25,7 @@ block-is-requires c κs = search rules
 returns-2 : tie.Need-returns-2
 returns-2 c =
     let a = c.before.before.before.before.before.before.args in
-    rw (after-some tab a.line.now a.a (omega arith) c.before.before.before.before.if1.false) (rw (after-some tab a.line.now a.a (omega arith) c.before.before.before.before.if1.false) at (c.block-is.ensures ∙ ap blockIs c.before.before.read-heard.ensures.is))
+    rw (after-some tab a.line.now a.a (omega arith) c.before.before.before.before.if1.false) (rw (after-some tab a.line.now a.a (omega arith) c.before.before.before.before.if1.false) at (c.block-is.ensures ∙ ap block_is c.before.before.read-heard.ensures.is))
 
 pub heard-rest-spec : {M : Type 1} → statement M
 heard-rest-spec =

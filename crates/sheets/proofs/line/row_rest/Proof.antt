@@ -3,7 +3,7 @@ use borrow.Author.Rules.{rules}
 use mathlib.Core.Path.{◌∙◌, ap}
 use native.Mathlib.Omega.{arith}
 use Rattle.sheets.proofs.Parts.{after_last, after_more, after-some}
-use Rattle.sheets.specs.Lines.{rowIs}
+use Rattle.sheets.specs.Lines.{row_is}
 use Rattle.sheets.specs.Text.{tab}
 use Rattle.sheets.proofs.line.row_rest.Statement.{statement}
 use Rattle.sheets.proofs.line.row_rest.Tie as tie
@@ -51,7 +51,7 @@ returns-3 c =
       after_more tab a.line.now a.a (omega arith) c.before.before.before.before.before.if1.false u.result u.ensures,
       after_last tab a.line.now u.result u.ensures.high c.before.before.before.if2.false,
     )
-    (c.row-is.ensures ∙ ap rowIs c.before.read-row.ensures)
+    (c.row-is.ensures ∙ ap row_is c.before.read-row.ensures)
 
 pub row-rest-spec : {M : Type 1} → statement M
 row-rest-spec =

@@ -1,7 +1,7 @@
 -- `listed::branch_fields` meets its contract.
 use borrow.Author.Rules.{rules}
 use mathlib.Core.Path.{sym}
-use Rattle.sheets.specs.Listed.{branchFields}
+use Rattle.sheets.specs.Listed.{branch_fields}
 use Rattle.sheets.proofs.listed.branch_fields.Statement.{statement}
 use Rattle.sheets.proofs.listed.branch_fields.Tie as tie
 
@@ -21,7 +21,7 @@ branch-is-requires : tie.Need-branch-is-requires
 branch-is-requires c κs = search rules
 
 returns : tie.Need-returns
-unfolding branchFields
+unfolding branch_fields
 returns c = rw (sym c.before.before.before.before.read_number.ensures.is, sym c.before.before.before.read-number2.ensures.is, sym c.before.before.read-number3.ensures.is, sym c.before.read-number4.ensures.is) c.branch-is.ensures
 
 pub branch-fields-spec : {M : Type 1} → statement M

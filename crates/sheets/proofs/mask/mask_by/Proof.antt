@@ -1,7 +1,7 @@
 -- `mask::mask_by` meets its contract.
 use borrow.Author.Rules.{rules}
 use mathlib.Core.Path.{◌∙◌, ap}
-use Rattle.sheets.specs.Masks.{maskIs}
+use Rattle.sheets.specs.Masks.{mask_is}
 use Rattle.sheets.proofs.MaskLines.{no-mask-word}
 use Rattle.sheets.proofs.mask.mask_by.Statement.{statement}
 use Rattle.sheets.proofs.mask.mask_by.Tie as tie
@@ -14,4 +14,4 @@ mask-by-spec =
     (λ c. search no-mask-word)  -- another word
     (λ c κs. search rules)  -- row_rest
     (λ c κs. search rules)  -- mask_is
-    (λ c. rw c.before.before.enum_told.given.1 (c.mask_is.ensures ∙ ap maskIs c.before.row-rest.ensures)))
+    (λ c. rw c.before.before.enum_told.given.1 (c.mask_is.ensures ∙ ap mask_is c.before.row-rest.ensures)))

@@ -7,12 +7,12 @@ use native.Mathlib.Numerals.{add-one}
 use native.Mathlib.Omega.{arith}
 use Prim.Native.Nat.{◌-◌, ◌<◌, ◌^◌, ◌≤◌}
 use Rattle.sheets.proofs.Digits.{between, digits-bad, digits-done, digits-on, grow, grown}
-use Rattle.sheets.specs.Numbers.{digitsOf}
+use Rattle.sheets.specs.Numbers.{digits_of}
 use Rattle.sheets.proofs.number.read_digits.Statement.{statement}
 use Rattle.sheets.proofs.number.read_digits.Tie as tie
 
 abbrev invariant-loop : tie.invariant-loop
-invariant-loop f value₀ i₀ value i = (i ≤ length f) × (value < 10 ^ i) × (digitsOf value (drop i f) ≡ digitsOf 0 f)
+invariant-loop f value₀ i₀ value i = (i ≤ length f) × (value < 10 ^ i) × (digits_of value (drop i f) ≡ digits_of 0 f)
 
 abbrev decreases-loop : tie.decreases-loop
 decreases-loop f value₀ i₀ value i = length f - i

@@ -7,14 +7,14 @@ use mir.Facts.{to_z-of_z}
 use mir.Syntax.{w16}
 use native.Mathlib.Omega.{arith}
 use Prim.Native.Nat.{◌-◌}
-use Rattle.sheets.specs.Turning.{inOrder}
+use Rattle.sheets.specs.Turning.{in_order}
 use Rattle.sheets.proofs.SamplePlaces.{Placing, placing-end, placing-on, placing-start}
 use Rattle.sheets.proofs.Turns.{in-order-entry, in-order-length}
 use Rattle.sheets.proofs.placing.place_listed.Statement.{statement}
 use Rattle.sheets.proofs.placing.place_listed.Tie as tie
 
 abbrev invariant-loop : tie.invariant-loop
-invariant-loop listed order room₀ n k₀ room k = Placing (inOrder order listed) room₀ room k
+invariant-loop listed order room₀ n k₀ room k = Placing (in_order order listed) room₀ room k
 
 abbrev decreases-loop : tie.decreases-loop
 decreases-loop listed order room₀ n k₀ room k = length listed - k

@@ -6,12 +6,12 @@ use mathlib.Core.Path.{◌∙◌, ◌≡◌, refl, sym}
 use native.Mathlib.Omega.{arith}
 use Prim.Native.Nat.{◌-◌, ◌≤◌}
 use Rattle.sheets.proofs.Characters.{bits-bad, bits-done, bits-on}
-use Rattle.sheets.specs.Rows.{bitsOnly}
+use Rattle.sheets.specs.Rows.{bits_only}
 use Rattle.sheets.proofs.row.bits_only.Statement.{statement}
 use Rattle.sheets.proofs.row.bits_only.Tie as tie
 
 abbrev invariant-loop : tie.invariant-loop
-invariant-loop f i₀ i = (i ≤ length f) × (bitsOnly (drop i f) ≡ bitsOnly f)
+invariant-loop f i₀ i = (i ≤ length f) × (bits_only (drop i f) ≡ bits_only f)
 
 abbrev decreases-loop : tie.decreases-loop
 decreases-loop f i₀ i = length f - i

@@ -5,13 +5,13 @@ use mathlib.Core.Path.{◌≡◌}
 use native.Mathlib.Omega.{arith}
 use Prim.Native.Nat.{◌-◌, ◌≤◌}
 use Rattle.sheets.proofs.Bytes.{back, done}
-use Rattle.sheets.proofs.Characters.{bit-small, word_room}
-use Rattle.sheets.specs.Rows.{wordFrom}
+use Rattle.sheets.proofs.Characters.{bit_small, word_room}
+use Rattle.sheets.specs.Rows.{word_from}
 use Rattle.sheets.proofs.row.from_left.Statement.{statement}
 use Rattle.sheets.proofs.row.from_left.Tie as tie
 
 abbrev invariant-loop : tie.invariant-loop
-invariant-loop f i₀ word₀ i word = (i ≤ length f) × (word ≡ wordFrom (drop i f))
+invariant-loop f i₀ word₀ i word = (i ≤ length f) × (word ≡ word_from (drop i f))
 
 abbrev decreases-loop : tie.decreases-loop
 decreases-loop f i₀ word₀ i word = i
@@ -37,7 +37,7 @@ add-word : tie.Need-overflow-add-word invariant-loop decreases-loop
 add-word c =
     let l = c.before.before.before in
     let f = l.before.before.args.f.now in
-    omega (arith, word_room (drop l.loop.i f) c.bit-of.result 64 (rw length-drop (omega arith)) (rw c.bit-of.ensures (bit-small (get_or f (l.loop.i - 1) 0))))
+    omega (arith, word_room (drop l.loop.i f) c.bit-of.result 64 (rw length-drop (omega arith)) (rw c.bit-of.ensures (bit_small (get_or f (l.loop.i - 1) 0))))
 
 loop-less : tie.Need-loop-smaller invariant-loop decreases-loop
 loop-less c = search rules

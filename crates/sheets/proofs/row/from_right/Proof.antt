@@ -6,13 +6,13 @@ use mathlib.Core.List.{reverse}
 use mathlib.Core.Path.{◌≡◌, refl}
 use native.Mathlib.Omega.{arith}
 use Prim.Native.Nat.{◌-◌, ◌≤◌}
-use Rattle.sheets.proofs.Characters.{bit-small, turn_more, word_room}
-use Rattle.sheets.specs.Rows.{wordFrom}
+use Rattle.sheets.proofs.Characters.{bit_small, turn_more, word_room}
+use Rattle.sheets.specs.Rows.{word_from}
 use Rattle.sheets.proofs.row.from_right.Statement.{statement}
 use Rattle.sheets.proofs.row.from_right.Tie as tie
 
 abbrev invariant-loop : tie.invariant-loop
-invariant-loop f i₀ word₀ i word = (i ≤ length f) × (word ≡ wordFrom (reverse (take i f)))
+invariant-loop f i₀ word₀ i word = (i ≤ length f) × (word ≡ word_from (reverse (take i f)))
 
 abbrev decreases-loop : tie.decreases-loop
 decreases-loop f i₀ word₀ i word = length f - i
@@ -35,7 +35,7 @@ add-word : tie.Need-overflow-add-word invariant-loop decreases-loop
 add-word c =
     let l = c.before.before.before in
     let f = l.before.before.args.f.now in
-    omega (arith, word_room (reverse (take l.loop.i f)) c.bit-of.result 64 (rw (length-reverse, length-take) (omega arith)) (rw c.bit-of.ensures (bit-small (get_or f l.loop.i 0))))
+    omega (arith, word_room (reverse (take l.loop.i f)) c.bit-of.result 64 (rw (length-reverse, length-take) (omega arith)) (rw c.bit-of.ensures (bit_small (get_or f l.loop.i 0))))
 
 add-i : tie.Need-overflow-add-i invariant-loop decreases-loop
 add-i c = search rules

@@ -19,16 +19,16 @@ use Rattle.trellises.specs.declared.Next.{Next}
 use Rattle.trellises.specs.declared.Next.TheVariants.{Refused}
 use Rattle.trellises.specs.declared.Section.{Section}
 use Rattle.trellises.specs.Following.{next_of}
-use Rattle.trellises.specs.SectionOf.{held, sectionOf}
+use Rattle.trellises.specs.SectionOf.{held, section_of}
 use Rattle.words.specs.Word.{bit}
 
 module _ {plate : Plate} {p : Bool} (t : Tests plate p) where
   pub refused-five : {depth state asked : ℕ} → not p ≡ true → Branches plate depth state asked (Refused NotPrepared)
-  refused-five e = inl (t.no-is (not-true _ e), refl)
+  refused-five e = inl (t.no_is (not-true _ e), refl)
 
   module _ (e : not p ≡ false) where
     s : Sound plate
-    s = sound (t.yes-is (not-false _ e))
+    s = sound (t.yes_is (not-false _ e))
 
     pub depth-over : {depth state asked : ℕ} → plate.n ≤ depth → Branches plate depth state asked (Refused NoSuchBranch)
     depth-over h = refused-twelve plate s _ _ _ (inl h)
@@ -40,7 +40,7 @@ module _ {plate : Plate} {p : Bool} (t : Tests plate p) where
     pub used-count : plate.k ≡ length (rows_of plate)
     used-count = sym (length-take-le plate.k plate.rows (omega (arith, s.few, s.table)))
 
-    module _ {depth : ℕ} (h : depth < plate.n) {c : Section} (is : c ≡ held (sectionOf (rows_of plate) depth)) where
+    module _ {depth : ℕ} (h : depth < plate.n) {c : Section} (is : c ≡ held (section_of (rows_of plate) depth)) where
       pub live-few : c.live ≤ 12
       live-few = (found-live s depth h c is).1
 

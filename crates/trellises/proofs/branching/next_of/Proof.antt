@@ -6,7 +6,7 @@ use mathlib.Core.Path.{◌∙◌, ap, sym}
 use native.Mathlib.Omega.{arith}
 use Prim.Native.Nat.{ℕ, ◌+◌}
 use Rattle.trellises.specs.declared.Next.TheVariants.{State}
-use Rattle.trellises.specs.Numbers.{bit_of, leadsTo}
+use Rattle.trellises.specs.Numbers.{bit_of, leads_to}
 use Rattle.trellises.proofs.branching.next_of.Statement.{statement}
 use Rattle.trellises.proofs.branching.next_of.Tie as tie
 
@@ -37,7 +37,7 @@ returns-2 c =
     let s = c.before.before.before.before.before in
     let a = s.args in
     rw (ne_eqb (bit_of a.section a.state) a.bit (λ e. c.before.before.before.if1.false (c.before.before.before.before.parity-with.ensures ∙ e)), c.before.before.if2.true)
-    (ap State (c.next-state2.ensures ∙ ap (λ (w : ℕ). leadsTo a.section (a.state + w)) c.before.weight-of.ensures))
+    (ap State (c.next-state2.ensures ∙ ap (λ (w : ℕ). leads_to a.section (a.state + w)) c.before.weight-of.ensures))
 
 returns-3 : tie.Need-returns-3
 returns-3 c =

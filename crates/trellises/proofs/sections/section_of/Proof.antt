@@ -6,14 +6,14 @@ use mathlib.Core.List.{List}
 use mathlib.Core.Path.{◌≡◌, ◌∙◌, ap, subst, sym}
 use native.Mathlib.Omega.{arith}
 use Prim.Native.Nat.{ℕ, ◌-◌, ◌≤◌, suc}
-use Rattle.trellises.specs.SectionOf.{HasRoom, held, sectionOf, with_row}
+use Rattle.trellises.specs.SectionOf.{HasRoom, held, section_of, with_row}
 use Rattle.trellises.specs.declared.Section.{Section}
 use Rattle.trellises.proofs.HeldSection.{has_room, held_on, quiet-past}
 use Rattle.trellises.proofs.sections.section_of.Statement.{statement}
 use Rattle.trellises.proofs.sections.section_of.Tie as tie
 
 abbrev invariant-loop : tie.invariant-loop
-invariant-loop rows t section₀ j₀ section j = (j ≤ length rows) × (section ≡ held (sectionOf (drop j rows) t))
+invariant-loop rows t section₀ j₀ section j = (j ≤ length rows) × (section ≡ held (section_of (drop j rows) t))
 
 abbrev decreases-loop : tie.decreases-loop
 decreases-loop rows t section₀ j₀ section j = j
@@ -24,7 +24,7 @@ returns c = let a = c.before.before.args in sym (ap held (quiet-past a.rows.now 
 loop-holds : tie.Need-loop-init invariant-loop decreases-loop
 loop-holds c =
     let a = c.before.before.args in
-    (omega arith, sym (ap (λ (rows : List ℕ). held (sectionOf rows a.t)) (drop-length a.rows.now)))
+    (omega arith, sym (ap (λ (rows : List ℕ). held (section_of rows a.t)) (drop-length a.rows.now)))
 
 sub-j : tie.Need-overflow-sub-j invariant-loop decreases-loop
 sub-j c = search rules
@@ -52,7 +52,7 @@ loop-again c =
     let i : l.j ≡ suc (l.j - 1) = omega (arith, c.before.before.loop-test.true) in (
       omega arith,
       c.with-row.ensures
-          ∙ ap (λ (z : Section). held (with_row a.t (get_or a.rows.now (l.j - 1) 0) z)) (l.invariant.1 ∙ ap (λ (j : ℕ). held (sectionOf (drop j a.rows.now) a.t)) i)
+          ∙ ap (λ (z : Section). held (with_row a.t (get_or a.rows.now (l.j - 1) 0) z)) (l.invariant.1 ∙ ap (λ (j : ℕ). held (section_of (drop j a.rows.now) a.t)) i)
           ∙ held_on a.rows.now a.t (l.j - 1) (omega (arith, c.before.before.loop-test.true)),
     )
 
@@ -60,7 +60,7 @@ returns-2 : tie.Need-returns-2 invariant-loop decreases-loop
 returns-2 c =
     let a = c.before.before.before.before.args in
     let e : c.before.loop.j ≡ 0 = omega arith in
-    c.before.loop.invariant.1 ∙ ap (λ (j : ℕ). held (sectionOf (drop j a.rows.now) a.t)) e
+    c.before.loop.invariant.1 ∙ ap (λ (j : ℕ). held (section_of (drop j a.rows.now) a.t)) e
 
 pub section-of-spec : {M : Type 1} → statement M
 section-of-spec =

@@ -5,12 +5,12 @@ use mathlib.Core.Path.{◌≡◌, ◌∙◌, ap, refl, sym}
 use native.Mathlib.Numerals.{add-one}
 use native.Mathlib.Omega.{arith}
 use Prim.Native.Nat.{ℕ, max, ◌-◌, ◌≤◌}
-use Rattle.decoding.specs.Needs.{widestEntry}
+use Rattle.decoding.specs.Needs.{widest_entry}
 use Rattle.weights.proofs.rooms.widest.Statement.{statement}
 use Rattle.weights.proofs.rooms.widest.Tie as tie
 
 abbrev invariant-loop : tie.invariant-loop
-invariant-loop profile n most₀ t₀ most t = (t ≤ n) × (most ≡ widestEntry profile t)
+invariant-loop profile n most₀ t₀ most t = (t ≤ n) × (most ≡ widest_entry profile t)
 
 abbrev decreases-loop : tie.decreases-loop
 decreases-loop profile n most₀ t₀ most t = n - t
@@ -21,8 +21,8 @@ loop-again c =
     let profile = l.before.before.before.args.profile.now in (
       omega (arith, c.before.before.loop-test.true),
       c.greater.ensures ∙ ap (max (get_or profile _ 0)) l.loop.invariant.1
-          ∙ ap (λ (x : ℕ). max (get_or profile x 0) (widestEntry profile l.loop.t)) (add-one l.loop.t)
-          ∙ ap (widestEntry profile) (sym (add-one l.loop.t)),
+          ∙ ap (λ (x : ℕ). max (get_or profile x 0) (widest_entry profile l.loop.t)) (add-one l.loop.t)
+          ∙ ap (widest_entry profile) (sym (add-one l.loop.t)),
     )
 
 returns : tie.Need-returns invariant-loop decreases-loop

@@ -36,12 +36,12 @@ add_at : tie.Need-overflow-add-at invariant-loop decreases-loop
 add_at c =
     let s = c.before.before.before.before.before.before in
     let l = c.before.before.before.loop in
-    omega (arith, l.invariant.0, l.invariant.1.new-room, l.invariant.1.small, c.before.before.loop-test.true)
+    omega (arith, l.invariant.0, l.invariant.1.new_room, l.invariant.1.small, c.before.before.loop-test.true)
 
 mul-working : tie.Need-overflow-mul-working invariant-loop decreases-loop
 mul-working c =
     let l = c.before.before.before.loop in
-    record { fits = omega (arith, l.invariant.0, l.invariant.1.new-room, l.invariant.1.small, c.before.before.loop-test.true) }
+    record { fits = omega (arith, l.invariant.0, l.invariant.1.new_room, l.invariant.1.small, c.before.before.loop-test.true) }
 
 slice-write-working : tie.Need-slice-write-working invariant-loop decreases-loop
 slice-write-working c =
