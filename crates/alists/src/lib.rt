@@ -1,4 +1,6 @@
 // Parity checks as MacKay's alist text: read, and written.
+#![tactic(auto)]
+
 ghost use Rattle.alists.specs.Calls.{Reads, WritesAlist};
 
 mod lists;
@@ -11,7 +13,7 @@ use listings::Written;
 use plates::Refusal;
 
 // What reading replies: the numbers of columns and rows, the rows being in the table; or why the text is refused.
-#[derive(Drop)]
+#[derive(Clone, Copy)]
 pub enum Alist {
     Matrix { n: usize, count: usize },
     Refused(Refusal),

@@ -7,21 +7,21 @@ use crate::matrix::column_at;
 use crate::numbers::{LineEnd, read_line};
 
 // A list's word, or that the list is faulty.
-#[derive(Drop)]
+#[derive(Clone, Copy)]
 pub enum WordFound {
     Is(u64),
     Bad,
 }
 
 // A list's word and the place after its line, or that the line is faulty.
-#[derive(Drop)]
+#[derive(Clone, Copy)]
 pub enum OneList {
     Is { word: u64, next: usize },
     Bad,
 }
 
 // The place after the last list, or the first list that is faulty.
-#[derive(Drop)]
+#[derive(Clone, Copy)]
 pub enum AllLists {
     Next(usize),
     Bad(usize),

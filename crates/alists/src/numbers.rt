@@ -4,14 +4,14 @@ ghost use Rattle.alists.specs.Lines.{feed_of, is_digit, line_of, more_of, next_o
 ghost use Rattle.alists.specs.Working.{ReadsLine, ReadsNumber, Skips, StoresLine, stored};
 
 // A number and the place after it, or that there is none.
-#[derive(Drop)]
+#[derive(Clone, Copy)]
 pub enum Number {
     Is { value: usize, next: usize },
     Bad,
 }
 
 // The place after a line's end, or that the line is faulty.
-#[derive(Drop)]
+#[derive(Clone, Copy)]
 pub enum LineEnd {
     Next(usize),
     Bad,

@@ -1,4 +1,6 @@
 // Why not this word: what decoding says of a word that is named.
+#![tactic(auto)]
+
 ghost use Rattle.std.specs.Prelude.{◌+ℤ◌, length, take, ◌≡◌, ◌≤◌};
 ghost use Rattle.asking.specs.Asking.{Asks, ExplainsIn};
 ghost use Rattle.asking.specs.Working.{AddingFits, AskedOf, FirstStop, Sampled};
@@ -14,7 +16,7 @@ use decoding::{Answer, Decoded, decode_parts};
 use plates::Refusal;
 
 // Why a word was chosen or not.
-#[derive(Drop)]
+#[derive(Clone, Copy)]
 pub enum Reason {
     Chosen,
     NoCodeword(usize),
@@ -23,7 +25,7 @@ pub enum Reason {
 }
 
 // The reason, or why there is none.
-#[derive(Drop)]
+#[derive(Clone, Copy)]
 pub enum Verdict {
     Explained(Reason),
     Refused(Refusal),

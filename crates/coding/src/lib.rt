@@ -1,4 +1,6 @@
 // Encoding information to a word of a plate, and reading a word of a plate back.
+#![tactic(auto)]
+
 ghost use Rattle.std.specs.Int.Bits.{bit_xor};
 ghost use Rattle.std.specs.Prelude.{length, take, ◌≡◌, ◌^◌, ◌≤◌, ◌<◌};
 ghost use Rattle.coding.specs.Coding.{Encodes, ReadsBack};
@@ -9,21 +11,21 @@ ghost use Rattle.words.specs.Sum.{sum_of, taken};
 use plates::Refusal;
 
 // The word of the plate that information makes, or why there is none.
-#[derive(Drop)]
+#[derive(Clone, Copy)]
 pub enum Encoded {
     Word(u64),
     Refused(Refusal),
 }
 
 // The information that makes a word of the plate, or why there is none.
-#[derive(Drop)]
+#[derive(Clone, Copy)]
 pub enum ReadBack {
     Information(u64),
     Refused(Refusal),
 }
 
 // What is left of a word once the rows before a place are taken off it, and the information that they make.
-#[derive(Drop)]
+#[derive(Clone, Copy)]
 pub struct Reading {
     pub information: u64,
     pub rest: u64,

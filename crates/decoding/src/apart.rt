@@ -9,28 +9,28 @@ use crate::{Counts, Decoded};
 use plates::Refusal;
 
 // The best metric, and what the steps counted.
-#[derive(Drop)]
+#[derive(Clone, Copy)]
 pub struct Measure {
     pub metric: i32,
     pub counts: Counts,
 }
 
 // The best metric of a plate, or why there is none.
-#[derive(Drop)]
+#[derive(Clone, Copy)]
 pub enum Measured {
     Found(Measure),
     Refused(Refusal),
 }
 
 // The best word, and what the steps counted.
-#[derive(Drop)]
+#[derive(Clone, Copy)]
 pub struct Selection {
     pub word: u64,
     pub counts: Counts,
 }
 
 // The best word of a plate, or why there is none.
-#[derive(Drop)]
+#[derive(Clone, Copy)]
 pub enum Chosen {
     Found(Selection),
     Refused(Refusal),

@@ -16,7 +16,7 @@ use crate::{Answer, Counts};
 use plates::Refusal;
 
 // What the steps counted for each of the blocks, or why none is decoded.
-#[derive(Drop)]
+#[derive(Clone, Copy)]
 pub enum Batch {
     Found(Counts),
     Refused(Refusal),

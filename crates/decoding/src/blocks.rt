@@ -8,7 +8,7 @@ use crate::{Counts, choices, patterns, states, strips};
 use trellises::Section;
 
 // What was picked: a one for each state that took its second branch, and the counts with theirs.
-#[derive(Drop)]
+#[derive(Clone, Copy)]
 pub struct Picked {
     pub word: u32,
     pub counts: Counts,

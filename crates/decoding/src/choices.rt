@@ -7,7 +7,7 @@ ghost use Rattle.decoding.specs.Taking.{signed};
 use crate::Counts;
 
 // What was chosen at a state: its metric, 1 where the second branch is taken, and the counts with the state's own.
-#[derive(Drop)]
+#[derive(Clone, Copy)]
 pub struct Choice {
     pub metric: i32,
     pub second: u32,

@@ -17,21 +17,21 @@ use plates::Refusal;
 const FORCING: i32 = 262144;
 
 // A position's reading: the bit that every word has there, or the margin by which 0 scores more there than 1.
-#[derive(Drop)]
+#[derive(Clone, Copy)]
 pub enum Reading {
     Fixed(u64),
     Open(i32),
 }
 
 // A position, and its reading.
-#[derive(Drop)]
+#[derive(Clone, Copy)]
 pub struct Flag {
     pub position: usize,
     pub reading: Reading,
 }
 
 // The flag asked for, or why there is none.
-#[derive(Drop)]
+#[derive(Clone, Copy)]
 pub enum Flagged {
     Found(Flag),
     Refused(Refusal),

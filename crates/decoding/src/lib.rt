@@ -1,4 +1,6 @@
 // Decoding: the word of a plate that has the greatest correlation with soft samples.
+#![tactic(auto)]
+
 ghost use Rattle.decoding.specs.Decode.{Decodes};
 ghost use Rattle.plates.specs.Prepare.{of_parts};
 
@@ -25,14 +27,14 @@ mod tables;
 mod walk;
 
 // What the steps counted: branches added, and comparisons made.
-#[derive(Drop)]
+#[derive(Clone, Copy)]
 pub struct Counts {
     pub additions: u64,
     pub comparisons: u64,
 }
 
 // The best word, its metric, and what the steps counted.
-#[derive(Drop)]
+#[derive(Clone, Copy)]
 pub struct Answer {
     pub word: u64,
     pub metric: i32,
@@ -40,7 +42,7 @@ pub struct Answer {
 }
 
 // The answer of decoding, or why there is none.
-#[derive(Drop)]
+#[derive(Clone, Copy)]
 pub enum Decoded {
     Found(Answer),
     Refused(Refusal),

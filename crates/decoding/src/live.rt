@@ -8,21 +8,21 @@ use crate::states::target;
 use trellises::Section;
 
 // The rows that are live at a depth, and how many rows have begun before it.
-#[derive(Drop)]
+#[derive(Clone, Copy)]
 pub struct Live {
     pub marks: u64,
     pub next: usize,
 }
 
 // A section passed, and the live rows on its other side.
-#[derive(Drop)]
+#[derive(Clone, Copy)]
 pub struct Passed {
     pub section: Section,
     pub live: Live,
 }
 
 // The row that begins in a section, and its bit; both 0 where none begins.
-#[derive(Drop)]
+#[derive(Clone, Copy)]
 pub struct Beginning {
     pub row: u64,
     pub mark: u64,

@@ -8,7 +8,7 @@ use crate::{Counts, choices};
 use trellises::Section;
 
 // A run of states: their decisions, the lowest state's in the lowest bit, and the counts with their own.
-#[derive(Drop)]
+#[derive(Clone, Copy)]
 pub struct Run {
     pub word: u64,
     pub counts: Counts,

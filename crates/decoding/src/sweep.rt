@@ -10,7 +10,7 @@ use crate::step::step;
 
 // How large a decode is: positions, rows, metrics in each half of the room, and decision words a section; and the rest, which codewords are
 // added to give the plate's words.
-#[derive(Drop)]
+#[derive(Clone, Copy)]
 pub struct Sizes {
     pub n: usize,
     pub k: usize,
@@ -20,7 +20,7 @@ pub struct Sizes {
 }
 
 // Where the sweep stands: where the metrics of its depth begin, the rows live there, and what was counted.
-#[derive(Drop)]
+#[derive(Clone, Copy)]
 pub struct Standing {
     pub from: usize,
     pub live: Live,
@@ -28,7 +28,7 @@ pub struct Standing {
 }
 
 // A position that is taken with a gain of its own in the place of its sample; a position beyond the samples forces nothing.
-#[derive(Drop)]
+#[derive(Clone, Copy)]
 pub struct Forced {
     pub position: usize,
     pub gain: i32,

@@ -14,7 +14,7 @@ use crate::sweep::Sizes;
 
 // Where the walk stands: the word's positions so far, the sum of the rows taken, the state there, the live rows and how many they are,
 // and how many rows have begun.
-#[derive(Drop)]
+#[derive(Clone, Copy)]
 pub struct Walk {
     pub word: u64,
     pub sum: u64,

@@ -1,1 +1,3 @@
 // The demands on the library restated and proved; no code.
+#![tactic(auto)]
+

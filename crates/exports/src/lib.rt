@@ -1,5 +1,7 @@
 // The C interface: the calls of the crates below over numbers and slices, as include/yendrufal.h has them. A plate crosses as a flat
 // run of words. No call asks anything of its caller: a run that is too short for its fixed use is answered by 101.
+#![tactic(auto)]
+
 ghost use Rattle.exports.specs.Promises.{CallsBranch, CallsEncode, CallsListing, CallsPrepare, CallsReadBack, CallsWriteEnd, CallsWritePlate, CallsWriteProfile, CallsWriteRefused, CallsWriteWord};
 ghost use Rattle.reports.specs.Remaining.{rooms};
 

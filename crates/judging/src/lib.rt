@@ -1,4 +1,6 @@
 // Judging a supplier's trellis: whether the full paths of a listing of branches spell exactly a plate's words.
+#![tactic(auto)]
+
 ghost use Rattle.judging.specs.Judging.{Judges};
 
 use crate::lines::{count_lines, first_faulty, first_repeating};
@@ -16,7 +18,7 @@ mod verdicts;
 mod walking;
 
 // Right; or the earliest word that is spelled wrongly or not spelled; or why the listing is refused.
-#[derive(Drop)]
+#[derive(Clone, Copy)]
 pub enum Judged {
     Right,
     SpelledWrongly(u64),
@@ -26,7 +28,7 @@ pub enum Judged {
 
 // The verdict and, on a right listing, by how much its states by depth and its branches by section, those on full paths, are more than
 // ours. All is zero beyond the plate's length, and where the listing is not right.
-#[derive(Drop)]
+#[derive(Clone, Copy)]
 pub struct Judgement {
     pub verdict: Judged,
     pub states: [u64; 65],

@@ -9,7 +9,7 @@ use crate::ours::{follow, weight_of};
 use crate::rooms::{lead_number, line_from, told_number};
 
 // Where the walk goes on: a number of theirs and one of ours, and the bit on the way there.
-#[derive(Drop)]
+#[derive(Clone, Copy)]
 pub struct Place {
     pub theirs: usize,
     pub ours: usize,
@@ -17,7 +17,7 @@ pub struct Place {
 }
 
 // The word in which they differ, and whether the listing spells it.
-#[derive(Drop)]
+#[derive(Clone, Copy)]
 pub struct Shown {
     pub word: u64,
     pub spelled: bool,

@@ -1,4 +1,6 @@
 // Levels of single-precision samples: of a single one, and of the n samples of a block.
+#![tactic(auto)]
+
 ghost use Rattle.levels.specs.Giving.{GivesLevel, GivesLevels};
 
 use crate::values::{first_not_a_number, is_not_a_number};
@@ -9,28 +11,28 @@ mod settings;
 mod values;
 
 // How levels are chosen: a level is as many steps, up to the top level.
-#[derive(Drop)]
+#[derive(Clone, Copy)]
 pub struct Setting {
     pub step: f32,
     pub top: u8,
 }
 
 // A sample as the receiver hands it over.
-#[derive(Drop)]
+#[derive(Clone, Copy)]
 pub enum Sample {
     Heard(f32),
     Erased,
 }
 
 // The level of a sample, or why there is none.
-#[derive(Drop)]
+#[derive(Clone, Copy)]
 pub enum Level {
     Is(i16),
     Refused(Refusal),
 }
 
 // Whether the levels of a block are in their room, or why not.
-#[derive(Drop)]
+#[derive(Clone, Copy)]
 pub enum Levels {
     Written,
     Refused(Refusal),

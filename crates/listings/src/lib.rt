@@ -1,5 +1,7 @@
 // The kinds of listing line, written into a lent room. A line is built in an array of 256 bytes, which every line is proved to fit,
 // and copied where the room is long enough.
+#![tactic(auto)]
+
 ghost use Rattle.std.specs.Prelude.{◌≡◌, ◌++◌, ◌≤◌, length, drop};
 ghost use Rattle.plates.specs.Prepare.{of_parts};
 ghost use Rattle.listings.specs.Building.{Ends};
@@ -11,14 +13,14 @@ mod pieces;
 use plates::{Plate, Refusal};
 
 // What writing replies: the line's length with its line feed, or why it is refused.
-#[derive(Drop)]
+#[derive(Clone, Copy)]
 pub enum Written {
     Bytes(usize),
     Refused(Refusal),
 }
 
 // The numbers of a shift's tally. The sum of metrics is what those above 0 add to, less what those below 0 do.
-#[derive(Drop)]
+#[derive(Clone, Copy)]
 pub struct Tally {
     pub decoded: u64,
     pub refused: u64,

@@ -1,4 +1,6 @@
 // What the verbs about a plate print, from bytes to bytes: the plate of an input as a sheet by position.
+#![tactic(auto)]
+
 ghost use Rattle.std.specs.Prelude.{length, ◌≤◌};
 ghost use Rattle.listings.specs.Writing.{WritesLine};
 ghost use Rattle.outlines.specs.declared.opening.Which.TheVariants.{Dual, Own};

@@ -9,7 +9,7 @@ use plates::{Kind, Plate, Prepared, Refusal, Verdict};
 use sheets::{Sheet, SheetReply};
 
 // Which code of an input: its own with its mask, or the dual of its code.
-#[derive(Drop)]
+#[derive(Clone, Copy)]
 pub enum Which {
     Own,
     Dual,

@@ -1,4 +1,6 @@
 // Code plates: what a plate is, how a matrix becomes one, and how a prepared plate is known.
+#![tactic(auto)]
+
 ghost use Rattle.std.specs.Prelude.{◌≡◌, ℕ, ◌^◌, ◌<◌, ◌≤◌, get_or, length};
 ghost use Rattle.plates.specs.Code.{InCode};
 ghost use Rattle.plates.specs.Prepare.{PlateOf, Prepares, Tests, of_parts};
@@ -12,7 +14,7 @@ mod rows;
 mod tested;
 
 // How a matrix gives its code: as generator, or as parity check.
-#[derive(Drop)]
+#[derive(Clone, Copy)]
 pub enum Kind {
     G,
     H,
@@ -20,7 +22,7 @@ pub enum Kind {
 
 // A prepared code and its mask: its length, the number of its heads, the word that is added to every codeword, a row for each head, and
 // the profile. Unused places are zero.
-#[derive(Drop)]
+#[derive(Clone, Copy)]
 pub struct Plate {
     pub n: usize,
     pub k: usize,
@@ -31,7 +33,7 @@ pub struct Plate {
 
 // Why a call is refused, with the place where the paper names one, in order of the numbers. The place of a sheet's bad line is the line, or
 // line and field.
-#[derive(Drop)]
+#[derive(Clone, Copy)]
 pub enum Refusal {
     Length,
     TooManyRows,
@@ -64,14 +66,14 @@ pub enum Refusal {
 }
 
 // What preparing says of a matrix.
-#[derive(Drop)]
+#[derive(Clone, Copy)]
 pub enum Verdict {
     Accepted,
     Refused(Refusal),
 }
 
 // The verdict with the plate beside it, which is all zero where the matrix is refused.
-#[derive(Drop)]
+#[derive(Clone, Copy)]
 pub struct Prepared {
     pub verdict: Verdict,
     pub plate: Plate,
@@ -79,7 +81,7 @@ pub struct Prepared {
 
 // What the paper's table says of a refusal: its number; its place, which is 0 where the table names none; and the field of a sheet's bad
 // line, from 1, which is 0 elsewhere.
-#[derive(Drop)]
+#[derive(Clone, Copy)]
 pub struct Entry {
     pub number: u64,
     pub place: usize,

@@ -7,7 +7,7 @@ use libc::STDERR_FILENO;
 use plates::Refusal;
 
 // All lines of a listing were taken, so many; or the one line of a refused sheet was; or standard output did not take all.
-#[derive(Drop)]
+#[derive(Clone, Copy)]
 pub enum Ending {
     Listed(Sent),
     Refused(Refusal, Sent),

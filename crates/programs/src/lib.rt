@@ -1,4 +1,6 @@
 // The programs trellis, plate_weights and yendrufal. Each is an exported function that the linker makes C's main: what it returns is the exit status.
+#![tactic(auto)]
+
 ghost use Rattle.programs.specs.Ending.{IsStatus};
 
 mod endings;

@@ -12,7 +12,7 @@ use crate::writer::Sent;
 use reports::{Outcome, Report, Stage};
 
 // Whether a line was taken, whether none was left, the count after that, and the report.
-#[derive(Drop)]
+#[derive(Clone, Copy)]
 struct Turn {
     goes_on: bool,
     whole: bool,
@@ -21,7 +21,7 @@ struct Turn {
 }
 
 // Whether all lines were taken, and how many were.
-#[derive(Drop)]
+#[derive(Clone, Copy)]
 struct Printed {
     whole: bool,
     sent: Sent,

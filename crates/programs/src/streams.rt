@@ -4,7 +4,7 @@ ghost use Rattle.io.specs.Counts.{IsPrefixLen};
 ghost use Rattle.programs.specs.Input.{Stopped};
 
 // What reading gave: how many bytes, and whether it stopped at the end of the input, or because a read failed; else the room is full.
-#[derive(Drop)]
+#[derive(Clone, Copy)]
 pub struct Got {
     pub size: usize,
     pub ended: bool,
@@ -12,7 +12,7 @@ pub struct Got {
 }
 
 // How many bytes have come after one read more, and whether it met the end of the input.
-#[derive(Drop)]
+#[derive(Clone, Copy)]
 struct Part {
     size: usize,
     ended: bool,

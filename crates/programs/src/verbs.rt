@@ -8,7 +8,7 @@ use crate::{endings, listing, outlining, streams, weighing};
 use libc::STDIN_FILENO;
 
 // What is asked for, or that it is no verb.
-#[derive(Drop)]
+#[derive(Clone, Copy)]
 enum Verb {
     List,
     Sheet,

@@ -8,20 +8,20 @@ use libc::STDOUT_FILENO;
 use plates::Refusal;
 
 // What a text that is handed over whole says of an input: its plate as a sheet, or the dual's.
-#[derive(Drop)]
+#[derive(Clone, Copy)]
 pub enum Text {
     Sheet,
     Dual,
 }
 
 // How many lines standard output has taken.
-#[derive(Drop)]
+#[derive(Clone, Copy)]
 pub struct Sent {
     lines: u64,
 }
 
 // Whether a line was taken, and the count after it.
-#[derive(Drop)]
+#[derive(Clone, Copy)]
 pub struct Handed {
     pub taken: bool,
     pub sent: Sent,

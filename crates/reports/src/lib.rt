@@ -1,4 +1,6 @@
 // From a sheet to its listing: a report is opened on the input, and gives its lines in turn or all at once.
+#![tactic(auto)]
+
 ghost use Rattle.std.specs.Prelude.{◌≡◌, ◌≤◌, length, take};
 ghost use Rattle.reports.specs.Listing.{WritesListing};
 ghost use Rattle.reports.specs.Remaining.{rooms};
@@ -18,7 +20,7 @@ mod tally;
 
 // What comes next in a report: the line of a refusal, the plate's, the profile's, those of the blocks or heard lines from a place on and
 // then the tally of heard lines and the end line, the end line alone, or nothing.
-#[derive(Drop)]
+#[derive(Clone, Copy)]
 pub enum Stage {
     Refused(Refusal),
     PlateLine,
@@ -30,7 +32,7 @@ pub enum Stage {
 
 // A report: what comes next, the prepared plate, the cover's order, the place of the next block or heard line (or of end), whether these are
 // heard lines, their number, and what is kept of those that have come.
-#[derive(Drop)]
+#[derive(Clone, Copy)]
 pub struct Report {
     pub stage: Stage,
     pub plate: Plate,
@@ -42,7 +44,7 @@ pub struct Report {
 }
 
 // What a step gave: a line of so many bytes at the start of the room, which for a repeated heard line are none, or nothing since nothing is left, or why what was lent is refused.
-#[derive(Drop)]
+#[derive(Clone, Copy)]
 pub enum Outcome {
     Line(usize),
     Nothing,
@@ -50,7 +52,7 @@ pub enum Outcome {
 }
 
 // The outcome, and the report after it: where there is no line, the report as it was.
-#[derive(Drop)]
+#[derive(Clone, Copy)]
 pub struct Step {
     pub outcome: Outcome,
     pub next: Report,

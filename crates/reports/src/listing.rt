@@ -6,7 +6,7 @@ ghost use Rattle.reports.specs.Remaining.{count_at, rooms, tallies};
 use crate::{Outcome, Report, Stage, next_line};
 
 // How far a listing is: the report of what is left, and how many bytes are written.
-#[derive(Drop)]
+#[derive(Clone, Copy)]
 pub struct Progress {
     pub report: Report,
     pub size: usize,

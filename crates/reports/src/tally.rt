@@ -6,14 +6,14 @@ use decoding::{Answer, Decoded};
 use listings::Tally;
 
 // The counter that the next line's is taken from, once a line has set it.
-#[derive(Drop)]
+#[derive(Clone, Copy)]
 pub enum Reference {
     Unset,
     Counter(u16),
 }
 
 // Where a line that is not refused stands by its counter: the first, a repeat, out of turn, or onward with so many counters missing.
-#[derive(Drop)]
+#[derive(Clone, Copy)]
 pub enum Standing {
     First,
     Repeat,
@@ -22,7 +22,7 @@ pub enum Standing {
 }
 
 // What is kept: the reference, and the tally so far.
-#[derive(Drop)]
+#[derive(Clone, Copy)]
 pub struct Kept {
     pub reference: Reference,
     pub tally: Tally,

@@ -9,7 +9,7 @@ use crate::scan::until;
 use crate::word::{Word, read_word};
 
 // What the fields of a block line are.
-#[derive(Drop)]
+#[derive(Clone, Copy)]
 pub enum Samples {
     // So many samples.
     Count(usize),

@@ -15,14 +15,14 @@ use crate::{BlockReply, Order, Sheet, SheetReply};
 use plates::Refusal;
 
 // So many lines, and where the line after them begins.
-#[derive(Drop)]
+#[derive(Clone, Copy)]
 pub struct Run {
     pub count: usize,
     pub next: usize,
 }
 
 // How the lines end after the rows and blocks.
-#[derive(Drop)]
+#[derive(Clone, Copy)]
 pub enum Ending {
     // With end, and nothing after.
     Fine,

@@ -11,7 +11,7 @@ use crate::word::{Word, is_text, read_word};
 use plates::Kind;
 
 // What a cover says.
-#[derive(Drop)]
+#[derive(Clone, Copy)]
 pub struct Cover {
     pub n: usize,
     pub kind: Kind,
@@ -19,21 +19,21 @@ pub struct Cover {
 }
 
 // A line's cover, or what is wrong with it.
-#[derive(Drop)]
+#[derive(Clone, Copy)]
 pub enum CoverLine {
     Is(Cover),
     Bad(Fault),
 }
 
 // A field's kind, or that it is none.
-#[derive(Drop)]
+#[derive(Clone, Copy)]
 pub enum KindField {
     Is(Kind),
     Bad,
 }
 
 // A field's order, or that it is none.
-#[derive(Drop)]
+#[derive(Clone, Copy)]
 pub enum OrderField {
     Is(Order),
     Bad,

@@ -7,7 +7,7 @@ use crate::scan::until;
 use plates::Refusal;
 
 // The cover and where the next line begins, or a refusal.
-#[derive(Drop)]
+#[derive(Clone, Copy)]
 pub enum Head {
     Is(Cover, usize),
     Refused(Refusal),

@@ -1,4 +1,6 @@
 // The sheet: its grammar as definitions, and its reader.
+#![tactic(auto)]
+
 ghost use Rattle.std.specs.Prelude.{◌≡◌};
 ghost use Rattle.sheets.specs.Blocks.{ReadsBlock, counter_at};
 ghost use Rattle.sheets.specs.Sheet.{ReadsSheet};
@@ -25,7 +27,7 @@ mod scan;
 mod word;
 
 // Where position 0 stands in a row or mask, among listed samples and in a printed word: with first at the left, with last at the right.
-#[derive(Drop)]
+#[derive(Clone, Copy)]
 pub enum Order {
     First,
     Last,
@@ -33,7 +35,7 @@ pub enum Order {
 
 // What a sheet that is not refused says: its cover, its mask (0 where it has no mask line), the number of its rows, where the line after them
 // begins (its first block or heard line, or end where it has none), whether these are heard lines, and their number.
-#[derive(Drop)]
+#[derive(Clone, Copy)]
 pub struct Sheet {
     pub n: usize,
     pub kind: Kind,
@@ -46,14 +48,14 @@ pub struct Sheet {
 }
 
 // A sheet, or why the input is refused.
-#[derive(Drop)]
+#[derive(Clone, Copy)]
 pub enum SheetReply {
     Read(Sheet),
     Refused(Refusal),
 }
 
 // A block or heard line's number of samples and where the next line begins, or that no such line begins at that place.
-#[derive(Drop)]
+#[derive(Clone, Copy)]
 pub enum BlockReply {
     Read { samples: usize, next: usize },
     NoBlock,

@@ -13,7 +13,7 @@ use crate::word::{Word, read_word};
 use plates::Refusal;
 
 // What has come before a line: neither a block nor a heard line, blocks, or heard lines.
-#[derive(Drop)]
+#[derive(Clone, Copy)]
 pub enum Came {
     Nothing,
     Blocks,
@@ -21,7 +21,7 @@ pub enum Came {
 }
 
 // What is wrong with a line. Fields are counted from 1.
-#[derive(Drop)]
+#[derive(Clone, Copy)]
 pub enum Fault {
     // The line is missing, or not ended.
     Missing,
@@ -49,7 +49,7 @@ pub fn refusal_of(line: usize, fault: Fault) -> Refusal
 }
 
 // What a line is: a row with its word, a block or heard line, the end, or none of these.
-#[derive(Drop)]
+#[derive(Clone, Copy)]
 pub enum Line {
     Row(u64),
     Block,

@@ -8,7 +8,7 @@ use crate::scan::until;
 use crate::word::is_text;
 
 // A branch: the section's depth, the state that it leaves, its bit, and the state that it leads to.
-#[derive(Drop)]
+#[derive(Clone, Copy)]
 pub struct Branch {
     pub depth: usize,
     pub from: usize,
@@ -17,14 +17,14 @@ pub struct Branch {
 }
 
 // A line's branch, or that it is bad.
-#[derive(Drop)]
+#[derive(Clone, Copy)]
 pub enum BranchLine {
     Is(Branch),
     Bad,
 }
 
 // A line, and where the next begins.
-#[derive(Drop)]
+#[derive(Clone, Copy)]
 pub struct Entry {
     pub line: BranchLine,
     pub next: usize,

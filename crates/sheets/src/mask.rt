@@ -10,7 +10,7 @@ use crate::scan::until;
 use crate::word::{Word, read_word};
 
 // A mask line's word, or that the line is none, or what is wrong with it.
-#[derive(Drop)]
+#[derive(Clone, Copy)]
 pub enum MaskLine {
     Is(u64),
     NoMask,

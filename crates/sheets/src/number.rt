@@ -6,14 +6,14 @@ ghost use Rattle.sheets.specs.Readers.{Below, NumberRead};
 use crate::scan::within;
 
 // A field's number, or that it is none.
-#[derive(Drop)]
+#[derive(Clone, Copy)]
 pub enum Number {
     Is(usize),
     Bad,
 }
 
 // A field's sample, or that it is none.
-#[derive(Drop)]
+#[derive(Clone, Copy)]
 pub enum Sample {
     Is(i16),
     Bad,

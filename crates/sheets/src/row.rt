@@ -7,7 +7,7 @@ use crate::Order;
 use crate::scan::within;
 
 // A row's word, or that its field is no row.
-#[derive(Drop)]
+#[derive(Clone, Copy)]
 pub enum Row {
     Is(u64),
     Bad,

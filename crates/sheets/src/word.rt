@@ -3,7 +3,7 @@ ghost use Rattle.std.specs.Prelude.{[], ◌∷◌, ◌≡◌};
 ghost use Rattle.sheets.specs.Words.{same, word_of};
 
 // Which of the six words a line's first field is.
-#[derive(Drop)]
+#[derive(Clone, Copy)]
 pub enum Word {
     Cover,
     Mask,

@@ -1,4 +1,6 @@
 // The trellis of a plate: its sections as plain numbers, and its branches.
+#![tactic(auto)]
+
 ghost use Rattle.plates.specs.Prepare.{of_parts};
 ghost use Rattle.trellises.specs.Branching.{Branches};
 
@@ -10,7 +12,7 @@ pub mod sections;
 // A section of the trellis as numbers. A branch of it is a number whose digits say which of the active rows it takes, the row with
 // the lowest head having weight 1. 2^live states stand at the section's depth; where a row begins, it has weight 2^live; where one
 // ends, it has weight 2^ending; the column is the section's position of each active row.
-#[derive(Drop)]
+#[derive(Clone, Copy)]
 pub struct Section {
     pub live: usize,
     pub begins: bool,
@@ -20,7 +22,7 @@ pub struct Section {
 }
 
 // Where a branch leads, that there is none, or why the question is refused.
-#[derive(Drop)]
+#[derive(Clone, Copy)]
 pub enum Next {
     State(usize),
     NoBranch,

@@ -1,4 +1,6 @@
 // The weights of a plate: how many codewords have each number of ones, and the smallest number above zero.
+#![tactic(auto)]
+
 ghost use Rattle.plates.specs.Prepare.{of_parts};
 ghost use Rattle.weights.specs.Weights.{CountsWeights};
 
@@ -11,7 +13,7 @@ mod states;
 mod tallies;
 
 // The smallest weight above zero, or that only the zero word is a codeword, or why nothing was counted.
-#[derive(Drop)]
+#[derive(Clone, Copy)]
 pub enum Counted {
     Least(usize),
     OnlyZero,

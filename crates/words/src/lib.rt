@@ -1,4 +1,6 @@
 // A 64-bit word by position: position i is the bit of weight 2^i.
+#![tactic(auto)]
+
 ghost use Rattle.std.specs.Prelude.{◌≡◌};
 ghost use Rattle.words.specs.Ends.{FirstOne, LastOne};
 ghost use Rattle.words.specs.Parity.{parity};

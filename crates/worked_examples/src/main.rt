@@ -1,6 +1,8 @@
 // Judges the listings of branches on its standard input against the plate of n=3, H 111, whose words are 000, 110, 011 and 101, and
 // prints a line for each. A listing begins with # and a line of words; seven numbers are lent where that line begins with 7, else 64. Where it
 // begins with 5 the plate has a mask beyond its length, so that it is not prepared.
+#![tactic(auto)]
+
 ghost use Rattle.std.specs.Prelude.{◌≤◌, length};
 
 use judging::{Judged, Judgement};
