@@ -1,3 +1,2 @@
 // The demands on the library restated and proved; no code.
 #![tactic(auto)]
-

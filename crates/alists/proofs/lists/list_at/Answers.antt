@@ -1,0 +1,32 @@
+-- `lists::list_at` meets its contract.
+use lib.ListN.{drop, length-replicate, replicate}
+use lib.Seq.{length-take-le}
+use mathlib.Core.Path.{sym}
+use Prim.Native.Nat.{ℕ}
+use Rattle.alists.proofs.Storing.{line_kept, line-lost}
+use Rattle.alists.proofs.Judging.{list-bad, list-good, list-wrong}
+use borrow.Author.Rules.{rules}
+use native.Mathlib.Omega.{arith}
+use Rattle.alists.proofs.lists.list_at.Goals as goal
+
+pub returns-in_default : goal.returns-in_default
+returns-in_default c =
+    let l = rw c.in_default.is at c.read_line-line.ensures.is in
+    record { is = list-bad c.args.most c.args.size c.args.weight _ (line-lost _ c.args.most (drop c.args.at c.args.text.now) l) }
+
+pub slice_bounds-word_of-end : goal.slice_bounds-word_of-end
+slice_bounds-word_of-end c =
+    let s = c.read_line-line.ensures.size in
+    sym (length-take-le _ _ (omega (arith, s, length-replicate {A = ℕ} 64 0)))
+
+pub returns-in_default-judged : goal.returns-in_default-judged
+returns-in_default-judged c =
+    let l = rw c.in-Next.is at c.read_line-line.ensures.is in
+    let w = rw c.in_default-judged.is at c.word_of-judged.ensures.is in
+    record { is = list-wrong c.args.most c.args.size c.args.weight _ _ _ (line_kept (replicate 64 0) c.args.most (drop c.args.at c.args.text.now) _ _ (omega (arith, length-replicate {A = ℕ} 64 0)) l.0) w }
+
+pub returns : goal.returns
+returns c =
+    let l = rw c.in-Next.is at c.read_line-line.ensures.is in
+    let w = rw c.in-Is.is at c.word_of-judged.ensures.is in
+    record { is = (list-good c.args.most c.args.size c.args.weight _ _ _ _ (line_kept (replicate 64 0) c.args.most (drop c.args.at c.args.text.now) _ _ (omega (arith, length-replicate {A = ℕ} 64 0)) l.0) w, l.1) }

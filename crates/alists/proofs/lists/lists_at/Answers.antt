@@ -1,0 +1,44 @@
+-- `lists::lists_at` meets its contract: the lists from i on are still to be put.
+use borrow.Author.Tests.{not-false, not-true}
+use lib.ListN.{drop, length}
+use mathlib.Core.Path.{sym, ◌∙◌}
+use Prim.Native.Nat.{◌-◌}
+use Rattle.alists.specs.Reading.{lists_from}
+use Rattle.alists.specs.Working.{laid_from}
+use Rattle.alists.proofs.Judging.{Laying, laying-bad, laying-end, laying-hidden, laying-on, laying-start}
+use borrow.Author.Rules.{rules}
+use native.Mathlib.Omega.{arith}
+use Rattle.alists.proofs.lists.lists_at.Goals as goal
+
+pub loop-i-init : goal.loop-i-init
+loop-i-init c =
+    laying-start c.args.most c.args.size c.args.seen.now c.args.weights.now c.args.text.now c.args.from c.args.table.now c.requires.from_in_bounds
+
+pub list_at-list-requires : goal.list_at-list-requires
+list_at-list-requires c =
+    record {
+      at_in_bounds = c.loop-i.invariant.place;
+      most_bound = c.requires.most_bound;
+      size_bound = c.requires.size_bound;
+    }
+
+pub returns-in_default : goal.returns-in_default
+returns-in_default c =
+    record { size = c.loop-i.invariant.sized; is = (laying-bad (omega arith) c.loop-i.invariant (rw c.in_default.is at c.list_at-list.ensures.is), omega arith) }
+
+pub shows_columns-requires : goal.shows_columns-requires
+shows_columns-requires c = c.requires.seen_len_bound
+
+pub returns-then-not-shows_columns : goal.returns-then-not-shows_columns
+returns-then-not-shows_columns c =
+    let l = rw c.in-Is.is at c.list_at-list.ensures.is in
+    record { size = c.loop-i.invariant.sized; is = (laying-hidden (omega arith) c.loop-i.invariant c.in-Is.word c.in-Is.next l.0 (sym c.shows_columns.ensures ∙ c.if-not-shows_columns.true), omega arith) }
+
+pub loop-i-preserved : goal.loop-i-preserved
+loop-i-preserved c =
+    let l = rw c.in-Is.is at c.list_at-list.ensures.is in
+    laying-on (omega arith) c.loop-i.invariant c.in-Is.word c.in-Is.next l.0 l.1 (sym c.shows_columns.ensures ∙ c.if-not-shows_columns.false)
+
+pub returns : goal.returns
+returns c =
+    record { size = c.loop-i.invariant.sized; is = (laying-end (omega arith) c.loop-i.invariant, c.loop-i.invariant.place) }

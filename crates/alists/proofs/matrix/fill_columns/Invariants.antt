@@ -1,0 +1,15 @@
+-- `matrix::fill_columns` meets its contract: the columns from i on are still to be put.
+use lib.Seq.{sets}
+use mathlib.Core.Path.{◌≡◌, sym, ◌∙◌}
+use Prim.Native.Nat.{◌-◌, ◌≤◌}
+use Rattle.alists.specs.Lists.{columns_from}
+use Rattle.alists.proofs.Filling.{columns-end, columns-on, columns-start}
+use borrow.Author.Rules.{rules}
+use native.Mathlib.Omega.{arith}
+use Rattle.alists.proofs.matrix.fill_columns.Given as goal
+
+abbrev pub invariant-loop-i : goal.invariant-loop-i
+invariant-loop-i l = (l.i ≤ l.n) × (sets l.table l.i (columns_from l.rows l.i (l.n - l.i)) ≡ sets l.initial.table 0 (columns_from l.rows 0 l.n))
+
+abbrev pub decreases-loop-i : goal.decreases-loop-i
+decreases-loop-i l = l.n - l.i

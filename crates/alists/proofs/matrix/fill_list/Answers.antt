@@ -1,0 +1,26 @@
+-- `matrix::fill_list` meets its contract: position by position.
+use mathlib.Core.Path.{refl}
+use Prim.Native.Nat.{◌-◌}
+use Rattle.alists.proofs.Filling.{Listing, listing-end, listing-on, listing_start}
+use borrow.Author.Rules.{rules}
+use native.Mathlib.Omega.{arith}
+use Rattle.alists.proofs.matrix.fill_list.Goals as goal
+
+pub loop-i-init : goal.loop-i-init
+loop-i-init c = listing_start c.args.word c.args.table.now
+
+pub put_one-count-requires : goal.put_one-count-requires
+put_one-count-requires c =
+    let l = c.loop-i.invariant in
+    record {
+      i_bound = omega arith;
+      count_le_i = l.few;
+    }
+
+pub loop-i-preserved : goal.loop-i-preserved
+loop-i-preserved c = listing-on _ refl (omega arith) c.loop-i.invariant c.put_one-count.ensures.is
+
+pub returns : goal.returns
+returns c =
+    let e = listing-end (omega arith) c.loop-i.invariant in
+    record { stands = e.0; count = e.1 }

@@ -1,0 +1,22 @@
+-- `matrix::fill_weights` meets its contract: the weights from i on are still to be put.
+use lib.ListN.{drop, length}
+use lib.Seq.{sets}
+use mathlib.Core.List.{map}
+use mathlib.Core.Path.{◌≡◌, refl, sym, ◌∙◌}
+use Prim.Native.Nat.{◌-◌, ◌≤◌}
+use Rattle.alists.specs.Lists.{weight}
+use Rattle.alists.proofs.Filling.{weights-end, weights-on}
+use borrow.Author.Rules.{rules}
+use native.Mathlib.Omega.{arith}
+use Rattle.alists.proofs.matrix.fill_weights.Goals as goal
+
+pub loop-i-init : goal.loop-i-init
+loop-i-init c = (omega arith, refl)
+
+pub loop-i-preserved : goal.loop-i-preserved
+loop-i-preserved c =
+    (omega arith, rw c.fill_list.ensures.count (sym (weights-on c.loop-i.table c.args.words.now c.loop-i.i (omega arith)) ∙ c.loop-i.invariant.1))
+
+pub returns : goal.returns
+returns c =
+    record { stands = sym (weights-end c.loop-i.table c.args.words.now c.loop-i.i (omega arith)) ∙ c.loop-i.invariant.1 }

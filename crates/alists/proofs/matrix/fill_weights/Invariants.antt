@@ -1,0 +1,17 @@
+-- `matrix::fill_weights` meets its contract: the weights from i on are still to be put.
+use lib.ListN.{drop, length}
+use lib.Seq.{sets}
+use mathlib.Core.List.{map}
+use mathlib.Core.Path.{◌≡◌, refl, sym, ◌∙◌}
+use Prim.Native.Nat.{◌-◌, ◌≤◌}
+use Rattle.alists.specs.Lists.{weight}
+use Rattle.alists.proofs.Filling.{weights-end, weights-on}
+use borrow.Author.Rules.{rules}
+use native.Mathlib.Omega.{arith}
+use Rattle.alists.proofs.matrix.fill_weights.Given as goal
+
+abbrev pub invariant-loop-i : goal.invariant-loop-i
+invariant-loop-i l = (l.i ≤ length l.words) × (sets l.table l.i (map weight (drop l.i l.words)) ≡ sets l.initial.table 0 (map weight l.words))
+
+abbrev pub decreases-loop-i : goal.decreases-loop-i
+decreases-loop-i l = length l.words - l.i

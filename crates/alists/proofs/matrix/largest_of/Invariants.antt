@@ -1,0 +1,16 @@
+-- `matrix::largest_of` meets its contract: the largest from i on is found.
+use native.Mathlib.Omega.{arith}
+use lib.ListN.{drop, length}
+use lib.Seq.{drop-length}
+use mathlib.Core.Path.{◌≡◌, sym, ◌∙◌}
+use Prim.Native.Nat.{◌≤◌}
+use Rattle.alists.specs.Lists.{largest}
+use Rattle.alists.proofs.Places.{largest-on}
+use borrow.Author.Rules.{rules}
+use Rattle.alists.proofs.matrix.largest_of.Given as goal
+
+abbrev pub invariant-loop-i : goal.invariant-loop-i
+invariant-loop-i l = (l.i ≤ length l.weights) × (l.most ≡ largest (drop l.i l.weights))
+
+abbrev pub decreases-loop-i : goal.decreases-loop-i
+decreases-loop-i l = l.i

@@ -1,0 +1,32 @@
+-- `numbers::read_rest` meets its contract: the numbers from i on are still to be put.
+use lib.ListN.{drop, length}
+use Prim.Native.Nat.{◌-◌}
+use Rattle.alists.specs.Lines.{rest_of}
+use Rattle.alists.specs.Working.{stored}
+use Rattle.alists.proofs.Storing.{Storing, storing-bad, storing-end, storing-on, storing-start}
+use borrow.Author.Rules.{rules}
+use native.Mathlib.Omega.{arith}
+use Rattle.alists.proofs.numbers.read_rest.Goals as goal
+
+pub loop-i-init : goal.loop-i-init
+loop-i-init c =
+    storing-start c.args.text.now c.args.count c.args.from 1 c.args.table.now c.requires.le_count c.requires.from_in_bounds
+
+pub next_at-number-requires : goal.next_at-number-requires
+next_at-number-requires c = c.loop-i.invariant.place
+
+pub returns-in_default : goal.returns-in_default
+returns-in_default c =
+    record { size = c.loop-i.invariant.size; is = storing-bad (omega arith) (rw c.in_default.is at c.next_at-number.ensures.is) c.loop-i.invariant }
+
+pub loop-i-preserved : goal.loop-i-preserved
+loop-i-preserved c =
+    let n = rw c.in-Is.is at c.next_at-number.ensures.is in
+    storing-on c.in-Is.value c.in-Is.next (omega arith) n.0 n.1 c.loop-i.invariant
+
+pub feed_at-requires : goal.feed_at-requires
+feed_at-requires c = c.loop-i.invariant.place
+
+pub returns : goal.returns
+returns c =
+    record { size = c.loop-i.invariant.size; is = storing-end (omega arith) c.feed_at.result c.feed_at.ensures c.loop-i.invariant }

@@ -1,0 +1,34 @@
+-- `pieces::put_lists` meets its contract: the lists from i on are still to be put.
+use lib.ListN.{drop, get_or, length}
+use mathlib.Core.List.{map}
+use Prim.Native.Nat.{◌+◌, ◌-◌, ◌≤◌}
+use Rattle.alists.specs.Lists.{list_of}
+use Rattle.alists.specs.Text.{line, text_of}
+use Rattle.alists.proofs.Putting.{Going, going_done, going_on, going-room, going_start, lists-end, lists-here}
+use borrow.Author.Rules.{rules}
+use native.Mathlib.Omega.{arith}
+use Rattle.alists.proofs.pieces.put_lists.Goals as goal
+
+pub loop-i-init : goal.loop-i-init
+loop-i-init c =
+    (omega arith, going_start c.args.room.now c.args.at (text_of (map (list_of c.args.most) c.args.words.now)))
+
+pub put_list-next-requires : goal.put_list-next-requires
+put_list-next-requires c =
+    let g = rw (lists-here c.args.most c.args.words.now c.loop-i.i (omega arith)) at c.loop-i.invariant.1 in
+    record {
+      most_bound = c.requires.most_bound;
+      word_bound = going-room (line (list_of c.args.most (get_or c.args.words.now c.loop-i.i 0))) (text_of (map (list_of c.args.most) (drop (c.loop-i.i + 1) c.args.words.now))) 32768 g c.requires.words_bound;
+    }
+
+pub loop-i-preserved : goal.loop-i-preserved
+loop-i-preserved c =
+    let g = rw (lists-here c.args.most c.args.words.now c.loop-i.i (omega arith)) at c.loop-i.invariant.1 in
+    (omega arith, going_on (line (list_of c.args.most (get_or c.args.words.now c.loop-i.i 0))) (text_of (map (list_of c.args.most) (drop (c.loop-i.i + 1) c.args.words.now))) g c.put_list-next.ensures)
+
+pub shape_of-room : goal.shape_of-room
+shape_of-room c = c.loop-i.invariant.1.size
+
+pub returns : goal.returns
+returns c =
+    going_done (rw (lists-end c.args.most c.args.words.now c.loop-i.i (omega arith)) at c.loop-i.invariant.1)

@@ -1,0 +1,15 @@
+-- `decoding::batch::put_blocks` meets its contract. The loop's invariant: the first blocks are stored. The measure is how many are left.
+use borrow.Author.Rules.{rules}
+use lib.ListN.{length}
+use mathlib.Core.Path.{◌≡◌}
+use native.Mathlib.Omega.{arith}
+use Prim.Native.Nat.{◌*◌, ◌+◌, ◌-◌, ◌≤◌}
+use Rattle.decoding.specs.Batching.{BlocksPut}
+use Rattle.decoding.proofs.Batched.{all-put, block-fits, block_inside, blocks-on, blocks_start, there}
+use Rattle.decoding.proofs.batch.put_blocks.Given as goal
+
+abbrev pub invariant-loop-at : goal.invariant-loop-at
+invariant-loop-at l = (l.at ≤ length l.initial.found) × BlocksPut l.rows l.sizes l.samples l.initial.found l.initial.scores l.initial.metrics l.initial.decisions l.at l.found l.scores l.metrics l.decisions l.counts
+
+abbrev pub decreases-loop-at : goal.decreases-loop-at
+decreases-loop-at l = length l.initial.found - l.at

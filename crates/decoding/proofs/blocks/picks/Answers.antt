@@ -1,0 +1,24 @@
+-- `blocks::picks` meets its contract. The first i states are done.
+use borrow.Author.Rules.{rules}
+use native.Mathlib.Omega.{arith}
+use mathlib.Core.Path.{◌≡◌}
+use Prim.Native.Nat.{◌-◌, ◌≤◌}
+use Rattle.decoding.proofs.Storing.{pick-fits, picks_more, picks-none}
+use Rattle.decoding.specs.Picking.{Picks}
+use Rattle.decoding.proofs.blocks.picks.Goals as goal
+
+pub loop-i-init : goal.loop-i-init
+loop-i-init c = (omega arith, search picks-none)
+
+pub pick-picked-requires : goal.pick-picked-requires
+pick-picked-requires c = search pick-fits
+
+pub loop-i-preserved : goal.loop-i-preserved
+loop-i-preserved c = (omega (arith, c.loop-i-test.true), search picks_more)
+
+pub shape_of-metrics : goal.shape_of-metrics
+shape_of-metrics c = c.loop-i.invariant.1.stored.size
+
+pub returns : goal.returns
+returns c =
+    let e : c.loop-i.i ≡ 32 = omega (arith, c.loop-i-test.false, c.loop-i.invariant.0) in rw e at c.loop-i.invariant.1

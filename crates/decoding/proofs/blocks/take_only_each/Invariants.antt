@@ -1,0 +1,14 @@
+-- `blocks::take_only_each` meets its contract. The first i states are done.
+use borrow.Author.Rules.{rules}
+use native.Mathlib.Omega.{arith}
+use mathlib.Core.Path.{◌≡◌}
+use Prim.Native.Nat.{◌-◌, ◌≤◌}
+use Rattle.decoding.proofs.Storing.{lone-fits, lones-more, lones-none}
+use Rattle.decoding.specs.Picking.{Lones}
+use Rattle.decoding.proofs.blocks.take_only_each.Given as goal
+
+abbrev pub invariant-loop-i : goal.invariant-loop-i
+invariant-loop-i l = (l.i ≤ 32) × Lones l.initial.metrics l.at l.near l.signs l.side l.i l.initial.raised l.metrics l.raised
+
+abbrev pub decreases-loop-i : goal.decreases-loop-i
+decreases-loop-i l = 32 - l.i

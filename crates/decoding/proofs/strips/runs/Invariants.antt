@@ -1,0 +1,14 @@
+-- `strips::runs` meets its contract. The first i metrics are gathered.
+use borrow.Author.Rules.{rules}
+use mathlib.Core.Path.{ap}
+use native.Mathlib.Omega.{arith}
+use Prim.Native.Nat.{◌+◌, ◌-◌, ℕ}
+use Rattle.decoding.proofs.Gathering.{Fours, four-fit, fours-all, fours-more, fours-none, run-place}
+use Rattle.decoding.specs.Strips.{landing}
+use Rattle.decoding.proofs.strips.runs.Given as goal
+
+abbrev pub invariant-loop-i : goal.invariant-loop-i
+invariant-loop-i l = Fours l.metrics (landing l.from l.place l.x) l.i l.into
+
+abbrev pub decreases-loop-i : goal.decreases-loop-i
+decreases-loop-i l = 32 - l.i

@@ -1,0 +1,9 @@
+-- `decoding::sweep::gain` meets its contract: a sample is a number of more bits.
+use mir.Facts.{to_z-of_z, sfits_widen}
+use Rattle.decoding.proofs.sweep.gain.Goals as goal
+
+pub overflow_cast-result : goal.overflow_cast-result
+overflow_cast-result c = rw (to_z-of_z c.ranges.sample) (sfits_widen tt c.ranges.sample)
+
+pub returns : goal.returns
+returns c = rw (to_z-of_z c.ranges.sample) (to_z-of_z (sfits_widen tt c.ranges.sample))

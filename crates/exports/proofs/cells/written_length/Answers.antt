@@ -1,0 +1,13 @@
+-- `exports::cells::written_length` meets its contract: the length, or the number of the refusal.
+use borrow.Author.Rules.{rules}
+use mathlib.Core.Path.{◌∙◌, ap, sym}
+use Rattle.exports.proofs.CallsMade.{same_code}
+use Rattle.exports.specs.Crossing.{written_as}
+use Rattle.exports.proofs.cells.written_length.Goals as goal
+
+pub returns-in-Bytes : goal.returns-in-Bytes
+returns-in-Bytes c = λ room. sym (ap (written_as c.args.size.now room) c.in-Bytes.is)
+
+pub returns-in-Refused : goal.returns-in-Refused
+returns-in-Refused c =
+    λ room. same_code c.refusal_number.ensures ∙ sym (ap (written_as c.args.size.now room) c.in-Refused.is)

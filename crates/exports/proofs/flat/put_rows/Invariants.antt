@@ -1,0 +1,15 @@
+-- `exports::flat::put_rows` meets its contract: cell by cell.
+use borrow.Author.Rules.{rules}
+use lib.ListN.{length, length-set}
+use mathlib.Core.Path.{◌≡◌, refl}
+use native.Mathlib.Omega.{arith}
+use lib.Seq.{paste, paste-zero}
+use Prim.Native.Nat.{◌-◌, ◌≤◌}
+use Rattle.exports.proofs.CellsCopied.{pasted-end, pasted-on}
+use Rattle.exports.proofs.flat.put_rows.Given as goal
+
+abbrev pub invariant-loop-j : goal.invariant-loop-j
+invariant-loop-j l = (l.j ≤ 64) × (length l.words ≡ length l.initial.words) × (l.words ≡ paste l.initial.words 2 l.rows l.j)
+
+abbrev pub decreases-loop-j : goal.decreases-loop-j
+decreases-loop-j l = 64 - l.j

@@ -1,0 +1,28 @@
+-- `exports::sheeting::yendrufal_plate_of_sheet` meets its promise.
+use borrow.Author.Rules.{rules}
+use mathlib.Core.Path.{sym, ◌∙◌}
+use native.Mathlib.Omega.{arith}
+use Rattle.exports.proofs.CallsMade.{misshaped}
+use Rattle.exports.proofs.SheetCrossed.{sheet-accepted, sheet-refused}
+use Rattle.exports.proofs.sheeting.yendrufal_plate_of_sheet.Goals as goal
+
+pub returns-then-plate-lt132 : goal.returns-then-plate-lt132
+returns-then-plate-lt132 c = misshaped (λ s. omega (arith, s.0))
+
+pub returns-then-order-lt1 : goal.returns-then-order-lt1
+returns-then-order-lt1 c = misshaped (λ s. omega (arith, s.1))
+
+pub returns-then-at-lt2 : goal.returns-then-at-lt2
+returns-then-at-lt2 c = misshaped (λ s. omega (arith, s.2))
+
+pub returns-in-Accepted : goal.returns-in-Accepted
+returns-in-Accepted c =
+    sheet-accepted _ _ _ (search rules) c.«open».ensures
+    (sym c.verdict_of-verdict.ensures ∙ c.in-Accepted.is)
+    c.put_plate.ensures c.order_number.ensures
+
+pub returns-in-Refused : goal.returns-in-Refused
+returns-in-Refused c =
+    sheet-refused _ _ _ (search rules) c.«open».ensures
+    (sym c.verdict_of-verdict.ensures ∙ c.in-Refused.is)
+    c.refused_in.ensures

@@ -1,0 +1,20 @@
+-- `exports::yendrufal_read_back` meets its promise.
+use borrow.Author.Rules.{rules}
+use mathlib.Core.Path.{refl}
+use native.Mathlib.Omega.{arith}
+use Rattle.exports.proofs.CallsMade.{misshaped, replied, same_code}
+use Rattle.exports.proofs.yendrufal_read_back.Goals as goal
+
+pub returns-then-plate-lt132 : goal.returns-then-plate-lt132
+returns-then-plate-lt132 c = misshaped (λ s. omega (arith, s.0))
+
+pub returns-then-information-lt1 : goal.returns-then-information-lt1
+returns-then-information-lt1 c = misshaped (λ s. omega (arith, s.1))
+
+pub returns-in-Information : goal.returns-in-Information
+returns-in-Information c = replied (search rules) c.read_back_parts.result _ c.read_back_parts.ensures c.in-Information.is refl
+
+pub returns-in-Refused : goal.returns-in-Refused
+returns-in-Refused c =
+    replied (search rules) c.read_back_parts.result _ c.read_back_parts.ensures c.in-Refused.is
+    (same_code c.refusal_number.ensures)

@@ -1,0 +1,15 @@
+-- `lines::clashes_among` meets its contract. The loop's invariant: what is left of the search says what the whole says. The measure is what is left.
+use borrow.Author.Rules.{rules}
+use mathlib.Core.Path.{ap, sym, ◌∙◌, ◌≡◌}
+use native.Mathlib.Omega.{arith}
+use Prim.Native.Nat.{◌-◌, suc}
+use Rattle.judging.specs.Listing.{clash}
+use Rattle.sheets.specs.declared.listed.Branch.{Branch}
+use Rattle.judging.proofs.Reading.{Clashing, clashing-found, clashing-none, clashing-on, clashing-start}
+use Rattle.judging.proofs.lines.clashes_among.Given as goal
+
+abbrev pub invariant-loop-left : goal.invariant-loop-left
+invariant-loop-left l = Clashing l.n l.text l.first l.branch l.at l.left
+
+abbrev pub decreases-loop-left : goal.decreases-loop-left
+decreases-loop-left l = l.left

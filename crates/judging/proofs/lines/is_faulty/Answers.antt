@@ -1,0 +1,9 @@
+-- `lines::is_faulty` meets its contract.
+use borrow.Author.Rules.{rules}
+use Rattle.judging.proofs.lines.is_faulty.Goals as goal
+
+pub returns-in-Is : goal.returns-in-Is
+returns-in-Is c = rw c.in-Is.is
+
+pub returns-in-Bad : goal.returns-in-Bad
+returns-in-Bad c = rw c.in-Bad.is

@@ -1,0 +1,15 @@
+-- `ours::first_suiting` meets its contract.
+use borrow.Author.Rules.{rules}
+use mathlib.Core.Path.{◌∙◌, ap, sym}
+use native.Mathlib.Numerals.{add-one}
+use native.Mathlib.Omega.{arith}
+use Prim.Native.Nat.{ℕ, ◌-◌, ◌^◌, ◌≤◌, suc}
+use Rattle.judging.specs.Ours.{suits}
+use Rattle.judging.proofs.Reading.{Searching, searching-found, searching-none, searching-on, searching-start}
+use Rattle.judging.proofs.ours.first_suiting.Given as goal
+
+abbrev pub invariant-loop-a : goal.invariant-loop-a
+invariant-loop-a l = (l.a ≤ 2 ^ l.section.live) × Searching (2 ^ l.section.live) (λ l.a. suits l.section (suc l.a) l.zero l.one) l.a
+
+abbrev pub decreases-loop-a : goal.decreases-loop-a
+decreases-loop-a l = 2 ^ l.section.live - l.a

@@ -1,0 +1,52 @@
+-- `levels::levels_of` meets its contract: each refusal, with the room unchanged, and the levels.
+use borrow.Author.Rules.{rules}
+use borrow.Author.Tests.{not-false, not-true}
+use mathlib.Core.Logic.{inl, inr}
+use mathlib.Core.Path.{refl}
+use Rattle.levels.proofs.Calls.{count-passed, good-passed, length-passed, number-refused, numbers-passed, writable}
+use Rattle.levels.proofs.levels_of.Goals as goal
+
+pub returns-then-n-eq0 : goal.returns-then-n-eq0
+returns-then-n-eq0 c = (inl (inl c.if-n-eq0.true, refl), refl)
+
+pub returns-then-n-gt64 : goal.returns-then-n-gt64
+returns-then-n-gt64 c = (inl (inr c.if-n-gt64.true, refl), refl)
+
+pub returns-then-not-is_good : goal.returns-then-not-is_good
+returns-then-not-is_good c =
+    let fits = length-passed c.if-n-eq0.false c.if-n-gt64.false in
+    (inr (fits, inl (c.is_good.ensures.no_is c.if-not-is_good.true, refl)), refl)
+
+pub returns-then-values-n : goal.returns-then-values-n
+returns-then-values-n c =
+    let fits = length-passed c.if-n-eq0.false c.if-n-gt64.false in
+    let good = good-passed (c.is_good.ensures.yes_is c.if-not-is_good.false) in
+    (inr (fits, inr (good, inl (inl c.if-values-n.true, refl))), refl)
+
+pub returns-then-room-n : goal.returns-then-room-n
+returns-then-room-n c =
+    let fits = length-passed c.if-n-eq0.false c.if-n-gt64.false in
+    let good = good-passed (c.is_good.ensures.yes_is c.if-not-is_good.false) in
+    (inr (fits, inr (good, inl (inr c.if-room-n.true, refl))), refl)
+
+pub returns-then-first-n : goal.returns-then-first-n
+returns-then-first-n c =
+    let fits = length-passed c.if-n-eq0.false c.if-n-gt64.false in
+    let good = good-passed (c.is_good.ensures.yes_is c.if-not-is_good.false) in
+    let args = c.args in
+    let count = count-passed args.values.now args.room.now c.if-values-n.false c.if-room-n.false in
+    (inr (fits, inr (good, inr (count, inl (number-refused c.first_not_a_number-first.ensures c.if-values-n.false c.if-first-n.true)))), refl)
+
+pub write_levels-requires : goal.write_levels-requires
+write_levels-requires c =
+    let good = c.is_good.ensures.yes_is c.if-not-is_good.false in
+    writable c.first_not_a_number-first.ensures c.if-values-n.false c.if-first-n.false good c.if-room-n.false
+
+pub returns : goal.returns
+returns c =
+    let fits = length-passed c.if-n-eq0.false c.if-n-gt64.false in
+    let good = good-passed (c.is_good.ensures.yes_is c.if-not-is_good.false) in
+    let args = c.args in
+    let count = count-passed args.values.now args.room.now c.if-values-n.false c.if-room-n.false in
+    let numbers = numbers-passed c.first_not_a_number-first.ensures c.if-values-n.false c.if-first-n.false in
+    ((fits, (good, (count, (numbers, tt)))), c.write_levels.ensures)

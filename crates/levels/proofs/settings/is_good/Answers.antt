@@ -1,0 +1,33 @@
+-- `levels::settings::is_good` meets its contract.
+use borrow.Author.Rules.{rules}
+use borrow.Author.Tests.{not-false, not-true}
+use lib.Ieee.{of_bits}
+use lib.Ieee.Scale.{finite}
+use mathlib.Core.Path.{◌∙◌, ap}
+use native.Mathlib.Omega.{arith}
+use Rattle.levels.proofs.Tests.{above, found, good-if, not-above, not_found, not_good}
+use Rattle.levels.proofs.settings.is_good.Goals as goal
+
+pub returns-then-not-is_finite : goal.returns-then-not-is_finite
+returns-then-not-is_finite c = not_good (λ g. not_found c.is_finite.ensures c.if-not-is_finite.true g.step_finite)
+
+pub returns-then-not-is_finite-2 : goal.returns-then-not-is_finite-2
+returns-then-not-is_finite-2 c =
+    not_good (λ g. not_found (c.is_finite-2.ensures ∙ ap finite c.times_step.ensures) c.if-not-is_finite-2.true g.top_finite)
+
+pub returns-then-not-setting : goal.returns-then-not-setting
+unfolding of_bits
+returns-then-not-setting c = not_good (λ g. not-above _ c.if-not-setting.true g.above_zero)
+
+pub returns-then-setting-eq0 : goal.returns-then-setting-eq0
+returns-then-setting-eq0 c = not_good (λ g. omega (arith, c.if-setting-eq0.true, g.least))
+
+pub returns : goal.returns
+unfolding of_bits
+returns c =
+    let at-two = c in
+    good-if
+    (found at-two.before.before.before.before.is_finite.ensures (not-false _ at-two.before.before.before.if1.false))
+    (found (at-two.before.is-finite2.ensures ∙ ap finite at-two.before.before.times-step.ensures) (not-false _ at-two.if2.false))
+    (above _ c.if-not-setting.false)
+    (omega (arith, c.if-setting-eq0.false))

@@ -1,0 +1,36 @@
+-- `levels::values::first_not_a_number` meets its contract. The loop's invariant: the samples before i are erased or numbers.
+use borrow.Author.Count.{below_more}
+use borrow.Author.Rules.{rules}
+use lib.ListN.{length}
+use mathlib.Core.Path.{ap, ◌∙◌}
+use native.Mathlib.Omega.{arith}
+use Prim.Native.Nat.{ℕ, ◌-◌, ◌<◌, ◌≤◌}
+use Rattle.levels.specs.Choosing.{sample_at, sample_of}
+use Rattle.levels.specs.Giving.{not_a_number}
+use Rattle.levels.specs.Testing.{IsNumber}
+use Rattle.levels.proofs.Tests.{found, not_found}
+use Rattle.levels.proofs.values.first_not_a_number.Goals as goal
+
+pub loop-i-init : goal.loop-i-init
+loop-i-init c = (omega arith, λ j h. absurd (omega arith))
+
+pub returns-then-is_not_a_number : goal.returns-then-is_not_a_number
+returns-then-is_not_a_number c =
+    let l = c.loop-i in
+    record {
+      most = l.invariant.0;
+      before = l.invariant.1;
+      here = λ h. found (c.is_not_a_number.ensures ∙ ap not_a_number (c.sample_of.ensures ∙ ap (sample_of _) c.bit_at.ensures)) c.if-is_not_a_number.true;
+    }
+
+pub loop-i-preserved : goal.loop-i-preserved
+loop-i-preserved c =
+    let l = c.loop-i in (
+      omega (arith, c.loop-i-test.true),
+      below_more (λ (j : ℕ). IsNumber (sample_at c.args.values.now c.args.erased j)) l.i l.invariant.1
+          (not_found (c.is_not_a_number.ensures ∙ ap not_a_number (c.sample_of.ensures ∙ ap (sample_of _) c.bit_at.ensures)) c.if-is_not_a_number.false),
+    )
+
+pub returns : goal.returns
+returns c =
+    record { most = c.loop-i.invariant.0; before = c.loop-i.invariant.1; here = λ h. absurd (omega (arith, h, c.loop-i-test.false)) }

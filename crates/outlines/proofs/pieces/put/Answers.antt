@@ -1,0 +1,18 @@
+-- `pieces::put` meets its contract.
+use borrow.Author.Rules.{rules}
+use lib.ListN.{length}
+use Prim.Native.Nat.{◌-◌}
+use Rattle.outlines.proofs.Putting.{BytesPut, bytes-end, bytes_on, bytes-size, bytes-start}
+use Rattle.outlines.proofs.pieces.put.Goals as goal
+
+pub loop-i-init : goal.loop-i-init
+loop-i-init c = search bytes-start
+
+pub loop-i-preserved : goal.loop-i-preserved
+loop-i-preserved c = search bytes_on
+
+pub shape_of-room : goal.shape_of-room
+shape_of-room c = search bytes-size
+
+pub returns : goal.returns
+returns c = search bytes-end

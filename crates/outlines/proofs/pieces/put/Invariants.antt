@@ -1,0 +1,12 @@
+-- `pieces::put` meets its contract.
+use borrow.Author.Rules.{rules}
+use lib.ListN.{length}
+use Prim.Native.Nat.{◌-◌}
+use Rattle.outlines.proofs.Putting.{BytesPut, bytes-end, bytes_on, bytes-size, bytes-start}
+use Rattle.outlines.proofs.pieces.put.Given as goal
+
+abbrev pub invariant-loop-i : goal.invariant-loop-i
+invariant-loop-i l = BytesPut l.initial.room l.at l.text l.i l.room l.next
+
+abbrev pub decreases-loop-i : goal.decreases-loop-i
+decreases-loop-i l = length l.text - l.i

@@ -1,0 +1,11 @@
+-- `pieces::put_positions` meets its contract.
+use borrow.Author.Rules.{rules}
+use Prim.Native.Nat.{◌-◌}
+use Rattle.outlines.proofs.Putting.{PositionsPut, positions-end, positions-on, positions-size, positions-start}
+use Rattle.outlines.proofs.pieces.put_positions.Given as goal
+
+abbrev pub invariant-loop-i : goal.invariant-loop-i
+invariant-loop-i l = PositionsPut l.initial.room l.at l.word l.n l.i l.room l.next
+
+abbrev pub decreases-loop-i : goal.decreases-loop-i
+decreases-loop-i l = l.n - l.i

@@ -1,0 +1,18 @@
+-- `pieces::put_rows` meets its contract.
+use borrow.Author.Rules.{rules}
+use lib.ListN.{length}
+use Prim.Native.Nat.{◌-◌}
+use Rattle.outlines.proofs.Putting.{RowsPut, rows_end, rows_on, rows_size, rows_start}
+use Rattle.outlines.proofs.pieces.put_rows.Goals as goal
+
+pub loop-i-init : goal.loop-i-init
+loop-i-init c = search rows_start
+
+pub loop-i-preserved : goal.loop-i-preserved
+loop-i-preserved c = search rows_on
+
+pub shape_of-room : goal.shape_of-room
+shape_of-room c = search rows_size
+
+pub returns : goal.returns
+returns c = search rows_end

@@ -1,0 +1,21 @@
+-- `plates::matrix::first_beyond` meets its contract: a search.
+use borrow.Author.Rules.{rules}
+use lib.ListN.{length}
+use native.Mathlib.Omega.{arith}
+use Prim.Native.Nat.{◌-◌}
+use Rattle.plates.proofs.Gaining.{tells-not}
+use Rattle.plates.proofs.Searching.{NotYet, search-found, search-on, search-over, search-start}
+use Rattle.plates.specs.Working.{Beyond}
+use Rattle.plates.proofs.matrix.first_beyond.Goals as goal
+
+pub loop-i-init : goal.loop-i-init
+loop-i-init c = search-start (omega arith)
+
+pub returns-then-reaches-eq1 : goal.returns-then-reaches-eq1
+returns-then-reaches-eq1 c = search-found c.loop-i.invariant (c.reaches.ensures.yes_is c.if-reaches-eq1.true)
+
+pub loop-i-preserved : goal.loop-i-preserved
+loop-i-preserved c = search-on c.loop-i.invariant c.loop-i-test.true (tells-not c.reaches.ensures c.if-reaches-eq1.false)
+
+pub returns : goal.returns
+returns c = search-over c.loop-i.invariant c.loop-i-test.false

@@ -1,0 +1,24 @@
+-- `plates::profile::ends` meets its contract: row by row.
+use borrow.Author.Rules.{rules}
+use native.Mathlib.Omega.{arith}
+use Prim.Native.Nat.{◌-◌, ◌≤◌}
+use Rattle.plates.proofs.LiveCounted.{marks-end, marks-none, marks-on}
+use Rattle.plates.proofs.ProfilePassed.{ends_fresh, last-there}
+use Rattle.plates.proofs.TableFilled.{shifted_one}
+use Rattle.plates.specs.Profiling.{Marks}
+use Rattle.words.specs.Ends.{lasts}
+use Rattle.plates.proofs.profile.ends.Goals as goal
+
+pub loop-j-init : goal.loop-j-init
+loop-j-init c = (omega arith, marks-none)
+
+pub overflow_shl-marks : goal.overflow_shl-marks
+overflow_shl-marks c = (last-there c.requires c.loop-j-test.true c.last_one-last.ensures).1
+
+pub loop-j-preserved : goal.loop-j-preserved
+loop-j-preserved c =
+    let there = last-there c.requires c.loop-j-test.true c.last_one-last.ensures in
+    (omega arith, marks-on (ends_fresh c.requires c.loop-j-test.true) there.0 (shifted_one _ there.1) c.loop-j.invariant.1)
+
+pub returns : goal.returns
+returns c = marks-end c.loop-j.invariant.0 c.loop-j-test.false c.loop-j.invariant.1

@@ -1,0 +1,34 @@
+-- `plates::reduce::clear_rows` meets its contract: row after row.
+use borrow.Author.Rules.{rules}
+use mathlib.Core.Logic.{inr}
+use mathlib.Core.Path.{◌∙◌}
+use native.Mathlib.Omega.{arith}
+use Prim.Native.Nat.{◌-◌, ◌≤◌}
+use Rattle.plates.proofs.Gaining.{gained-end, gained-none, gained-on}
+use Rattle.plates.proofs.HeadsCleared.{gained-covers}
+use Rattle.plates.specs.Reducing.{Covers}
+use Rattle.plates.specs.Working.{Gained}
+use Rattle.words.proofs.Ends.{first-one-is, last-one-is}
+use Rattle.words.specs.Ends.{first, last}
+use Rattle.plates.proofs.reduce.clear_rows.Goals as goal
+
+pub loop-i-init : goal.loop-i-init
+loop-i-init c = (omega arith, gained-none)
+
+pub clear_row-requires : goal.clear_row-requires
+clear_row-requires c =
+    record {
+      i_lt_j = c.loop-i-test.true;
+      j_bound = omega arith;
+      table_len = c.loop-i.invariant.1.size ∙ c.requires.table_len;
+    }
+
+pub loop-i-preserved : goal.loop-i-preserved
+loop-i-preserved c =
+    (omega arith, gained-on (inr c.loop-i-test.true) (omega arith) c.loop-i.invariant.1 c.clear_row.ensures)
+
+pub returns : goal.returns
+returns c =
+    let pre = c.requires.1.1 in
+    gained-covers (first-one-is pre.0 pre.1 c.first_one-first.ensures) (last-one-is pre.0 pre.1 c.last_one-last.ensures)
+    (gained-end c.loop-i.invariant.0 c.loop-i-test.false c.loop-i.invariant.1)

@@ -1,0 +1,12 @@
+-- `plates::reduce::last_ending` meets its contract: a search from the end.
+use borrow.Author.Rules.{rules}
+use Rattle.plates.proofs.Gaining.{tells-not}
+use Rattle.plates.proofs.Searching.{NoneFrom, down-found, down-on, down-over, down-start}
+use Rattle.plates.specs.Working.{EndsAt}
+use Rattle.plates.proofs.reduce.last_ending.Given as goal
+
+abbrev pub invariant-loop-i : goal.invariant-loop-i
+invariant-loop-i l = NoneFrom l.table (EndsAt l.c) l.k l.i
+
+abbrev pub decreases-loop-i : goal.decreases-loop-i
+decreases-loop-i l = l.i

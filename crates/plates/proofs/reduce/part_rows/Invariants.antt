@@ -1,0 +1,15 @@
+-- `plates::reduce::part_rows` meets its contract: row after row.
+use borrow.Author.Rules.{rules}
+use mathlib.Core.Logic.{inr}
+use mathlib.Core.Path.{◌∙◌}
+use native.Mathlib.Omega.{arith}
+use Prim.Native.Nat.{◌-◌, ◌≤◌}
+use Rattle.plates.proofs.Gaining.{gained-end, gained-none, gained-on}
+use Rattle.plates.specs.Working.{EndsAt, Gained}
+use Rattle.plates.proofs.reduce.part_rows.Given as goal
+
+abbrev pub invariant-loop-i : goal.invariant-loop-i
+invariant-loop-i l = (l.i ≤ l.p) × Gained l.initial.table l.table (EndsAt l.c) 0 l.i l.p
+
+abbrev pub decreases-loop-i : goal.decreases-loop-i
+decreases-loop-i l = l.p - l.i

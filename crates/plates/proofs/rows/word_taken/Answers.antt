@@ -1,0 +1,7 @@
+-- `plates::rows::word_taken` meets its contract.
+use borrow.Author.Rules.{rules}
+use Rattle.plates.proofs.Gaining.{taken-some}
+use Rattle.plates.proofs.rows.word_taken.Goals as goal
+
+pub returns : goal.returns
+returns c = taken-some _ _ c.if-digit-eq0.false

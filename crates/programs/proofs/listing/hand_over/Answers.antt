@@ -1,0 +1,7 @@
+-- `listing::hand_over` meets its contract.
+use borrow.Author.Rules.{rules}
+use Rattle.programs.proofs.LinesPrinted.{handed-over}
+use Rattle.programs.proofs.listing.hand_over.Goals as goal
+
+pub returns : goal.returns
+returns c = search handed-over

@@ -1,0 +1,10 @@
+-- `listing::print_listing` meets its contract.
+use borrow.Author.Rules.{rules}
+use Rattle.programs.proofs.RunEnds.{all-taken, not-all-taken}
+use Rattle.programs.proofs.listing.print_listing.Goals as goal
+
+pub returns-then-printed : goal.returns-then-printed
+returns-then-printed c = search all-taken
+
+pub returns : goal.returns
+returns c = not-all-taken

@@ -1,0 +1,10 @@
+-- `outlining::hand_over` meets its contract.
+use borrow.Author.Rules.{rules}
+use Rattle.programs.proofs.TextsSaid.{text-taken, text-untaken}
+use Rattle.programs.proofs.outlining.hand_over.Goals as goal
+
+pub returns-then-handed : goal.returns-then-handed
+returns-then-handed c = search text-taken
+
+pub returns : goal.returns
+returns c = search text-untaken

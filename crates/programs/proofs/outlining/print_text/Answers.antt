@@ -1,0 +1,10 @@
+-- `outlining::print_text` meets its contract.
+use borrow.Author.Rules.{rules}
+use Rattle.programs.proofs.TextsSaid.{refused-said, text-there}
+use Rattle.programs.proofs.outlining.print_text.Goals as goal
+
+pub hand_over-requires : goal.hand_over-requires
+hand_over-requires c = search text-there
+
+pub returns-in-Refused : goal.returns-in-Refused
+returns-in-Refused c = search refused-said

@@ -1,0 +1,13 @@
+-- `verbs::run_on` meets its contract.
+use borrow.Author.Rules.{rules}
+use lib.ListN.{length-replicate}
+use mathlib.Core.Path.{◌∙◌}
+use Prim.Native.Nat.{ℕ}
+use Rattle.programs.proofs.Inputs.{stands-for}
+use Rattle.programs.proofs.RunEnds.{status-fault}
+use Rattle.programs.proofs.verbs.run_on.Goals as goal
+
+pub print_verb-ending-requires : goal.print_verb-ending-requires
+print_verb-ending-requires c =
+    let read = c.read_all-got in
+    stands-for (read.auto.1.0 ∙ length-replicate {A = ℕ} _ 0) read.ensures.0.1 read.ensures.1 c.if-got.false

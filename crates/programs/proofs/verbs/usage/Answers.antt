@@ -1,0 +1,7 @@
+-- `verbs::usage` meets its contract.
+use borrow.Author.Rules.{rules}
+use Rattle.programs.proofs.RunEnds.{status-fault}
+use Rattle.programs.proofs.verbs.usage.Goals as goal
+
+pub returns : goal.returns
+returns c = search status-fault

@@ -1,0 +1,6 @@
+-- `nothing_kept` meets its contract.
+use Rattle.std.proofs.Common.{rules}
+use Rattle.reports.proofs.nothing_kept.Goals as goal
+
+pub returns : goal.returns
+returns c = rw c.none.ensures

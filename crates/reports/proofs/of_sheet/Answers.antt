@@ -1,0 +1,14 @@
+-- `of_sheet` meets its contract.
+use Rattle.std.proofs.Common.{sym, length-take-le, rules}
+use Rattle.reports.proofs.of_sheet.Goals as goal
+
+pub slice_bounds-prepare-end : goal.slice_bounds-prepare-end
+slice_bounds-prepare-end c = sym (length-take-le _ _ c.requires)
+
+pub returns-in-Refused : goal.returns-in-Refused
+returns-in-Refused c =
+    record { prepared = _; prepares = c.prepare-prepared.ensures; is = rw c.in-Refused.is c.refused.ensures }
+
+pub returns-in-Accepted : goal.returns-in-Accepted
+returns-in-Accepted c =
+    record { prepared = _; prepares = c.prepare-prepared.ensures; is = rw (c.in-Accepted.is, c.nothing_kept.ensures) }

@@ -1,0 +1,6 @@
+-- `refused` meets its contract.
+use Rattle.std.proofs.Common.{rules}
+use Rattle.reports.proofs.refused.Goals as goal
+
+pub returns : goal.returns
+returns c = rw c.nothing_kept.ensures

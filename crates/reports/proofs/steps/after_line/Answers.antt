@@ -1,0 +1,6 @@
+-- `steps::after_line` meets its contract.
+use Rattle.std.proofs.Common.{rules}
+use Rattle.reports.proofs.steps.after_line.Goals as goal
+
+pub returns : goal.returns
+returns c = rw c.kept_after-kept.ensures

@@ -1,0 +1,11 @@
+-- `tally::count_opposing` meets its contract.
+use Rattle.reports.specs.Tally.{opposes, opposing}
+use Rattle.reports.proofs.TallyCounts.{Counted, counted-first, opposing-end, opposing-on}
+use Rattle.std.proofs.Common.{ℕ, ◌-◌, ◌≤◌, cond, length, get_or, drop, ℤ, pos, ap, ◌∙◌, arith, to_z-of_z, w16, rules}
+use Rattle.reports.proofs.tally.count_opposing.Given as goal
+
+abbrev pub invariant-loop-i : goal.invariant-loop-i
+invariant-loop-i l = (length l.samples ≤ 64) × (l.i ≤ length l.samples) × Counted (opposing l.word 0 l.samples) (opposing l.word l.i (drop l.i l.samples)) l.i l.count
+
+abbrev pub decreases-loop-i : goal.decreases-loop-i
+decreases-loop-i l = length l.samples - l.i

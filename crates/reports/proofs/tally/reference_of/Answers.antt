@@ -1,0 +1,10 @@
+-- `tally::reference_of` meets its contract.
+use Rattle.reports.specs.declared.tally.Standing.{Standing}
+use Rattle.reports.specs.Tally.{reference_by}
+use Rattle.std.proofs.Common.{ap, ◌∙◌, rules}
+use Rattle.reports.proofs.tally.reference_of.Goals as goal
+
+pub returns-in-Found : goal.returns-in-Found
+returns-in-Found c =
+    let a = c.args in
+    rw c.in-Found.is (c.reference_by.ensures ∙ ap (λ (s : Standing). reference_by s a.counter a.reference) c.stands.ensures)

@@ -1,0 +1,15 @@
+-- `body::read_blocks` meets its contract.
+use borrow.Author.Rules.{rules}
+use lib.ListN.{length}
+use native.Mathlib.Omega.{arith}
+use Prim.Native.Nat.{◌-◌}
+use Rattle.sheets.proofs.BlockRuns.{block_last, block_on, block-stop}
+use Rattle.sheets.proofs.Passing.{Passing, pass-start}
+use Rattle.sheets.specs.Blocks.{blocks_of}
+use Rattle.sheets.proofs.body.read_blocks.Given as goal
+
+abbrev pub invariant-loop-at : goal.invariant-loop-at
+invariant-loop-at l = Passing (blocks_of l.heard) l.input l.from l.at l.blocks
+
+abbrev pub decreases-loop-at : goal.decreases-loop-at
+decreases-loop-at l = length l.input - l.at

@@ -1,0 +1,6 @@
+-- `counter::worth` meets its contract.
+use borrow.Author.Rules.{rules}
+use Rattle.sheets.proofs.counter.worth.Goals as goal
+
+pub small-requires : goal.small-requires
+small-requires c = rw c.in-Is.is at c.requires

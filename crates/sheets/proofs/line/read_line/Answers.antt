@@ -1,0 +1,15 @@
+-- `line::read_line` meets its contract.
+use borrow.Author.Rules.{rules}
+use lib.Seq.{length-take-le}
+use mathlib.Core.Path.{sym}
+use Rattle.sheets.proofs.Parts.{parts-front}
+use Rattle.sheets.specs.Text.{tab}
+use Rattle.sheets.proofs.line.read_line.Goals as goal
+
+pub slice_bounds-read_word-end : goal.slice_bounds-read_word-end
+slice_bounds-read_word-end c = sym (length-take-le _ _ c.until-a.ensures.high)
+
+pub returns : goal.returns
+returns c =
+    let u = c.until-a in
+    rw (parts-front tab c.args.line.now u.result u.ensures, sym c.read_word-word.ensures) c.line_by.ensures

@@ -1,0 +1,22 @@
+-- `number::as_counter` meets its contract.
+use native.Mathlib.Omega.{arith}
+use mathlib.Core.Path.{refl}
+use borrow.Author.Tests.{le-leb, lt-leb}
+use borrow.Author.Rules.{rules}
+use Rattle.sheets.proofs.number.as_counter.Goals as goal
+
+pub returns-then-value-le65535 : goal.returns-then-value-le65535
+returns-then-value-le65535 c =
+    let g = c.number-1.given in
+    rw (g.1, le-leb g.0.0 65535 c.if-value-le65535.true) (record {
+      value = refl;
+      below = omega arith;
+    })
+
+pub returns-else-value-le65535 : goal.returns-else-value-le65535
+returns-else-value-le65535 c =
+    let g = c.number-1.given in
+    rw (g.1, lt-leb g.0.0 65535 (omega (arith, c.if-value-le65535.false))) (record {
+      value = refl;
+      below = tt;
+    })

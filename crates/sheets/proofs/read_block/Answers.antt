@@ -1,0 +1,54 @@
+-- `read_block` meets its contract.
+use borrow.Author.Rules.{rules}
+use mathlib.Core.Path.{◌∙◌, sym}
+use native.Mathlib.Omega.{arith}
+use Prim.Native.Nat.{◌-◌}
+use Rattle.sheets.proofs.BlockPlaces.{counted-there, placed-there, room-stays}
+use Rattle.sheets.specs.Blocks.{block_at}
+use Rattle.sheets.proofs.read_block.Goals as goal
+
+part-place-samples-start : tie.Need-slice-bounds-place-samples-start
+part-place-samples-start c =
+    let p = c.before.before.before.block_at.ensures.place _ _ c.before.reply.given.1 in
+    omega arith
+
+part-place-samples-end : tie.Need-slice-bounds-place-samples-end
+part-place-samples-end c =
+    let p = c.before.before.before.block_at.ensures.place _ _ c.before.reply.given.1 in
+    omega arith
+
+pub returns-in_default : goal.returns-in_default
+returns-in_default c =
+    let e = sym c.in_default.is ∙ c.block_at-reply.ensures.reply in
+    record { reply = e; samples = room-stays c.args.order (block_at c.args.heard c.args.input.now c.args.at) _ _ e }
+
+pub overflow_sub-end : goal.overflow_sub-end
+overflow_sub-end c =
+    let p = c.block_at-reply.ensures.place _ _ c.in-Read.is in
+    omega arith
+
+pub slice_bounds-place_samples-count : goal.slice_bounds-place_samples-count
+slice_bounds-place_samples-count c =
+    let p = c.block_at-reply.ensures.place _ _ c.in-Read.is in
+    omega arith
+
+pub place_samples-requires : goal.place_samples-requires
+place_samples-requires c =
+    let a = c.args in
+    let g = c.reply-1.given in
+    let b = c.block_at-reply.ensures in
+    let p = b.place g.0.0 g.0.1.0 g.1 in
+    counted-there a.heard a.input.now a.at (g.0.1.0 - 1) (omega arith) p.until (λ q. omega arith) g.0.0 g.0.1.0 (sym g.1 ∙ b.reply)
+
+pub returns : goal.returns
+returns c =
+    let a = c.args in
+    let s = a.input.now in
+    let k = c.in-Read.samples in
+    let next = c.in-Read.next in
+    let p = c.block_at-reply.ensures.place k next c.in-Read.is in
+    let e = sym c.in-Read.is ∙ c.block_at-reply.ensures.reply in
+    record {
+      reply = e;
+      samples = placed-there a.heard s a.at (next - 1) (omega arith) p.until (λ q. omega arith) k next e a.order a.room.now _ c.place_samples.ensures;
+    }

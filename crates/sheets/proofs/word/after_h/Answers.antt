@@ -1,0 +1,29 @@
+-- `word::after_h` meets its contract.
+use borrow.Author.Tests.{ne_eqb}
+use Rattle.sheets.proofs.Spelling.{five}
+use Rattle.sheets.proofs.word.after_h.Goals as goal
+
+pub returns-in-100 : goal.returns-in-100
+returns-in-100 c =
+    let a = c.args in
+    rw (five 104 a.b a.c a.d a.e, c.in-101.is, c.in-97.is, c.in-114.is, c.in-100.is)
+
+pub returns-in_default-e : goal.returns-in_default-e
+returns-in_default-e c =
+    let a = c.args in
+    rw (five 104 a.b a.c a.d a.e, c.in-101.is, c.in-97.is, c.in-114.is, ne_eqb _ _ c.in_default-e.rest.1)
+
+pub returns-in_default-d : goal.returns-in_default-d
+returns-in_default-d c =
+    let a = c.args in
+    rw (five 104 a.b a.c a.d a.e, c.in-101.is, c.in-97.is, ne_eqb _ _ c.in_default-d.rest.1)
+
+pub returns-in_default-c : goal.returns-in_default-c
+returns-in_default-c c =
+    let a = c.args in
+    rw (five 104 a.b a.c a.d a.e, c.in-101.is, ne_eqb _ _ c.in_default-c.rest.1)
+
+pub returns-in_default : goal.returns-in_default
+returns-in_default c =
+    let a = c.args in
+    rw (five 104 a.b a.c a.d a.e, ne_eqb _ _ c.in_default.rest.1)

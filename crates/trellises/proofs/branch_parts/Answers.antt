@@ -1,0 +1,36 @@
+-- `trellises::branch_parts` meets its contract: refusals 5 and 12, or the reply by the section's numbers.
+use Laws.*
+use borrow.Author.Rules.{rules}
+use Rattle.trellises.proofs.branch_parts.Goals as goal
+mod Laws
+
+pub returns-then-not-parts_prepared : goal.returns-then-not-parts_prepared
+returns-then-not-parts_prepared c = search refused-five
+
+pub returns-then-n-depth : goal.returns-then-n-depth
+returns-then-n-depth c = search depth-over
+
+pub returns-then-bit-gt1 : goal.returns-then-bit-gt1
+returns-then-bit-gt1 c = search bit-over
+
+pub slice_bounds-section_of-end : goal.slice_bounds-section_of-end
+slice_bounds-section_of-end c = used-count c.parts_prepared.ensures c.if-not-parts_prepared.false
+
+pub weight_of-requires : goal.weight_of-requires
+weight_of-requires c = search live_small
+
+pub returns-then-weight_of-state : goal.returns-then-weight_of-state
+returns-then-weight_of-state c = search state-over
+
+pub next_of-requires : goal.next_of-requires
+next_of-requires c =
+    search (record {
+      live_bound = live-few;
+      ending_bound = ending-small;
+      state_bound = state-there;
+    })
+
+pub returns : goal.returns
+returns c =
+    answered c.parts_prepared.ensures c.if-not-parts_prepared.false c.if-n-depth.false c.section_of-section.ensures
+    c.weight_of.ensures c.if-weight_of-state.false c.if-bit-gt1.false c.bit_at.ensures c.next_of.ensures

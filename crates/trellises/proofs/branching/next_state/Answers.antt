@@ -1,0 +1,6 @@
+-- `trellises::branching::next_state` meets its contract.
+use borrow.Author.Rules.{rules}
+use Rattle.trellises.proofs.branching.next_state.Goals as goal
+
+pub returns-then-section : goal.returns-then-section
+returns-then-section c = rw c.if-section.true c.without_digit.ensures

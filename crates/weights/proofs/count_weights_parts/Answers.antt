@@ -1,0 +1,64 @@
+-- `weights::count_weights_parts` meets its contract: each refusal in its order, and the numbers.
+use borrow.Author.Rules.{rules}
+use native.Mathlib.Omega.{arith}
+use Rattle.plates.specs.Prepare.{of_parts}
+use Rattle.weights.proofs.WeightCalls.{Ready, counts-still, least-found, made-ready, none_found, tally-asks, working-count}
+use Rattle.weights.proofs.WeightCalls.{entries-small, need-fits, profile-long, rooms-refused, rows-count, unprepared, whole-space}
+use Rattle.weights.proofs.count_weights_parts.Goals as goal
+
+-- what the call takes, where nothing is refused
+abbrev start : goal.Else-short → tie.Start
+start c = c
+
+ready : (c : goal.Else-short) → let a = (start c).args in
+    Ready (of_parts a.n a.k a.mask a.rows.now a.profile.now) c.half_of-half.result a.counts.now a.working.now
+ready c = made-ready c.parts_prepared.ensures c.if-not-parts_prepared.false c.half_of-half.ensures _ _ c.are_short-short.ensures
+    c.if-k-eq64.false c.if-short.false
+
+pub returns-then-not-parts_prepared : goal.returns-then-not-parts_prepared
+returns-then-not-parts_prepared c = unprepared c.parts_prepared.ensures _ _ c.if-not-parts_prepared.true
+
+pub half_of-half-requires : goal.half_of-half-requires
+half_of-half-requires c =
+    (profile-long c.parts_prepared.ensures c.if-not-parts_prepared.false, entries-small c.parts_prepared.ensures c.if-not-parts_prepared.false)
+
+pub overflow_add-need : goal.overflow_add-need
+overflow_add-need c = need-fits c.parts_prepared.ensures c.if-not-parts_prepared.false c.half_of-half.ensures
+
+pub returns-then-k-eq64 : goal.returns-then-k-eq64
+returns-then-k-eq64 c = whole-space c.parts_prepared.ensures c.if-not-parts_prepared.false _ _ c.if-k-eq64.true
+
+pub returns-then-short : goal.returns-then-short
+returns-then-short c =
+    rooms-refused c.parts_prepared.ensures c.if-not-parts_prepared.false c.half_of-half.ensures _ _ c.are_short-short.ensures
+    c.if-k-eq64.false c.if-short.true
+
+pub slice_bounds-tally-end : goal.slice_bounds-tally-end
+slice_bounds-tally-end c = rows-count c.parts_prepared.ensures c.if-not-parts_prepared.false
+
+pub slice_bounds-tally-end-2 : goal.slice_bounds-tally-end-2
+slice_bounds-tally-end-2 c = (ready c).working_there
+
+pub slice_bounds-tally-end-3 : goal.slice_bounds-tally-end-3
+slice_bounds-tally-end-3 c = working-count (ready c)
+
+pub tally-requires : goal.tally-requires
+tally-requires c =
+    let r = ready c in
+    record {
+      tally_fits = tally-asks r;
+      in_bounds = r.counts_there;
+    }
+
+pub find_least-least-requires : goal.find_least-least-requires
+find_least-least-requires c = counts-still (ready c) c.tally.ensures.counted c.tally.ensures.working_after
+
+pub returns-then-least-lt65 : goal.returns-then-least-lt65
+returns-then-least-lt65 c =
+    least-found (ready c) c.tally.ensures.counted c.tally.ensures.working_after
+    c.find_least-least.ensures (omega (arith, c.if-least-lt65.true))
+
+pub returns : goal.returns
+returns c =
+    none_found (ready c) c.tally.ensures.counted c.tally.ensures.working_after
+    c.find_least-least.ensures (omega (arith, c.if-least-lt65.false))

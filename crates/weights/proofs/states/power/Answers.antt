@@ -1,0 +1,7 @@
+-- `states::power` meets its contract.
+use borrow.Author.Rules.{rules}
+use Rattle.decoding.proofs.Targets.{shifted_one}
+use Rattle.weights.proofs.states.power.Goals as goal
+
+pub returns : goal.returns
+returns c = shifted_one c.args.k c.requires

@@ -1,0 +1,55 @@
+-- `weights::tallies::step` meets its contract. The loop's invariant: the first p numbers are written. The measure is what is left.
+use lib.Pow.{pow_mono}
+use mathlib.Core.Path.{ap, ◌≡◌}
+use native.Mathlib.Omega.{arith}
+use Prim.Native.Nat.{◌*◌, ◌-◌, ◌^◌, ℕ}
+use Rattle.weights.specs.Tallying.{StepFits}
+use Rattle.weights.proofs.StepFilling.{Filling, filling-all, filling-more, filling-none, place-there, state-fits}
+use borrow.Author.Rules.{rules}
+use Rattle.weights.proofs.tallies.step.Goals as goal
+
+pub power-size-requires : goal.power-size-requires
+power-size-requires c = omega (arith, c.requires.section.narrow)
+
+pub overflow_mul-size : goal.overflow_mul-size
+overflow_mul-size c = record { fits = omega (arith, c.power-size.ensures, pow_mono c.requires.section.narrow) }
+
+pub loop-p-init : goal.loop-p-init
+loop-p-init c =
+    (ap (λ (x : ℕ). x * 65) c.power-size.ensures, c.requires, filling-none c.args.working.now c.args.from c.args.to c.args.section c.requires)
+
+pub by_state-ways-requires : goal.by_state-ways-requires
+by_state-ways-requires c =
+    let l = c.loop-p in
+    state-fits c.args.working.now c.args.from c.args.to c.args.section l.invariant.1 l.working l.p l.invariant.2 (omega (arith, l.invariant.0, c.loop-p-test.true))
+
+pub overflow_add-at : goal.overflow_add-at
+overflow_add-at c =
+    let l = c.loop-p in
+    omega (arith, l.invariant.0, l.invariant.1.new_room, l.invariant.1.small, c.loop-p-test.true)
+
+pub offset_bounds-working-at : goal.offset_bounds-working-at
+offset_bounds-working-at c =
+    let l = c.loop-p in
+    record { fits = omega (arith, l.invariant.0, l.invariant.1.new_room, l.invariant.1.small, c.loop-p-test.true) }
+
+pub bounds-working-at : goal.bounds-working-at
+bounds-working-at c =
+    let l = c.loop-p in
+    place-there c.args.working.now c.args.from c.args.to c.args.section l.invariant.1 l.working l.p l.invariant.2 (omega (arith, l.invariant.0, c.loop-p-test.true))
+
+pub loop-p-smaller : goal.loop-p-smaller
+loop-p-smaller c = omega (arith, c.loop-p-test.true)
+
+pub loop-p-preserved : goal.loop-p-preserved
+loop-p-preserved c =
+    let l = c.loop-p in
+    (l.invariant.0, l.invariant.1, filling-more c.args.working.now c.args.from c.args.to c.args.section l.invariant.1 l.working l.p l.invariant.2 (omega (arith, l.invariant.0, c.loop-p-test.true)) c.by_state-ways.result c.by_state-ways.ensures)
+
+pub shape_of-working : goal.shape_of-working
+shape_of-working c = c.loop-p.invariant.2.size
+
+pub returns : goal.returns
+returns c =
+    let l = c.loop-p in
+    filling-all c.args.working.now c.args.from c.args.to c.args.section l.invariant.1 l.working l.p l.invariant.2 (omega (arith, l.invariant.0, c.loop-p-test.false))

@@ -1,0 +1,15 @@
+-- `weights::tallies::step` meets its contract. The loop's invariant: the first p numbers are written. The measure is what is left.
+use lib.Pow.{pow_mono}
+use mathlib.Core.Path.{ap, ◌≡◌}
+use native.Mathlib.Omega.{arith}
+use Prim.Native.Nat.{◌*◌, ◌-◌, ◌^◌, ℕ}
+use Rattle.weights.specs.Tallying.{StepFits}
+use Rattle.weights.proofs.StepFilling.{Filling, filling-all, filling-more, filling-none, place-there, state-fits}
+use borrow.Author.Rules.{rules}
+use Rattle.weights.proofs.tallies.step.Given as goal
+
+abbrev pub invariant-loop-p : goal.invariant-loop-p
+invariant-loop-p l = (l.size ≡ 2 ^ l.section.live * 65) × (f : StepFits l.initial.working l.from l.to l.section) × Filling l.initial.working l.from l.to l.section f.next l.p l.working
+
+abbrev pub decreases-loop-p : goal.decreases-loop-p
+decreases-loop-p l = l.size - l.p
