@@ -20,7 +20,7 @@ digit-requires c = (between 48 57 _ (sym c.is_digit.ensures ∙ c.if-not-is_digi
 pub more_at-requires : goal.more_at-requires
 more_at-requires c =
     let b = between 48 57 (get_or c.args.text.now c.args.at 0) (sym c.is_digit.ensures ∙ c.if-not-is_digit.false) in
-let d = c.digit.ensures in
+    let d = c.digit.ensures in
     record {
       at_in_bounds = omega arith;
       first_bound = omega (arith, b.0, b.1, d);

@@ -35,7 +35,7 @@ put_byte-space-requires c =
 pub put_number-next-requires-in-loop-i : goal.put_number-next-requires-in-loop-i
 put_number-next-requires-in-loop-i c =
     let g = rw (following-here c.args.numbers.now c.loop-i.i (omega arith)) at c.loop-i.invariant.2 in
-let k = going_on (32 ∷ []) ((decimal (get_or c.args.numbers.now c.loop-i.i 0)) ++ (following (drop (c.loop-i.i + 1) c.args.numbers.now))) g c.put_byte-space.ensures in
+    let k = going_on (32 ∷ []) ((decimal (get_or c.args.numbers.now c.loop-i.i 0)) ++ (following (drop (c.loop-i.i + 1) c.args.numbers.now))) g c.put_byte-space.ensures in
     record {
       value_bound = c.requires.small.below c.loop-i.i;
       value_bound_2 = going-room (decimal (get_or c.args.numbers.now c.loop-i.i 0)) (following (drop (c.loop-i.i + 1) c.args.numbers.now)) 32768 k (rest-room c.args.numbers.now 32768 (omega arith) c.requires.numbers_bound c.put_number-next.ensures);

@@ -21,7 +21,7 @@ slice_bounds-put_line-end c =
 pub put_line-requires : goal.put_line-requires
 put_line-requires c =
     let s = c.fill_list.ensures.stands in
-let e = list-taken c.args.most c.args.word c.requires.most_bound in
+    let e = list-taken c.args.most c.args.word c.requires.most_bound in
     rw (s, e) (record {
       small = list-small c.args.most c.args.word;
       numbers_bound = c.requires.word_bound;

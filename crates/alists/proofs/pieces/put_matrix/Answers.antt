@@ -31,9 +31,9 @@ slice_bounds-put_weighed-end-2 c =
 pub put_weighed-requires : goal.put_weighed-requires
 put_weighed-requires c =
     let e = front (weights c.args.columns.now) (length c.args.columns.now) (length-weights c.args.columns.now) c.requires.columns_len_bound in
-let f = front (weights c.args.rows.now) (length c.args.rows.now) (length-weights c.args.rows.now) c.requires.rows_len_bound in
-let s = c.fill_weights.ensures.stands in
-let t = c.fill_weights-2.ensures.stands in
+    let f = front (weights c.args.rows.now) (length c.args.rows.now) (length-weights c.args.rows.now) c.requires.rows_len_bound in
+    let s = c.fill_weights.ensures.stands in
+    let t = c.fill_weights-2.ensures.stands in
     record {
       columns_len_bound = c.requires.columns_len_bound;
       rows_len_bound = c.requires.rows_len_bound;

@@ -20,8 +20,8 @@ slice_bounds-put_matrix-end c =
 pub put_matrix-requires : goal.put_matrix-requires
 put_matrix-requires c =
     let e = front (columns c.args.n c.args.rows.now) c.args.n (columns-length c.args.rows.now 0 c.args.n) c.requires.n_bound in
-let s = c.fill_columns.ensures.stands in
-let k = columns-length c.args.rows.now 0 c.args.n in
+    let s = c.fill_columns.ensures.stands in
+    let k = columns-length c.args.rows.now 0 c.args.n in
     rw (s, e) (record {
       columns_len_bound = omega (arith, k);
       rows_len_bound = c.requires.rows_len_bound;

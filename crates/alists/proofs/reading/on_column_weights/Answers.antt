@@ -42,7 +42,7 @@ slice_bounds-on_row_weights-end c =
 pub on_row_weights-requires : goal.on_row_weights-requires
 on_row_weights-requires c =
     let l = rw c.in-Next.is at c.read_line-line.ensures.is in
-let z = c.read_line-line.ensures.size in
+    let z = c.read_line-line.ensures.size in
     record {
       at_in_bounds = l.1;
       n_bound = c.requires.n_bound;

@@ -39,8 +39,8 @@ slice_bounds-on_rows-end c =
 pub on_rows-requires : goal.on_rows-requires
 on_rows-requires c =
     let e = rw c.in-Next.is at c.lists_at-lists.ensures.is in
-let w = words-read (lists_from c.args.tall c.args.m [] 0 c.args.heights.now (drop c.args.at c.args.text.now)) (length c.args.heights.now) (lists-long c.args.tall c.args.m [] 0 c.args.heights.now (drop c.args.at c.args.text.now)) _ _ e.0 in
-let z = c.lists_at-lists.ensures.size in
+    let w = words-read (lists_from c.args.tall c.args.m [] 0 c.args.heights.now (drop c.args.at c.args.text.now)) (length c.args.heights.now) (lists-long c.args.tall c.args.m [] 0 c.args.heights.now (drop c.args.at c.args.text.now)) _ _ e.0 in
+    let z = c.lists_at-lists.ensures.size in
     record {
       at_in_bounds = e.1;
       n_bound = c.requires.n_bound;

@@ -58,9 +58,9 @@ returns-then-metrics-metric_need c =
 pub search_metric-measure-requires : goal.search_metric-measure-requires
 search_metric-measure-requires c =
     let plate = of_parts c.args.n c.args.k c.args.mask c.args.rows.now c.args.profile.now in
-let given = c.parts_prepared.ensures.yes_is c.if-not-parts_prepared.false in
-let e = sizes-are plate given c.sizes_of-sizes.result c.sizes_of-sizes.ensures in
-let m : metric_need plate ≤ length c.args.metrics.now = omega (arith, c.if-metrics-metric_need.false, ap (λ (z : Sizes). z.half) e) in
+    let given = c.parts_prepared.ensures.yes_is c.if-not-parts_prepared.false in
+    let e = sizes-are plate given c.sizes_of-sizes.result c.sizes_of-sizes.ensures in
+    let m : metric_need plate ≤ length c.args.metrics.now = omega (arith, c.if-metrics-metric_need.false, ap (λ (z : Sizes). z.half) e) in
     subst (λ (z : Sizes). SizesFit c.args.rows.now z × RoomsFit (undecided z) c.args.samples.now c.args.metrics.now []) (sym e)
     (record {
       sizes_fit = plate-sizes-fit plate given;

@@ -79,10 +79,10 @@ returns-then-decisions-decision_need c =
 pub reading_at-reading-requires : goal.reading_at-reading-requires
 reading_at-reading-requires c =
     let plate = of_parts c.args.n c.args.k c.args.mask c.args.rows.now c.args.profile.now in
-let given = c.parts_prepared.ensures.yes_is c.if-not-parts_prepared.false in
-let e = sizes-are plate given c.sizes_of-sizes.result c.sizes_of-sizes.ensures in
-let m : metric_need plate ≤ length c.args.metrics.now = omega (arith, c.if-metrics-metric_need.false, ap (λ (z : Sizes). z.half) e) in
-let d : decision_need plate ≤ length c.args.decisions.now = subst (λ (x : ℕ). c.args.n * x ≤ length c.args.decisions.now) (ap (λ (z : Sizes). z.words) e) (omega (arith, c.if-decisions-decision_need.false)) in
+    let given = c.parts_prepared.ensures.yes_is c.if-not-parts_prepared.false in
+    let e = sizes-are plate given c.sizes_of-sizes.result c.sizes_of-sizes.ensures in
+    let m : metric_need plate ≤ length c.args.metrics.now = omega (arith, c.if-metrics-metric_need.false, ap (λ (z : Sizes). z.half) e) in
+    let d : decision_need plate ≤ length c.args.decisions.now = subst (λ (x : ℕ). c.args.n * x ≤ length c.args.decisions.now) (ap (λ (z : Sizes). z.words) e) (omega (arith, c.if-decisions-decision_need.false)) in
     subst (λ (z : Sizes). SizesFit c.args.rows.now z × (RoomsFit z c.args.samples.now c.args.metrics.now c.args.decisions.now × (c.args.position < z.n))) (sym e)
     (record {
       sizes_fit = plate-sizes-fit plate given;

@@ -47,7 +47,7 @@ shape_of-room c = c.loop-i.invariant.1
 pub returns : goal.returns
 returns c =
     let l = c.loop-i in
-let e : l.i ≡ c.args.lines = omega (arith, c.loop-i-test.false, l.invariant.0) in
+    let e : l.i ≡ c.args.lines = omega (arith, c.loop-i-test.false, l.invariant.0) in
     record {
       all_marked = subst (λ (k : ℕ). AllMarked c.args.lines c.args.room.now l.room k) e l.invariant.2;
       room_len_unchanged = l.invariant.1;

@@ -17,7 +17,7 @@ loop-at-init c = (reading-start _ _, refl, stored-none _ _)
 pub put-requires : goal.put-requires
 put-requires c =
     let l = c.loop-at in
-let m = reading-on _ _ l.i l.at l.invariant.0 c.loop-at-test.true c.read_entry-entry.result c.read_entry-entry.ensures in
+    let m = reading-on _ _ l.i l.at l.invariant.0 c.loop-at-test.true c.read_entry-entry.result c.read_entry-entry.ensures in
     record {
       line_in_bounds = omega (arith, m.there, c.requires.room_len, l.invariant.1);
       in_range = subst InRange (ap branch_in m.line_is ∙ sym c.branch_in-branch.ensures) (c.requires.all_in_range l.i m.there);
@@ -41,7 +41,7 @@ shape_of-room c = c.loop-at.invariant.1
 pub returns : goal.returns
 returns c =
     let l = c.loop-at in
-let e = reading-end _ _ l.i l.at l.invariant.0 c.loop-at-test.false in
+    let e = reading-end _ _ l.i l.at l.invariant.0 c.loop-at-test.false in
     record {
       stored = subst (λ (m : ℕ). Stored (entries c.args.n c.args.text.now) m l.room) e l.invariant.2;
       room_len_unchanged = l.invariant.1;

@@ -31,9 +31,9 @@ overflow_add-depth c =
 pub tell-number-requires : goal.tell-number-requires
 tell-number-requires c =
     let l = c.loop-i in
-let d : l.i ≡ suc (l.i - 1) = omega (arith, c.loop-i-test.true) in
-let t = subst (λ (k : ℕ). ToldFrom (theirs c.args.n c.args.lines c.args.room.now) c.args.rows.now c.args.mask c.args.n c.args.lines l.room k) d l.invariant.2 in
-let m : l.i - 1 < c.args.lines = omega (arith, c.loop-i-test.true, l.invariant.0) in
+    let d : l.i ≡ suc (l.i - 1) = omega (arith, c.loop-i-test.true) in
+    let t = subst (λ (k : ℕ). ToldFrom (theirs c.args.n c.args.lines c.args.room.now) c.args.rows.now c.args.mask c.args.n c.args.lines l.room k) d l.invariant.2 in
+    let m : l.i - 1 < c.args.lines = omega (arith, c.loop-i-test.true, l.invariant.0) in
     record {
       asking = asking c.args.rows.now c.args.mask c.args.n c.args.lines c.args.room.now l.room (l.i - 1) c.requires l.invariant.1 t m;
       state_bound = lead-small c.args.rows.now c.args.mask c.args.n c.args.lines c.args.room.now l.room (l.i - 1) c.requires l.invariant.1 t m;

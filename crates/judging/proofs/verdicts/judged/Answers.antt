@@ -36,10 +36,10 @@ with_surplus-reply-requires c =
 pub returns : goal.returns
 returns c =
     let p = c.requires in
-let f = c.fill.ensures in
-let t = c.tell_all.ensures in
-let m = c.mark_all.ensures.all_marked in
-let v = c.verdict-found in
+    let f = c.fill.ensures in
+    let t = c.tell_all.ensures in
+    let m = c.mark_all.ensures.all_marked in
+    let v = c.verdict-found in
     record {
       judged_to = judged-to p _ f.stored f.room_len_unchanged _ t _ m v.result v.ensures c.with_surplus-reply.result c.with_surplus-reply.ensures;
       room_after = cleared-of p _ f.stored f.room_len_unchanged _ t _ m v.result v.ensures _ c.clear.ensures;

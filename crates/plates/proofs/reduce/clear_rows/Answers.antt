@@ -29,6 +29,6 @@ loop-i-preserved c =
 
 pub returns : goal.returns
 returns c =
-    let pre = c.requires.1.1 in
-    gained-covers (first-one-is pre.0 pre.1 c.first_one-first.ensures) (last-one-is pre.0 pre.1 c.last_one-last.ensures)
+    let pre = c.requires in
+    gained-covers (first-one-is pre.nonzero pre.j_bound_2 c.first_one-first.ensures) (last-one-is pre.nonzero pre.j_bound_2 c.last_one-last.ensures)
     (gained-end c.loop-i.invariant.0 c.loop-i-test.false c.loop-i.invariant.1)

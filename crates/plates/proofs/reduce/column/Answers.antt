@@ -13,7 +13,12 @@ first_odd-pivot-requires c =
 
 pub even_rows-requires : goal.even_rows-requires
 even_rows-requires c =
-    pivot-ready (shifted_one _ c.requires.c_bound) c.requires.echelon c.first_odd-pivot.ensures c.if-pivot-used.true c.swap_rows.ensures
+    let ready = pivot-ready (shifted_one _ c.requires.c_bound) c.requires.echelon c.first_odd-pivot.ensures c.if-pivot-used.true c.swap_rows.ensures in
+    record {
+      odd_lt_to = ready.0;
+      to_bound = ready.1.0;
+      table_len = ready.1.1;
+    }
 
 pub returns-then-pivot-used : goal.returns-then-pivot-used
 returns-then-pivot-used c =

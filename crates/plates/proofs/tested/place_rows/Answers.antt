@@ -7,11 +7,6 @@ use Rattle.plates.proofs.Deciding.{failed, held}
 use Rattle.plates.proofs.RowsPlaced.{Seen, first-inside, last-inside, seen_all, seen_next, seen_none, seen-stop}
 use Rattle.plates.proofs.tested.place_rows.Goals as goal
 
--- the row is a word
-word : (c : goal.After-first_one-first)
-    → get_or c.args.rows.now c.loop-i.i 0 < 2 ^ 64
-word c = (c.shared_slice_known-in-loop-i-1.given c.loop-i.i).fits
-
 pub loop-i-init : goal.loop-i-init
 loop-i-init c = seen_none _ c.requires.by_last
 
@@ -27,16 +22,16 @@ overflow_cast-by_last c = record { fits = omega (arith, c.requires.rows_len_boun
 
 pub bounds-by_last-last : goal.bounds-by_last-last
 bounds-by_last-last c =
-    last-inside _ _ _ _ c.requires.n_bound (word c) c.last_one-last.ensures (c.may_follow.ensures.yes_is c.if-not-may_follow.false)
+    last-inside _ _ _ _ c.requires.n_bound (c.type_inv.rows c.loop-i.i).fits c.last_one-last.ensures (c.may_follow.ensures.yes_is c.if-not-may_follow.false)
 
 pub overflow_add-from : goal.overflow_add-from
 overflow_add-from c =
     let m = c.may_follow.ensures.yes_is c.if-not-may_follow.false in
-    record { fits = omega (arith, first-inside _ _ _ _ c.requires.n_bound (word c) c.first_one-first.ensures m) }
+    record { fits = omega (arith, first-inside _ _ _ _ c.requires.n_bound (c.type_inv.rows c.loop-i.i).fits c.first_one-first.ensures m) }
 
 pub loop-i-preserved : goal.loop-i-preserved
 loop-i-preserved c =
-    seen_next _ _ _ _ _ c.requires.rows_len_bound c.loop-i.invariant c.loop-i-test.true (word c) c.last_one-last.ensures c.first_one-first.ensures
+    seen_next _ _ _ _ _ c.requires.rows_len_bound c.loop-i.invariant c.loop-i-test.true (c.type_inv.rows c.loop-i.i).fits c.last_one-last.ensures c.first_one-first.ensures
     (c.may_follow.ensures.yes_is c.if-not-may_follow.false)
 
 pub returns : goal.returns

@@ -19,7 +19,7 @@ returns-then-not-place_rows c = fails (λ u. c.place_rows.ensures.decides.no_is 
 pub heads_clear-requires : goal.heads_clear-requires
 heads_clear-requires c =
     let p = c.requires in
-let e = c.place_rows.ensures in
+    let e = c.place_rows.ensures in
     record {
       n_bound = p.n_bound.0;
       rows_len_bound = p.rows_len_bound;
@@ -33,7 +33,7 @@ returns-then-not-heads_clear c = fails (λ u. c.heads_clear.ensures.no_is c.if-n
 pub profile_is-requires : goal.profile_is-requires
 profile_is-requires c =
     let p = c.requires in
-let e = c.place_rows.ensures in
+    let e = c.place_rows.ensures in
     record {
       n_bound = p.n_bound;
       rows_len_bound = p.rows_len_bound;

@@ -7,7 +7,7 @@ use Rattle.programs.proofs.listing.print_line.Goals as goal
 pub hand_over-requires : goal.hand_over-requires
 hand_over-requires c =
     let pre = c.requires in
-let line = c.in-Line.is in
+    let line = c.in-Line.is in
     record {
       line = is-line pre.enough pre.before c.next_line-step.ensures line;
       before = one-line-more pre.enough pre.before c.next_line-step.ensures line;

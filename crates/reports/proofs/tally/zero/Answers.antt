@@ -14,7 +14,7 @@ returns-then-sample-lt0 c =
 pub returns-then-sample-gt0 : goal.returns-then-sample-gt0
 returns-then-sample-gt0 c =
     let s : lt_z c.args.sample (pos 0) ≡ false = rw (to_z-of_z c.ranges.sample) at c.if-sample-lt0.false in
-let t : lt_z (pos 0) c.args.sample ≡ true = rw (to_z-of_z c.ranges.sample) at c.if-sample-gt0.true in
+    let t : lt_z (pos 0) c.args.sample ≡ true = rw (to_z-of_z c.ranges.sample) at c.if-sample-gt0.true in
     rw (s, t) (record {
       value = refl;
       upper_bound = omega arith;
@@ -23,7 +23,7 @@ let t : lt_z (pos 0) c.args.sample ≡ true = rw (to_z-of_z c.ranges.sample) at 
 pub returns : goal.returns
 returns c =
     let s : lt_z c.args.sample (pos 0) ≡ false = rw (to_z-of_z c.ranges.sample) at c.if-sample-lt0.false in
-let t : lt_z (pos 0) c.args.sample ≡ false = rw (to_z-of_z c.ranges.sample) at c.if-sample-gt0.false in
+    let t : lt_z (pos 0) c.args.sample ≡ false = rw (to_z-of_z c.ranges.sample) at c.if-sample-gt0.false in
     rw (s, t) (record {
       value = refl;
       upper_bound = omega arith;
