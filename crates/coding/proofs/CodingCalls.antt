@@ -86,15 +86,15 @@ encoded-word {plate} given short e =
 
 -- by the test of the plate: it is refused where that says no
 module _ {plate : Plate} {p : Bool} (t : Tests plate p) where
-  pub encode-refused : {information : ℕ} → not p ≡ true → Encodes plate information (E.Refused NotPrepared)
-  encode-refused e = inl (t.no_is (not-true _ e), refl)
+  pub encode-refused : {information : ℕ} → p ≡ false → Encodes plate information (E.Refused NotPrepared)
+  encode-refused e = inl (t.no_is e, refl)
 
-  pub read-back-refused : (word : ℕ) → not p ≡ true → ReadsBack plate word (R.Refused NotPrepared)
-  read-back-refused word e = inl (t.no_is (not-true _ e), refl)
+  pub read-back-refused : (word : ℕ) → p ≡ false → ReadsBack plate word (R.Refused NotPrepared)
+  read-back-refused word e = inl (t.no_is e, refl)
 
-  module _ (e : not p ≡ false) where
+  module _ (e : p ≡ true) where
     given : IsPrepared plate
-    given = t.yes_is (not-false _ e)
+    given = t.yes_is e
 
     pub rows_long : length plate.rows ≡ 64
     rows_long = (sound given).table

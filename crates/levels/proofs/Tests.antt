@@ -70,8 +70,8 @@ differs-is (fin true m e) = ap (λ (b : Bool). not (b && true)) (T_true (eqb (m 
 differs-is (fin false m e) = ap (λ (b : Bool). not (b && true)) (T_true (eqb (m * up e * down e) (m * up e * down e)) (eqb_refl (m * up e * down e)))
 
 -- what the test of a step says, either way
-pub above : (step : Float) → not (lt nought step) ≡ false → T (lt nought step)
-above step e = subst T (sym (not-false (lt nought step) e)) tt
+pub above : (step : Float) → lt nought step ≡ true → T (lt nought step)
+above step e = subst T (sym e) tt
 
-pub not-above : (step : Float) → not (lt nought step) ≡ true → T (lt nought step) → ⊥
-not-above step e t = subst T (not-true (lt nought step) e) t
+pub not-above : (step : Float) → lt nought step ≡ false → T (lt nought step) → ⊥
+not-above step e t = subst T e t

@@ -28,3 +28,4 @@ pub mod SyndromeSteps
 pub mod DualPositions
 pub mod DualProfiles
 pub mod DualReplies
+pub mod BranchLaws

@@ -152,12 +152,12 @@ pub record Ready (plate : Plate) (half : ℕ) (counts working : List ℕ) : Type
   pub working_there : half + half ≤ length working
 
 module _ {plate : Plate} {p : Bool} (t : Tests plate p) where
-  pub unprepared : (counts working : List ℕ) → not p ≡ true → CountsWeights plate counts working counts working (Refused NotPrepared)
-  unprepared counts working e = refused-5 plate counts working (t.no_is (not-true _ e))
+  pub unprepared : (counts working : List ℕ) → p ≡ false → CountsWeights plate counts working counts working (Refused NotPrepared)
+  unprepared counts working e = refused-5 plate counts working (t.no_is e)
 
-  module _ (e : not p ≡ false) where
+  module _ (e : p ≡ true) where
     given : IsPrepared plate
-    given = t.yes_is (not-false _ e)
+    given = t.yes_is e
 
     pub profile-long : plate.n < length plate.profile
     profile-long = omega (arith, (sound given).short, (sound given).entries)

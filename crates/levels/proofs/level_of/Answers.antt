@@ -26,4 +26,4 @@ pub returns : goal.returns
 returns c =
     let good = c.is_good.ensures.yes_is c.if-not-is_good.false in
     let number = not_found c.is_not_a_number.ensures c.if-is_not_a_number.false in
-    rw (to_z-of_z {w = w16} (record { sfits = c.level_of_sample.type-inv })) (sample-passes good c.args.sample number, c.level_of_sample.ensures)
+    rw (to_z-of_z {w = w16} (record { sfits = c.level_of_sample.type_inv })) (sample-passes good c.args.sample number, c.level_of_sample.ensures)

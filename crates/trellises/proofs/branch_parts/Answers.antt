@@ -1,8 +1,7 @@
 -- `trellises::branch_parts` meets its contract: refusals 5 and 12, or the reply by the section's numbers.
-use Laws.*
 use borrow.Author.Rules.{rules}
+use Rattle.trellises.proofs.BranchLaws.{refused-five, depth-over, bit-over, used-count, live-few, ending-small, live_small, state-over, state-there, answered}
 use Rattle.trellises.proofs.branch_parts.Goals as goal
-mod Laws
 
 pub returns-then-not-parts_prepared : goal.returns-then-not-parts_prepared
 returns-then-not-parts_prepared c = search refused-five
@@ -24,11 +23,11 @@ returns-then-weight_of-state c = search state-over
 
 pub next_of-requires : goal.next_of-requires
 next_of-requires c =
-    search (record {
-      live_bound = live-few;
-      ending_bound = ending-small;
-      state_bound = state-there;
-    })
+    record {
+      live_bound = search live-few;
+      ending_bound = search ending-small;
+      state_bound = search state-there;
+    }
 
 pub returns : goal.returns
 returns c =

@@ -13,7 +13,7 @@ level_of_value-requires c = (c.requires.0, subst IsNumber c.in-Heard.is c.requir
 
 pub returns-in-Heard : goal.returns-in-Heard
 returns-in-Heard c =
-    rw (to_z-of_z {w = w16} (record { sfits = c.level_of_value.type-inv })) (subst (λ (x : Sample). LevelOfSample c.args.setting x c.level_of_value.result) (sym c.in-Heard.is) c.level_of_value.ensures)
+    rw (to_z-of_z {w = w16} (record { sfits = c.level_of_value.type_inv })) (subst (λ (x : Sample). LevelOfSample c.args.setting x c.level_of_value.result) (sym c.in-Heard.is) c.level_of_value.ensures)
 
 pub returns-in-Erased : goal.returns-in-Erased
 returns-in-Erased c = subst (λ (x : Sample). LevelOfSample c.args.setting x _) (sym c.in-Erased.is) refl

@@ -30,7 +30,7 @@ loop-i-preserved c =
       omega (arith, taken),
       length-set l.room l.i _ ∙ l.invariant.1,
       one_more c.args.setting c.args.values.now c.args.erased l.room l.i _ (omega (arith, taken, l.invariant.1)) l.invariant.2
-          (rw (to_z-of_z {w = w16} (record { sfits = c.level_of_sample-level.type-inv })) (subst (λ (x : Sample). LevelOfSample c.args.setting x c.level_of_sample-level.result) same c.level_of_sample-level.ensures)),
+          (rw (to_z-of_z {w = w16} (record { sfits = c.level_of_sample-level.type_inv })) (subst (λ (x : Sample). LevelOfSample c.args.setting x c.level_of_sample-level.result) same c.level_of_sample-level.ensures)),
     )
 
 pub shape_of-room : goal.shape_of-room

@@ -25,9 +25,7 @@ returns-then-setting-eq0 c = not_good (λ g. omega (arith, c.if-setting-eq0.true
 pub returns : goal.returns
 unfolding of_bits
 returns c =
-    let at-two = c in
-    good-if
-    (found at-two.before.before.before.before.is_finite.ensures (not-false _ at-two.before.before.before.if1.false))
-    (found (at-two.before.is-finite2.ensures ∙ ap finite at-two.before.before.times-step.ensures) (not-false _ at-two.if2.false))
+    good-if (found c.is_finite.ensures c.if-not-is_finite.false)
+    (found (c.is_finite-2.ensures ∙ ap finite c.times_step.ensures) c.if-not-is_finite-2.false)
     (above _ c.if-not-setting.false)
     (omega (arith, c.if-setting-eq0.false))

@@ -16,4 +16,4 @@ below_zero-requires c = rw c.in-Is.is at c.requires
 pub returns-else-value-eq0 : goal.returns-else-value-eq0
 returns-else-value-eq0 c =
     rw (c.in-Is.is, ne_eqb _ _ c.if-value-eq0.false)
-    (ap S.Is (to_z-of_z {w = w16} (record { sfits = c.below_zero.type-inv }) ∙ c.below_zero.ensures))
+    (ap S.Is (to_z-of_z {w = w16} (record { sfits = c.below_zero.type_inv }) ∙ c.below_zero.ensures))

@@ -11,4 +11,4 @@ as_signed-requires c = rw c.in-Is.is at c.requires
 
 pub returns-in-Is : goal.returns-in-Is
 returns-in-Is c =
-    rw c.in-Is.is (ap S.Is (to_z-of_z {w = w16} (record { sfits = c.as_signed.type-inv }) ∙ c.as_signed.ensures))
+    rw c.in-Is.is (ap S.Is (to_z-of_z {w = w16} (record { sfits = c.as_signed.type_inv }) ∙ c.as_signed.ensures))

@@ -23,12 +23,12 @@ use Rattle.trellises.specs.SectionOf.{held, section_of}
 use Rattle.words.specs.Word.{bit}
 
 module _ {plate : Plate} {p : Bool} (t : Tests plate p) where
-  pub refused-five : {depth state asked : ℕ} → not p ≡ true → Branches plate depth state asked (Refused NotPrepared)
-  refused-five e = inl (t.no_is (not-true _ e), refl)
+  pub refused-five : {depth state asked : ℕ} → p ≡ false → Branches plate depth state asked (Refused NotPrepared)
+  refused-five e = inl (t.no_is e, refl)
 
-  module _ (e : not p ≡ false) where
+  module _ (e : p ≡ true) where
     s : Sound plate
-    s = sound (t.yes_is (not-false _ e))
+    s = sound (t.yes_is e)
 
     pub depth-over : {depth state asked : ℕ} → plate.n ≤ depth → Branches plate depth state asked (Refused NoSuchBranch)
     depth-over h = refused-twelve plate s _ _ _ (inl h)
