@@ -103,23 +103,23 @@ module _ (plate : Plate) (samples : List ℤ) (words : List ℕ) (scores metrics
         refused-8 h =
             (inr ((λ q b. b.0 given), inr ((λ q b. b.0 blocks), inr (no-sample-over, inl (omega (arith, h, metrics-needed), refl)))), refl, refl, refl, refl)
 
-        module _ (metric_room : z.half + z.half ≤ length metrics) where
+        module _ (metrics-there : z.half + z.half ≤ length metrics) where
           enough-metrics : (q : Refusal) → metric_room plate metrics q → ⊥
-          enough-metrics q b = omega (arith, b.0, metric_room, metrics-needed)
+          enough-metrics q b = omega (arith, b.0, metrics-there, metrics-needed)
 
           pub refused-9 : length decisions < plate.n * z.words → Unchanged DecisionRoom
           refused-9 h =
               let x = subst (λ (x : ℕ). length decisions < x) decisions-needed h in
               (inr ((λ q b. b.0 given), inr ((λ q b. b.0 blocks), inr (no-sample-over, inr (enough-metrics, inl (x, refl))))), refl, refl, refl, refl)
 
-          module _ (decision_room : plate.n * z.words ≤ length decisions) where
+          module _ (decisions-there : plate.n * z.words ≤ length decisions) where
             fit : BlocksFit (plate_sizes plate given) samples words scores metrics decisions
             fit = record {
               blocks = blocks;
               within = λ i k. omega (arith, samples-within i k);
               wanted = omega arith;
-              metric_room = omega (arith, metric_room, metrics-needed);
-              decision_room = subst (λ (x : ℕ). x ≤ length decisions) decisions-needed decision_room;
+              metric_room = omega (arith, metrics-there, metrics-needed);
+              decision_room = subst (λ (x : ℕ). x ≤ length decisions) decisions-needed decisions-there;
             }
 
             pub blocks-fit : SizesFit plate.rows z × BlocksFit z samples words scores metrics decisions

@@ -61,11 +61,9 @@ search_metric-measure-requires c =
     let given = c.parts_prepared.ensures.yes_is c.if-not-parts_prepared.false in
     let e = sizes-are plate given c.sizes_of-sizes.result c.sizes_of-sizes.ensures in
     let m : metric_need plate ≤ length c.args.metrics.now = omega (arith, c.if-metrics-metric_need.false, ap (λ (z : Sizes). z.half) e) in
-    subst (λ (z : Sizes). SizesFit c.args.rows.now z × RoomsFit (undecided z) c.args.samples.now c.args.metrics.now []) (sym e)
-    (record {
-      sizes_fit = plate-sizes-fit plate given;
-      rooms_fit = room_fits plate c.args.samples.now c.args.metrics.now given c.if-samples-n.false c.first_over-over.result c.first_over-over.ensures (λ h. omega (arith, h, c.if-over-n.false)) m;
-    })
+    let both = subst (λ (z : Sizes). SizesFit c.args.rows.now z × RoomsFit (undecided z) c.args.samples.now c.args.metrics.now []) (sym e)
+    (plate-sizes-fit plate given, room_fits plate c.args.samples.now c.args.metrics.now given c.if-samples-n.false c.first_over-over.result c.first_over-over.ensures (λ h. omega (arith, h, c.if-over-n.false)) m) in
+    record { sizes_fit = both.0; rooms_fit = both.1 }
 
 pub clear_metrics-requires : goal.clear_metrics-requires
 clear_metrics-requires c = omega (arith, c.if-metrics-metric_need.false, c.search_metric-measure.ensures.size)

@@ -1,11 +1,12 @@
 -- `decoding::batch::blocks_prepared` meets its contract: each refusal in its order, and the answers.
 use borrow.Author.Rules.{rules}
 use borrow.Author.Tests.{not-false, not-true}
-use lib.IntN.{pos}
+use lib.IntN.{ℤ, pos}
 use lib.ListN.{length}
-use mathlib.Core.Path.{◌∙◌}
+use mathlib.Core.List.{List}
+use mathlib.Core.Path.{◌∙◌, ◌≡◌}
 use native.Mathlib.Omega.{arith}
-use Prim.Native.Nat.{◌*◌, ◌+◌, ◌≤◌}
+use Prim.Native.Nat.{ℕ, ◌*◌, ◌+◌, ◌≤◌}
 use Rattle.plates.proofs.SoundIsPrepared.{sound}
 use Rattle.plates.specs.declared.Plate.{Plate}
 use Rattle.plates.specs.Prepare.{of_parts}
@@ -15,49 +16,54 @@ use Rattle.decoding.proofs.Filled.{length-filled}
 use Rattle.decoding.proofs.PlateSizes.{decisions-fit, metrics-fit}
 use Rattle.decoding.proofs.batch.blocks_prepared.Goals as goal
 
--- the plate whose parts are lent
-abbrev plate : goal.Start → Plate
-plate c = of_parts c.args.n c.args.k c.args.mask c.args.rows.now c.args.profile.now
-
 -- the samples are whole blocks
-blocks : (c : goal.Else-not-are_blocks) → Blocks c.args.n c.args.samples.now c.args.found.now c.args.scores.now
-blocks c = let e = c.are_blocks.ensures.yes_is c.if-not-are_blocks.false in
-    record { samples_are = e.0; scores_are = e.1 }
+module _ {n : ℕ} {samples : List ℤ} {found : List ℕ} {scores : List ℤ} where
+  blocks : (length samples ≡ length found * n) × (length scores ≡ length found) → Blocks n samples found scores
+  blocks e = record { samples_are = e.0; scores_are = e.1 }
 
 pub are_blocks-requires : goal.are_blocks-requires
 are_blocks-requires c = omega (arith, (sound c.requires).positive)
 
 pub returns-then-not-are_blocks : goal.returns-then-not-are_blocks
 returns-then-not-are_blocks c =
-    refused-6 (plate c) c.args.samples.now c.args.found.now c.args.scores.now c.args.metrics.now c.args.decisions.now c.requires
+    let plate = of_parts c.args.n c.args.k c.args.mask c.args.rows.now c.args.profile.now in
+    refused-6 plate c.args.samples.now c.args.found.now c.args.scores.now c.args.metrics.now c.args.decisions.now c.requires
     (λ b. c.are_blocks.ensures.no_is c.if-not-are_blocks.true b.samples_are b.scores_are)
 
 pub returns-then-over-samples : goal.returns-then-over-samples
 returns-then-over-samples c =
-    refused-7 (plate c) c.args.samples.now c.args.found.now c.args.scores.now c.args.metrics.now c.args.decisions.now c.requires
-    (blocks c) c.first_over-over.ensures c.if-over-samples.true
+    let plate = of_parts c.args.n c.args.k c.args.mask c.args.rows.now c.args.profile.now in
+    refused-7 plate c.args.samples.now c.args.found.now c.args.scores.now c.args.metrics.now c.args.decisions.now c.requires
+    (blocks (c.are_blocks.ensures.yes_is c.if-not-are_blocks.false)) c.first_over-over.ensures c.if-over-samples.true
 
 pub overflow_add-metric_need : goal.overflow_add-metric_need
-overflow_add-metric_need c = record { fits = metrics-fit (plate c) c.requires c.sizes_of-sizes.ensures }
+overflow_add-metric_need c =
+    let plate = of_parts c.args.n c.args.k c.args.mask c.args.rows.now c.args.profile.now in
+    record { fits = metrics-fit plate c.requires c.sizes_of-sizes.ensures }
 
 pub overflow_mul-decision_need : goal.overflow_mul-decision_need
-overflow_mul-decision_need c = record { fits = decisions-fit (plate c) c.requires c.sizes_of-sizes.ensures }
+overflow_mul-decision_need c =
+    let plate = of_parts c.args.n c.args.k c.args.mask c.args.rows.now c.args.profile.now in
+    record { fits = decisions-fit plate c.requires c.sizes_of-sizes.ensures }
 
 pub returns-then-metrics-metric_need : goal.returns-then-metrics-metric_need
 returns-then-metrics-metric_need c =
-    refused-8 (plate c) c.args.samples.now c.args.found.now c.args.scores.now c.args.metrics.now c.args.decisions.now c.requires
-    (blocks c) c.first_over-over.ensures c.if-over-samples.false c.sizes_of-sizes.ensures c.if-metrics-metric_need.true
+    let plate = of_parts c.args.n c.args.k c.args.mask c.args.rows.now c.args.profile.now in
+    refused-8 plate c.args.samples.now c.args.found.now c.args.scores.now c.args.metrics.now c.args.decisions.now c.requires
+    (blocks (c.are_blocks.ensures.yes_is c.if-not-are_blocks.false)) c.first_over-over.ensures c.if-over-samples.false c.sizes_of-sizes.ensures c.if-metrics-metric_need.true
 
 pub returns-then-decisions-decision_need : goal.returns-then-decisions-decision_need
 returns-then-decisions-decision_need c =
-    refused-9 (plate c) c.args.samples.now c.args.found.now c.args.scores.now c.args.metrics.now c.args.decisions.now c.requires
-    (blocks c) c.first_over-over.ensures c.if-over-samples.false c.sizes_of-sizes.ensures
+    let plate = of_parts c.args.n c.args.k c.args.mask c.args.rows.now c.args.profile.now in
+    refused-9 plate c.args.samples.now c.args.found.now c.args.scores.now c.args.metrics.now c.args.decisions.now c.requires
+    (blocks (c.are_blocks.ensures.yes_is c.if-not-are_blocks.false)) c.first_over-over.ensures c.if-over-samples.false c.sizes_of-sizes.ensures
     (omega (arith, c.if-metrics-metric_need.false)) c.if-decisions-decision_need.true
 
 pub put_blocks-counts-requires : goal.put_blocks-counts-requires
 put_blocks-counts-requires c =
-    let both = blocks-fit (plate c) c.args.samples.now c.args.found.now c.args.scores.now c.args.metrics.now c.args.decisions.now c.requires
-    (blocks c) c.first_over-over.ensures c.if-over-samples.false c.sizes_of-sizes.ensures
+    let plate = of_parts c.args.n c.args.k c.args.mask c.args.rows.now c.args.profile.now in
+    let both = blocks-fit plate c.args.samples.now c.args.found.now c.args.scores.now c.args.metrics.now c.args.decisions.now c.requires
+    (blocks (c.are_blocks.ensures.yes_is c.if-not-are_blocks.false)) c.first_over-over.ensures c.if-over-samples.false c.sizes_of-sizes.ensures
     (omega (arith, c.if-metrics-metric_need.false)) (omega (arith, c.if-decisions-decision_need.false)) in
     record {
       sizes_fit = both.0;
@@ -95,7 +101,8 @@ shape_of-decisions c =
 
 pub returns : goal.returns
 returns c =
-    batched (plate c) c.args.samples.now c.args.found.now c.args.scores.now c.args.metrics.now c.args.decisions.now c.requires
-    (blocks c) c.first_over-over.ensures c.if-over-samples.false c.sizes_of-sizes.ensures
+    let plate = of_parts c.args.n c.args.k c.args.mask c.args.rows.now c.args.profile.now in
+    batched plate c.args.samples.now c.args.found.now c.args.scores.now c.args.metrics.now c.args.decisions.now c.requires
+    (blocks (c.are_blocks.ensures.yes_is c.if-not-are_blocks.false)) c.first_over-over.ensures c.if-over-samples.false c.sizes_of-sizes.ensures
     (omega (arith, c.if-metrics-metric_need.false)) (omega (arith, c.if-decisions-decision_need.false))
     c.put_blocks-counts.ensures _ c.clear_metrics.ensures _ c.clear_decisions.ensures

@@ -8,15 +8,6 @@ use Rattle.decoding.specs.Batching.{BlocksPut}
 use Rattle.decoding.proofs.Batched.{all-put, block-fits, block_inside, blocks-on, blocks_start, there}
 use Rattle.decoding.proofs.batch.put_blocks.Goals as goal
 
-part_end : tie.Need-slice-bounds-put-block-end invariant-loop decreases-loop
-part_end c = inside c.before.before.before
-
--- the block lies within the run
-inside : (c : goal.In-loop-at)
-    → c.loop-at.at * c.args.sizes.n + c.args.sizes.n
-    ≤ length c.args.samples.now
-inside c = block_inside c.requires.blocks_fit c.loop-at.invariant.1 c.loop-at-test.true
-
 pub ending_rows-ends-requires : goal.ending_rows-ends-requires
 ending_rows-ends-requires c = c.requires.sizes_fit.plate
 
@@ -24,13 +15,16 @@ pub loop-at-init : goal.loop-at-init
 loop-at-init c = (omega arith, blocks_start _ _ _ _ _ _ _)
 
 pub overflow_mul-begin : goal.overflow_mul-begin
-overflow_mul-begin c = let h = inside c in search rules
+overflow_mul-begin c = let inside = block_inside c.requires.blocks_fit c.loop-at.invariant.1 c.loop-at-test.true in
+    search rules
 
 pub overflow_add-end : goal.overflow_add-end
-overflow_add-end c = let h = inside c in search rules
+overflow_add-end c = let inside = block_inside c.requires.blocks_fit c.loop-at.invariant.1 c.loop-at-test.true in
+    search rules
 
 pub offset_bounds-samples-begin : goal.offset_bounds-samples-begin
-offset_bounds-samples-begin c = let h = inside c in search rules
+offset_bounds-samples-begin c = let inside = block_inside c.requires.blocks_fit c.loop-at.invariant.1 c.loop-at-test.true in
+    search rules
 
 pub put_block-counts-requires : goal.put_block-counts-requires
 put_block-counts-requires c =

@@ -83,12 +83,9 @@ reading_at-reading-requires c =
     let e = sizes-are plate given c.sizes_of-sizes.result c.sizes_of-sizes.ensures in
     let m : metric_need plate ≤ length c.args.metrics.now = omega (arith, c.if-metrics-metric_need.false, ap (λ (z : Sizes). z.half) e) in
     let d : decision_need plate ≤ length c.args.decisions.now = subst (λ (x : ℕ). c.args.n * x ≤ length c.args.decisions.now) (ap (λ (z : Sizes). z.words) e) (omega (arith, c.if-decisions-decision_need.false)) in
-    subst (λ (z : Sizes). SizesFit c.args.rows.now z × (RoomsFit z c.args.samples.now c.args.metrics.now c.args.decisions.now × (c.args.position < z.n))) (sym e)
-    (record {
-      sizes_fit = plate-sizes-fit plate given;
-      rooms_fit = rooms-fit plate c.args.samples.now c.args.position c.args.metrics.now c.args.decisions.now given c.if-samples-n.false c.first_over-over.result c.first_over-over.ensures c.if-over-n.false c.if-n-position.false m d;
-      position_lt_n = c.if-n-position.false;
-    })
+    let all = subst (λ (z : Sizes). SizesFit c.args.rows.now z × (RoomsFit z c.args.samples.now c.args.metrics.now c.args.decisions.now × (c.args.position < z.n))) (sym e)
+    (plate-sizes-fit plate given, (rooms-fit plate c.args.samples.now c.args.position c.args.metrics.now c.args.decisions.now given c.if-samples-n.false c.first_over-over.result c.first_over-over.ensures c.if-over-n.false c.if-n-position.false m d, c.if-n-position.false)) in
+    record { sizes_fit = all.0; rooms_fit = all.1.0; position_lt_n = all.1.1 }
 
 pub clear_metrics-requires : goal.clear_metrics-requires
 clear_metrics-requires c = omega (arith, c.if-metrics-metric_need.false, c.reading_at-reading.ensures.kept.metrics_size)

@@ -4,20 +4,17 @@ use Prim.Native.Nat.{◌<◌}
 use Rattle.decoding.proofs.PassedBack.{ColumnFrom, column-end, column-on, column-start, last-place, left-falls}
 use Rattle.decoding.proofs.live.column_of.Goals as goal
 
-place : (c : goal.After-last_one-j) → c.last_one-j.result < 64
-place c = search last-place
-
 pub loop-left-init : goal.loop-left-init
 loop-left-init c = search column-start
 
 pub offset_bounds-rows-j : goal.offset_bounds-rows-j
-offset_bounds-rows-j c = let h = place c in search rules
+offset_bounds-rows-j c = let inside : c.last_one-j.result < 64 = search last-place in search rules
 
 pub bounds-rows-j : goal.bounds-rows-j
-bounds-rows-j c = let h = place c in search rules
+bounds-rows-j c = let inside : c.last_one-j.result < 64 = search last-place in search rules
 
 pub overflow_shl-left : goal.overflow_shl-left
-overflow_shl-left c = place c
+overflow_shl-left c = search last-place
 
 pub loop-left-smaller : goal.loop-left-smaller
 loop-left-smaller c = search left-falls

@@ -9,32 +9,28 @@ use Rattle.decoding.proofs.PassedRows.{row_first}
 use Rattle.words.specs.Ends.{firsts}
 use Rattle.decoding.proofs.live.rows_before.Goals as goal
 
--- the rows begun are one more than those before the last of them
-one_more : (c : goal.After-first_one) → c.args.next ≡ suc (c.args.next - 1)
-one_more c = omega (arith, c.if-next-eq0.false)
-
 pub returns-then-next-eq0 : goal.returns-then-next-eq0
 returns-then-next-eq0 c =
     record { live = λ k p e b. before-all p c.args.t e b (λ j q f. omega (arith, c.if-next-eq0.true, q)) }
 
 pub overflow_shl-result : goal.overflow_shl-result
-overflow_shl-result c = omega (arith, one_more c, c.requires.1)
+overflow_shl-result c = omega (arith, c.if-next-eq0.false, c.requires.1)
 
 pub returns-then-first_one-t : goal.returns-then-first_one-t
 returns-then-first_one-t c =
-    let q = one_more c in
+    let one_more : c.args.next ≡ suc (c.args.next - 1) = omega (arith, c.if-next-eq0.false) in
     record {
       live = λ k p e b.
-          let f = row_first p (c.args.next - 1) (last-there p c.args.t e b q) c.first_one.ensures in
-          before_last p c.args.t e b q (sym f ∙ c.if-first_one-t.true);
+          let f = row_first p (c.args.next - 1) (last-there p c.args.t e b one_more) c.first_one.ensures in
+          before_last p c.args.t e b one_more (sym f ∙ c.if-first_one-t.true);
     }
 
 pub returns : goal.returns
 returns c =
-    let q = one_more c in
+    let one_more : c.args.next ≡ suc (c.args.next - 1) = omega (arith, c.if-next-eq0.false) in
     record {
       live = λ k p e b. before-all p c.args.t e b (λ j r f.
           let i : c.args.next - 1 ≡ j = omega (arith, r) in
-          let g = row_first p (c.args.next - 1) (last-there p c.args.t e b q) c.first_one.ensures in
+          let g = row_first p (c.args.next - 1) (last-there p c.args.t e b one_more) c.first_one.ensures in
           c.if-first_one-t.false (g ∙ ap (firsts (take k c.args.rows.now)) i ∙ f));
     }

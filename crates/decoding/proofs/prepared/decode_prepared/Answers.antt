@@ -81,7 +81,7 @@ search-answer-requires c =
     let d : decision_need plate ≤ length c.args.decisions.now = subst (λ (x : ℕ). c.args.n * x ≤ length c.args.decisions.now) (ap (λ (z : Sizes). z.words) e) (omega (arith, c.if-decisions-decision_need.false)) in
     let f = subst (λ (z : Sizes). SizesFit c.args.rows.now z × (RoomsFit z c.args.samples.now c.args.metrics.now c.args.decisions.now × (0 < z.words))) (sym e)
     (plate-sizes-fit plate given, (rooms-fit plate c.args.samples.now c.args.metrics.now c.args.decisions.now given (c.if-samples-n.false) c.first_over-over.result c.first_over-over.ensures (λ h. omega (arith, h, c.if-over-n.false)) m d, omega arith)) in
-    (f.0, (c.ending_rows-ends.ensures, f.1))
+    record { sizes_fit = f.0; ends_are = c.ending_rows-ends.ensures; rooms_fit = f.1.0; words_nonzero = f.1.1 }
 
 pub clear_metrics-requires : goal.clear_metrics-requires
 clear_metrics-requires c = omega (arith, c.if-metrics-metric_need.false, c.search-answer.ensures.kept.metrics_size)

@@ -5,14 +5,11 @@ use Prim.Native.Nat.{◌+◌, ◌<◌}
 use Rattle.decoding.proofs.Singles.{choice-fits, chosen-part, far-there, near_fits, near-there}
 use Rattle.decoding.proofs.states.two_branches.Goals as goal
 
-far : (c : goal.After-stride) → c.source-near.result + c.stride.result < length c.args.metrics.now
-far c = search far-there
-
 pub source-near-requires : goal.source-near-requires
 source-near-requires c = search near_fits
 
 pub overflow_add-far : goal.overflow_add-far
-overflow_add-far c = let l = far c in search rules
+overflow_add-far c = let far : c.source-near.result + c.stride.result < length c.args.metrics.now = search far-there in search rules
 
 pub offset_bounds-metrics-near : goal.offset_bounds-metrics-near
 offset_bounds-metrics-near c = let l = near-there c.requires.1 c.source-near.ensures in search rules
@@ -21,7 +18,7 @@ pub slice_copy_out-a : goal.slice_copy_out-a
 slice_copy_out-a c = search near-there
 
 pub offset_bounds-metrics-far : goal.offset_bounds-metrics-far
-offset_bounds-metrics-far c = let l = far c in search rules
+offset_bounds-metrics-far c = let far : c.source-near.result + c.stride.result < length c.args.metrics.now = search far-there in search rules
 
 pub slice_copy_out-b : goal.slice_copy_out-b
 slice_copy_out-b c = search far-there

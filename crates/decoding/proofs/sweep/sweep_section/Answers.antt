@@ -16,9 +16,6 @@ use Rattle.decoding.proofs.SweepSection.{begin-small, from_low, part_room, secti
 use Rattle.decoding.proofs.TurnedSamples.{turned-length, turned-size}
 use Rattle.decoding.proofs.sweep.sweep_section.Goals as goal
 
-part-step-end : tie.Need-slice-bounds-step-end
-part-step-end c = let s = c.before.before.before.before.before.before.before.before in part_room s.args.rows.now s.args.sizes (gains_of s.args.sizes s.args.samples.now s.args.forced) s.args.metrics.now s.args.decisions.now s.args.t s.requires.fit s.requires.rooms s.requires.depth s.args.at s.requires.swept
-
 pub pass_back-passed-requires : goal.pass_back-passed-requires
 pass_back-passed-requires c =
     record {
@@ -45,10 +42,13 @@ offset_bounds-decisions-begin c =
 
 pub gain_at-requires : goal.gain_at-requires
 gain_at-requires c =
-    let ys : List ℤ = forced_to c.args.samples.now c.args.forced in (
-      omega (arith, c.requires.depth, c.requires.rooms.size, turned-length c.args.sizes.rest ys, length-set c.args.samples.now c.args.forced.position c.args.forced.gain),
-      omega (arith, c.requires.rooms.within c.args.t (omega (arith, c.requires.depth, c.requires.rooms.size)), turned-size c.args.sizes.rest ys c.args.t),
-    )
+    let ys : List ℤ = forced_to c.args.samples.now c.args.forced in
+    let same = length-set c.args.samples.now c.args.forced.position c.args.forced.gain in
+    let within = c.requires.rooms.within c.args.t (omega (arith, c.requires.depth, c.requires.rooms.size)) in
+    record {
+      t_in_bounds = omega (arith, c.requires.depth, c.requires.rooms.size, turned-length c.args.sizes.rest ys, same);
+      pos_bound = omega (arith, within, turned-size c.args.sizes.rest ys c.args.t);
+    }
 
 pub step-counts-requires : goal.step-counts-requires
 step-counts-requires c =

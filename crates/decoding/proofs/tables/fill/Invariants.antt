@@ -10,7 +10,7 @@ use Rattle.words.proofs.Word.{bit-lt}
 use Rattle.decoding.proofs.tables.fill.Given as goal
 
 abbrev pub invariant-loop-i : goal.invariant-loop-i
-invariant-loop-i l = Filled l.word (to_z w32 l.gain) l.i l.signs l.ties
+invariant-loop-i l = Filled l.word l.gain l.i l.signs l.ties
 
 abbrev pub decreases-loop-i : goal.decreases-loop-i
 decreases-loop-i l = 32 - l.i
