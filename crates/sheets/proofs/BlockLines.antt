@@ -1,12 +1,10 @@
 -- A block line or a heard line by its first field, and the counter of a heard line.
 use Prim.Native.Nat.{ℕ, ◌+◌, ◌-◌, ◌≤◌}
-use denote.Enum.Declared.{tag_of}
 use lib.IntN.{ℤ}
 use lib.ListN.{length, take, drop}
 use mathlib.Core.Bool.{Bool, true, false}
 use mathlib.Core.List.{List, [], ◌∷◌}
 use mathlib.Core.Path.{◌≡◌, refl, sym, ◌∙◌, ap}
-use types.Run.{OneOf, miss}
 use Rattle.sheets.specs.Text.{tab, fields, fields_from}
 use Rattle.sheets.specs.Numbers.{counter_of, worth}
 use Rattle.sheets.specs.Words.{word_of}
@@ -18,36 +16,35 @@ use Rattle.sheets.specs.declared.word.Word.{Word}
 use Rattle.sheets.specs.declared.word.Word.TheVariants.{Cover, Mask, Row, Block, Heard, End, Other}
 use Rattle.sheets.specs.declared.block.Samples.{Samples}
 use Rattle.sheets.specs.declared.block.Samples.TheVariants.{Bad}
-use Rattle.sheets.specs.contracts.word.Word.{the_type}
 use Rattle.sheets.proofs.Parts.{parts-front, after_more, after_last}
 use Rattle.sheets.proofs.Sampling.{read-bad}
 
 -- a word that is not block
-pub not-block : (w : Word) (fs : List (List ℕ)) → OneOf (0 ∷ 1 ∷ 2 ∷ 4 ∷ 5 ∷ 6 ∷ []) (tag_of the_type w) → block_by false w fs ≡ Bad 1
+pub not-block : (w : Word) (fs : List (List ℕ)) → (w ≡ Block → ⊥) → block_by false w fs ≡ Bad 1
 not-block Cover fs h = refl
 not-block Mask fs h = refl
 not-block Row fs h = refl
-not-block Block fs h = absurd (miss (0 ∷ 1 ∷ 2 ∷ 4 ∷ 5 ∷ 6 ∷ []) 3 tt h)
+not-block Block fs h = absurd (h refl)
 not-block Heard fs h = refl
 not-block End fs h = refl
 not-block Other fs h = refl
 
 -- a word that is not heard
-pub not-heard : (w : Word) (fs : List (List ℕ)) → OneOf (0 ∷ 1 ∷ 2 ∷ 3 ∷ 5 ∷ 6 ∷ []) (tag_of the_type w) → block_by true w fs ≡ Bad 1
+pub not-heard : (w : Word) (fs : List (List ℕ)) → (w ≡ Heard → ⊥) → block_by true w fs ≡ Bad 1
 not-heard Cover fs h = refl
 not-heard Mask fs h = refl
 not-heard Row fs h = refl
 not-heard Block fs h = refl
-not-heard Heard fs h = absurd (miss (0 ∷ 1 ∷ 2 ∷ 3 ∷ 5 ∷ 6 ∷ []) 4 tt h)
+not-heard Heard fs h = absurd (h refl)
 not-heard End fs h = refl
 not-heard Other fs h = refl
 
-pub no-counter : (w : Word) (fs : List (List ℕ)) → OneOf (0 ∷ 1 ∷ 2 ∷ 3 ∷ 5 ∷ 6 ∷ []) (tag_of the_type w) → counter_by w fs ≡ 0
+pub no-counter : (w : Word) (fs : List (List ℕ)) → (w ≡ Heard → ⊥) → counter_by w fs ≡ 0
 no-counter Cover fs h = refl
 no-counter Mask fs h = refl
 no-counter Row fs h = refl
 no-counter Block fs h = refl
-no-counter Heard fs h = absurd (miss (0 ∷ 1 ∷ 2 ∷ 3 ∷ 5 ∷ 6 ∷ []) 4 tt h)
+no-counter Heard fs h = absurd (h refl)
 no-counter End fs h = refl
 no-counter Other fs h = refl
 

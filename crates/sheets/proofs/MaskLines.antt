@@ -1,12 +1,10 @@
 -- The line after the cover as a mask, and the lines after it, by what was read of them.
 use Prim.Native.Nat.{ℕ, ◌+◌, ◌-◌, ◌≤◌}
-use denote.Enum.Declared.{tag_of}
 use lib.ListN.{length, take, drop}
 use lib.Seq.{length-take-le}
 use mathlib.Core.List.{List, [], ◌∷◌}
 use mathlib.Core.Path.{◌≡◌, refl, sym, ◌∙◌, ap}
 use native.Mathlib.Omega.{arith}
-use types.Run.{OneOf, miss}
 use Rattle.plates.specs.declared.Refusal.{Refusal}
 use Rattle.sheets.specs.Text.{tab, line_feed, fields, fields_from, lines_from}
 use Rattle.sheets.specs.Words.{word_of}
@@ -22,16 +20,15 @@ use Rattle.sheets.specs.declared.line.Fault.{Fault}
 use Rattle.sheets.specs.declared.mask.MaskLine.{MaskLine}
 use Rattle.sheets.specs.declared.mask.MaskLine.TheVariants.{Is, NoMask, Bad}
 use Rattle.sheets.specs.declared.cover.Cover.{Cover}
-use Rattle.sheets.specs.contracts.word.Word.{the_type}
 use Rattle.sheets.proofs.Endings.{line-closed}
 use Rattle.sheets.proofs.Parts.{after-some, from_last, from_more, parts-front}
 use Rattle.sheets.proofs.Passing.{line-length, line-split}
 
 -- another word makes no mask line
-pub no-mask-word : (n : ℕ) (order : Order) (w : Word) (fs : List (List ℕ)) → OneOf (0 ∷ 2 ∷ 3 ∷ 4 ∷ 5 ∷ 6 ∷ []) (tag_of the_type w)
+pub no-mask-word : (n : ℕ) (order : Order) (w : Word) (fs : List (List ℕ)) → (w ≡ W.Mask → ⊥)
     → NoMask ≡ mask_by n order w fs
 no-mask-word n order W.Cover fs h = refl
-no-mask-word n order W.Mask fs h = absurd (miss (0 ∷ 2 ∷ 3 ∷ 4 ∷ 5 ∷ 6 ∷ []) 1 tt h)
+no-mask-word n order W.Mask fs h = absurd (h refl)
 no-mask-word n order W.Row fs h = refl
 no-mask-word n order W.Block fs h = refl
 no-mask-word n order W.Heard fs h = refl

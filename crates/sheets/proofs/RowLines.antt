@@ -1,12 +1,10 @@
 -- The row lines at the front of some lines, one after the other.
 use Prim.Native.Nat.{ℕ, ◌+◌, ◌≤◌}
-use denote.Enum.Declared.{tag_of}
 use lib.ListN.{length, set, length-set}
 use mathlib.Core.List.{List, [], ◌∷◌}
 use mathlib.Core.Path.{◌≡◌, refl, sym, ◌∙◌, ap}
 use native.Mathlib.Numerals.{add-one}
 use native.Mathlib.Omega.{arith}
-use types.Run.{OneOf, miss}
 use Rattle.sheets.specs.Text.{line_feed, lines_from}
 use Rattle.sheets.specs.Room.{laid}
 use Rattle.sheets.specs.Lines.{front, row_then, rows_of}
@@ -16,14 +14,13 @@ use Rattle.sheets.specs.declared.line.Came.TheVariants.{Nothing}
 use Rattle.sheets.specs.declared.line.Fault.TheVariants.{Missing}
 use Rattle.sheets.specs.declared.line.Line.{Line}
 use Rattle.sheets.specs.declared.line.Line.TheVariants.{Row, Block, End, Bad}
-use Rattle.sheets.specs.contracts.line.Line.{the_type}
 use Rattle.sheets.proofs.Endings.{line-open, line-closed}
 use Rattle.sheets.proofs.Laying.{laid_from, laid_none, laid_on}
 use Rattle.sheets.proofs.Passing.{at-end, line-split, Passing, pass-start, pass_on, pass-end}
 
 -- a line that is not a row
-other-line : (k : Line) (ws : List ℕ) → OneOf (1 ∷ 2 ∷ 3 ∷ []) (tag_of the_type k) → row_then k ws ≡ []
-other-line (Row w) ws h = absurd (miss (1 ∷ 2 ∷ 3 ∷ []) 0 tt h)
+other-line : (k : Line) (ws : List ℕ) → ((w : ℕ) → k ≡ Row w → ⊥) → row_then k ws ≡ []
+other-line (Row w) ws h = absurd (h w refl)
 other-line Block ws h = refl
 other-line End ws h = refl
 other-line (Bad f) ws h = refl
@@ -36,7 +33,7 @@ pub record Rowing (n : ℕ) (order : Order) (s : List ℕ) (from : ℕ) (table�
 
 module _ (n : ℕ) (order : Order) where
   -- the rows end at a line that is none
-  rows_none : (ls : List (List ℕ)) (k : Line) → front n order Nothing ls ≡ k → OneOf (1 ∷ 2 ∷ 3 ∷ []) (tag_of the_type k) → rows_of n order ls ≡ []
+  rows_none : (ls : List (List ℕ)) (k : Line) → front n order Nothing ls ≡ k → ((w : ℕ) → k ≡ Row w → ⊥) → rows_of n order ls ≡ []
   rows_none [] k e h = refl
   rows_none (l ∷ ls) k e h = rw e (other-line k (rows_of n order ls) h)
 
@@ -56,7 +53,7 @@ module _ {n : ℕ} {order : Order} {s : List ℕ} {from : ℕ} where
     }
 
     -- a line that is no row
-    pub row-stop : (l : Line) → front n order Nothing (lines_from s at) ≡ l → OneOf (1 ∷ 2 ∷ 3 ∷ []) (tag_of the_type l)
+    pub row-stop : (l : Line) → front n order Nothing (lines_from s at) ≡ l → ((w : ℕ) → l ≡ Row w → ⊥)
         → RowsRead n order s from table₀ (record { count = k; next = at }) table
     row-stop l e h = row-end (rows_none n order (lines_from s at) l e h)
 

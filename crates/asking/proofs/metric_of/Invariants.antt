@@ -15,7 +15,7 @@ use Rattle.asking.proofs.MetricSteps.{metric_from, metric-start, metric-down, me
 use Rattle.asking.proofs.metric_of.Given as goal
 
 abbrev pub invariant-loop-i : goal.invariant-loop-i
-invariant-loop-i l = (l.i ≤ length l.samples) × (to_z w32 l.metric ≡ metric_from l.samples l.word l.i)
+invariant-loop-i l = (l.i ≤ length l.samples) × (l.metric ≡ metric_from l.samples l.word l.i)
 
 abbrev pub decreases-loop-i : goal.decreases-loop-i
 decreases-loop-i l = l.i

@@ -13,7 +13,7 @@ use Rattle.asking.proofs.with_sample.Goals as goal
 
 -- a sample is a number of more bits
 gain-is : {y : ℤ} → SFits w16 y → to_z w32 (of_z w32 (to_z w16 (of_z w16 y))) ≡ y
-gain-is f = rw (to_z-of_z f) (to_z-of_z (sfits_widen tt f))
+gain-is f = rw (to_z-of_z f) (to_z-of_z {w = w32} (sfits_widen {w = w16} {w' = w32} tt f))
 
 pub overflow_cast-gain : goal.overflow_cast-gain
 overflow_cast-gain c = rw (to_z-of_z c.ranges.sample) (sfits_widen tt c.ranges.sample)

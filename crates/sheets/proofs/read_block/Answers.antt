@@ -7,16 +7,6 @@ use Rattle.sheets.proofs.BlockPlaces.{counted-there, placed-there, room-stays}
 use Rattle.sheets.specs.Blocks.{block_at}
 use Rattle.sheets.proofs.read_block.Goals as goal
 
-part-place-samples-start : tie.Need-slice-bounds-place-samples-start
-part-place-samples-start c =
-    let p = c.before.before.before.block_at.ensures.place _ _ c.before.reply.given.1 in
-    omega arith
-
-part-place-samples-end : tie.Need-slice-bounds-place-samples-end
-part-place-samples-end c =
-    let p = c.before.before.before.block_at.ensures.place _ _ c.before.reply.given.1 in
-    omega arith
-
 pub returns-in_default : goal.returns-in_default
 returns-in_default c =
     let e = sym c.in_default.is ∙ c.block_at-reply.ensures.reply in
@@ -35,10 +25,9 @@ slice_bounds-place_samples-count c =
 pub place_samples-requires : goal.place_samples-requires
 place_samples-requires c =
     let a = c.args in
-    let g = c.reply-1.given in
     let b = c.block_at-reply.ensures in
-    let p = b.place g.0.0 g.0.1.0 g.1 in
-    counted-there a.heard a.input.now a.at (g.0.1.0 - 1) (omega arith) p.until (λ q. omega arith) g.0.0 g.0.1.0 (sym g.1 ∙ b.reply)
+    let p = b.place c.in-Read.samples c.in-Read.next c.in-Read.is in
+    counted-there a.heard a.input.now a.at (c.in-Read.next - 1) (omega arith) p.until (λ q. omega arith) c.in-Read.samples c.in-Read.next (sym c.in-Read.is ∙ b.reply)
 
 pub returns : goal.returns
 returns c =

@@ -11,4 +11,4 @@ returns-in-Fixed c = put-fixed c.args.flag.reading c.args.fixed.now c.args.value
 
 pub returns-in-Open : goal.returns-in-Open
 returns-in-Open c =
-    put-open c.args.flag.reading c.args.fixed.now c.args.value.now _ c.in-Open.is (record { sfits = c.known_told-in-Open-1.given.0.1 })
+    put-open c.args.flag.reading c.args.fixed.now c.args.value.now _ c.in-Open.is (record { sfits = c.in-Open.known_told-in-Open-1-own.given.0.1 })

@@ -14,7 +14,7 @@ returns-in-NoCodeword c = sym (ap reason_difference c.in-NoCodeword.is)
 
 pub returns-in-ScoresLess : goal.returns-in-ScoresLess
 returns-in-ScoresLess c =
-    to_z-of_z {w = w32} (record { sfits = c.known_told-1.given.0.1 }) ∙ sym (ap reason_difference c.in-ScoresLess.is)
+    to_z-of_z {w = w32} (record { sfits = c.in-ScoresLess.known_told-1-own.given.0.1 }) ∙ sym (ap reason_difference c.in-ScoresLess.is)
 
 pub returns-in-TiesAndLoses : goal.returns-in-TiesAndLoses
 returns-in-TiesAndLoses c = sym (ap reason_difference c.in-TiesAndLoses.is)

@@ -22,7 +22,7 @@ loop-at-preserved c =
     let u = c.until-end in
     let v = c.in-Is.value in
     let g = sym c.read_sample-sample.ensures ∙ c.in-Is.is in
-    rw (c.put_sample.ensures, to_z-of_z {w = w16} {z = v} (record { sfits = c.known_told-1.given.0.1 }))
+    rw (c.put_sample.ensures, to_z-of_z {w = w16} {z = v} (record { sfits = c.in-Is.known_told-1-own.given.0.1 }))
     (sample-on c.loop-at.invariant u.result (omega arith) u.ensures v g)
 
 pub returns : goal.returns

@@ -12,13 +12,12 @@ loop-at-init c = row-start c.requires.from_in_bounds
 
 pub returns-in_default : goal.returns-in_default
 returns-in_default c =
-    row-stop c.loop-at.invariant c.line_between-line.result (sym c.line_between-line.ensures) c.in_default.keys2
+    row-stop c.loop-at.invariant c.line_between-line.result (sym c.line_between-line.ensures) c.in_default.not-Row
 
 pub loop-at-preserved : goal.loop-at-preserved
 loop-at-preserved c =
     let u = c.until-end in
-    let w = c.line-1.given in
-    rw c.put_row.ensures (row_on c.loop-at.invariant u.result (omega arith) u.ensures w.0.0 (sym c.line_between-line.ensures ∙ w.1))
+    rw c.put_row.ensures (row_on c.loop-at.invariant u.result (omega arith) u.ensures c.in-Row.word (sym c.line_between-line.ensures ∙ c.in-Row.is))
 
 pub returns : goal.returns
 returns c = row_last c.loop-at.invariant c.loop-at-test.false

@@ -16,7 +16,7 @@ pub returns-in_default : goal.returns-in_default
 returns-in_default c =
     let a = c.args in
     let u = c.until-a in
-    sym (counter-by a.line.now u.result u.ensures _ (sym c.read_word-word.ensures) ∙ no-counter c.read_word-word.result (fields_from a.line.now (u.result + 1)) c.in_default.keys2)
+    sym (counter-by a.line.now u.result u.ensures _ (sym c.read_word-word.ensures) ∙ no-counter c.read_word-word.result (fields_from a.line.now (u.result + 1)) c.in_default.not-Heard)
 
 pub returns-then-a-line : goal.returns-then-a-line
 returns-then-a-line c =

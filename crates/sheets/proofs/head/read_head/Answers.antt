@@ -17,26 +17,22 @@ pub returns-then-n-eq0 : goal.returns-then-n-eq0
 returns-then-n-eq0 c =
     let l = c.read_cover-line in
     let u = c.until-end in
-    let q = c.line-in-Is-1.given in
-    head-none c.args.input.now u.result u.ensures c.if-end-input.false l.result (sym l.ensures) q.0.0 q.1 c.if-n-eq0.true
+    head-none c.args.input.now u.result u.ensures c.if-end-input.false l.result (sym l.ensures) c.in-Is.cover c.in-Is.is c.if-n-eq0.true
 
 pub returns-then-n-gt64 : goal.returns-then-n-gt64
 returns-then-n-gt64 c =
     let l = c.read_cover-line in
     let u = c.until-end in
-    let q = c.line-in-Is-1.given in
-    head-over c.args.input.now u.result u.ensures c.if-end-input.false l.result (sym l.ensures) q.0.0 q.1 c.if-n-eq0.false c.if-n-gt64.true
+    head-over c.args.input.now u.result u.ensures c.if-end-input.false l.result (sym l.ensures) c.in-Is.cover c.in-Is.is c.if-n-eq0.false c.if-n-gt64.true
 
 pub returns-in-Bad : goal.returns-in-Bad
 returns-in-Bad c =
     let l = c.read_cover-line in
     let u = c.until-end in
-    let q = c.line-1.given in
-    head-bad c.args.input.now u.result u.ensures c.if-end-input.false l.result (sym l.ensures) q.0.0 q.1 c.refusal_of.result c.refusal_of.ensures
+    head-bad c.args.input.now u.result u.ensures c.if-end-input.false l.result (sym l.ensures) c.in-Bad.fault c.in-Bad.is c.refusal_of.result c.refusal_of.ensures
 
 pub returns-else-n-gt64 : goal.returns-else-n-gt64
 returns-else-n-gt64 c =
     let l = c.read_cover-line in
     let u = c.until-end in
-    let q = c.line-in-Is-1.given in
-    head-is c.args.input.now u.result u.ensures c.if-end-input.false l.result (sym l.ensures) q.0.0 q.1 c.if-n-eq0.false c.if-n-gt64.false
+    head-is c.args.input.now u.result u.ensures c.if-end-input.false l.result (sym l.ensures) c.in-Is.cover c.in-Is.is c.if-n-eq0.false c.if-n-gt64.false

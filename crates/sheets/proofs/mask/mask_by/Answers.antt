@@ -6,7 +6,7 @@ use Rattle.sheets.proofs.MaskLines.{no-mask-word}
 use Rattle.sheets.proofs.mask.mask_by.Goals as goal
 
 pub returns-in_default : goal.returns-in_default
-returns-in_default c = search no-mask-word
+returns-in_default c = no-mask-word _ _ _ _ c.in_default.not-Mask
 
 pub returns : goal.returns
 returns c = rw c.in-Mask.is (c.mask_is.ensures ∙ ap mask_is c.row_rest-row.ensures)

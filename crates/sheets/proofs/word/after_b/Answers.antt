@@ -11,19 +11,19 @@ returns-in-107 c =
 pub returns-in_default-e : goal.returns-in_default-e
 returns-in_default-e c =
     let a = c.args in
-    rw (five 98 a.b a.c a.d a.e, c.in-108.is, c.in-111.is, c.in-99.is, ne_eqb _ _ c.in_default-e.rest.1)
+    rw (five 98 a.b a.c a.d a.e, c.in-108.is, c.in-111.is, c.in-99.is, ne_eqb _ _ c.in_default-e.in_default-e-own.rest.1)
 
 pub returns-in_default-d : goal.returns-in_default-d
 returns-in_default-d c =
     let a = c.args in
-    rw (five 98 a.b a.c a.d a.e, c.in-108.is, c.in-111.is, ne_eqb _ _ c.in_default-d.rest.1)
+    rw (five 98 a.b a.c a.d a.e, c.in-108.is, c.in-111.is, ne_eqb _ _ c.in_default-d.in_default-d-own.rest.1)
 
 pub returns-in_default-c : goal.returns-in_default-c
 returns-in_default-c c =
     let a = c.args in
-    rw (five 98 a.b a.c a.d a.e, c.in-108.is, ne_eqb _ _ c.in_default-c.rest.1)
+    rw (five 98 a.b a.c a.d a.e, c.in-108.is, ne_eqb _ _ c.in_default-c.in_default-c-own.rest.1)
 
 pub returns-in_default : goal.returns-in_default
 returns-in_default c =
     let a = c.args in
-    rw (five 98 a.b a.c a.d a.e, ne_eqb _ _ c.in_default.rest.1)
+    rw (five 98 a.b a.c a.d a.e, ne_eqb _ _ c.in_default.in_default-own.rest.1)

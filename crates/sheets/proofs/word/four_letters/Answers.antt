@@ -22,20 +22,20 @@ returns-in_default-d c =
       c.in-109.is,
       c.in-97.is,
       c.in-115.is,
-      ne_eqb _ _ c.in_default-d.rest.1,
+      ne_eqb _ _ c.in_default-d.in_default-d-own.rest.1,
     )
 
 pub returns-in_default-c : goal.returns-in_default-c
 returns-in_default-c c =
     let a = c.args in
-    rw (four a.a a.b a.c a.d, c.in-109.is, c.in-97.is, ne_eqb _ _ c.in_default-c.rest.1)
+    rw (four a.a a.b a.c a.d, c.in-109.is, c.in-97.is, ne_eqb _ _ c.in_default-c.in_default-c-own.rest.1)
 
 pub returns-in_default-b : goal.returns-in_default-b
 returns-in_default-b c =
     let a = c.args in
-    rw (four a.a a.b a.c a.d, c.in-109.is, ne_eqb _ _ c.in_default-b.rest.1)
+    rw (four a.a a.b a.c a.d, c.in-109.is, ne_eqb _ _ c.in_default-b.in_default-b-own.rest.1)
 
 pub returns-in_default : goal.returns-in_default
 returns-in_default c =
     let a = c.args in
-    rw (four a.a a.b a.c a.d, ne_eqb _ _ c.in_default.rest.1)
+    rw (four a.a a.b a.c a.d, ne_eqb _ _ c.in_default.in_default-own.rest.1)

@@ -20,4 +20,4 @@ returns-in-5 c =
     rw (listed5 f c.in-5.is) c.five_letters.ensures
 
 pub returns-in_default : goal.returns-in_default
-returns-in_default c = sym (no_word c.args.f.now c.in_default.rest.0.0.1 c.in_default.rest.0.1 c.in_default.rest.1)
+returns-in_default c = sym (no_word c.args.f.now c.in_default.in_default-own.rest.0.0.1 c.in_default.in_default-own.rest.0.1 c.in_default.in_default-own.rest.1)
