@@ -24,7 +24,7 @@ with_sample-metric-requires c =
       within =
           subst (λ (y : ℤ). nat_abs y ≤ limit) {x = get_or c.args.samples.now (l.i - 1) (pos 0)} (sym (to_z-of_z {w = w16} (record { sfits = c.with_sample-arg-1.given })))
           (c.requires.within (l.i - 1) (omega (arith, c.loop-i-test.true, l.invariant.0)));
-      small = metric-small c.args.samples.now c.args.word c.requires l.i l.metric l.invariant.1;
+      small = metric-small c.args.samples.now c.args.word c.requires l.i (to_z w32 l.metric-bits) l.invariant.1;
     }
 
 pub loop-i-preserved : goal.loop-i-preserved
@@ -33,10 +33,10 @@ loop-i-preserved c =
     let y = get_or c.args.samples.now (l.i - 1) (pos 0) in
     let e : c.with_sample-metric.result ≡ metric_from c.args.samples.now c.args.word (l.i - 1) =
     c.with_sample-metric.ensures
-    ∙ ap₂ (λ (b : ℕ) (z : ℤ). signed b z +ℤ l.metric) c.bit_at.ensures (to_z-of_z {w = w16} {z = y} (record { sfits = c.with_sample-arg-1.given }))
-    ∙ metric-down c.args.samples.now c.args.word l.i l.metric c.loop-i-test.true l.invariant.0 l.invariant.1 in
+    ∙ ap₂ (λ (b : ℕ) (z : ℤ). signed b z +ℤ to_z w32 l.metric-bits) c.bit_at.ensures (to_z-of_z {w = w16} {z = y} (record { sfits = c.with_sample-arg-1.given }))
+    ∙ metric-down c.args.samples.now c.args.word l.i (to_z w32 l.metric-bits) c.loop-i-test.true l.invariant.0 l.invariant.1 in
     (omega (arith, l.invariant.0), back c.with_sample-metric.result (omega (arith, metric-small c.args.samples.now c.args.word c.requires (l.i - 1) c.with_sample-metric.result e)) ∙ e)
 
 pub returns : goal.returns
 returns c =
-    metric-end c.args.samples.now c.args.word c.loop-i.i c.loop-i.metric (omega (arith, c.loop-i-test.false)) c.loop-i.invariant.1
+    metric-end c.args.samples.now c.args.word c.loop-i.i (to_z w32 c.loop-i.metric-bits) (omega (arith, c.loop-i-test.false)) c.loop-i.invariant.1

@@ -9,7 +9,7 @@ use Rattle.judging.proofs.Reading.{Searching, searching-found, searching-none, s
 use Rattle.judging.proofs.ours.first_suiting.Given as goal
 
 abbrev pub invariant-loop-a : goal.invariant-loop-a
-invariant-loop-a l = (l.a ≤ 2 ^ l.section.live) × Searching (2 ^ l.section.live) (λ l.a. suits l.section (suc l.a) l.zero l.one) l.a
+invariant-loop-a l = (l.a ≤ 2 ^ l.section.live) × Searching (2 ^ l.section.live) (λ a. suits l.section (suc a) l.zero l.one) l.a
 
 abbrev pub decreases-loop-a : goal.decreases-loop-a
 decreases-loop-a l = 2 ^ l.section.live - l.a
