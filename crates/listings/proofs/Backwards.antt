@@ -5,7 +5,7 @@ use mathlib.Core.List.{List, [], map, ◌∷◌}
 use mathlib.Core.Path.{ap, refl, ◌∙◌, ◌≡◌}
 use native.Mathlib.Omega.{arith}
 use Prim.Native.Nat.{◌+◌, ◌-◌, ◌<◌, max, suc, zero, ℕ, ◌≤◌}
-use Rattle.listings.proofs.Prepending.{prepend-none, prepend-then}
+use Rattle.listings.proofs.Prepending.{prepend-none, ◌▹◌}
 use Rattle.listings.specs.Building.{Prepends}
 use Rattle.listings.specs.Decimal.{decimal}
 use Rattle.listings.specs.Lines.{following, largest, positions}
@@ -20,12 +20,12 @@ drop-back xs i h l =
 -- a text that grows by one byte for each place gone back
 pub bytes_on : {d e f : List ℕ} {end at r : ℕ} (xs : List ℕ) (i : ℕ) → 0 < i → i ≤ length xs → Prepends d end (drop i xs) e at
     → Prepends e at (get_or xs (i - 1) 0 ∷ []) f r → Prepends d end (drop (i - 1) xs) f r
-bytes_on xs i h l p q = rw (drop-back xs i h l) (prepend-then p q)
+bytes_on xs i h l p q = rw (drop-back xs i h l) (p ▹ q)
 
 -- the fields of a line, one for each place gone back
 pub fields-on : {d e f : List ℕ} {end at r : ℕ} (xs : List ℕ) (i : ℕ) → 0 < i → i ≤ length xs → Prepends d end (following (map decimal (drop i xs))) e at
     → Prepends e at (9 ∷ decimal (get_or xs (i - 1) 0)) f r → Prepends d end (following (map decimal (drop (i - 1) xs))) f r
-fields-on xs i h l p q = rw (drop-back xs i h l) (prepend-then p q)
+fields-on xs i h l p q = rw (drop-back xs i h l) (p ▹ q)
 
 -- the largest entry, one place back
 pub largest-on : (xs : List ℕ) (i : ℕ) → 0 < i → i ≤ length xs → largest (drop (i - 1) xs) ≡ max (get_or xs (i - 1) 0) (largest (drop i xs))
@@ -40,6 +40,7 @@ positions-length word p (suc n) = ap suc (positions-length word (suc p) n)
 
 -- position i stands i places from the left
 pub positions-at : (word p n i : ℕ) → i < n → get_or (positions word p n) i 0 ≡ 48 + bit word (p + i)
+positions-at word p zero i h = elim h [ ]
 positions-at word p (suc n) zero h = let e : p + 0 ≡ p = omega arith in rw e
 positions-at word p (suc n) (suc i) h =
     let e : suc p + i ≡ p + suc i = omega arith in

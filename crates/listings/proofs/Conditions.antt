@@ -1,13 +1,13 @@
 -- A line written under a call's conditions, one condition after the other.
-use lib.ListN.{drop, length, length-drop, take}
+use lib.ListN.{drop, length, length-drop, replicate, take}
 use lib.Seq.{take_all}
 use mathlib.Core.List.{◌++◌, List, [], ◌∷◌}
 use mathlib.Core.Logic.{inl, inr}
 use mathlib.Core.Path.{refl, ◌∙◌, ◌≡◌}
 use native.Mathlib.Omega.{arith}
 use Prim.Native.Nat.{◌-◌, ◌<◌, ℕ, ◌≤◌}
-use Rattle.listings.proofs.Prepending.{Built, built-stands}
-use Rattle.listings.specs.Building.{Ends}
+use Rattle.listings.proofs.Prepending.{built-stands}
+use Rattle.listings.specs.Building.{Ends, Prepends}
 use Rattle.listings.specs.declared.Written.{Written}
 use Rattle.listings.specs.declared.Written.TheVariants.{Bytes, Refused}
 use Rattle.listings.specs.Writing.{Writes, WritesLine}
@@ -48,6 +48,6 @@ tail_written array room room' at s h e =
     rw (e, a, ← l) (fits-room (drop at array) room (omega (arith, s.size)))
 
 -- a built line, written
-pub built-written : {line array room room' : List ℕ} {at : ℕ} {r : Written} → Built line array at
+pub built-written : {line array room room' : List ℕ} {at : ℕ} {r : Written} → length line ≤ 256 → Prepends (replicate 256 0) 256 line array at
     → WritesLine (drop at array) room r room' → WritesLine line room r room'
-built-written b w = rw (built-stands b) at w
+built-written short put w = rw (built-stands short put) at w

@@ -7,7 +7,7 @@ use mathlib.Core.Path.{ap, subst, sym, ◌∙◌, ◌≡◌}
 use native.Mathlib.Nat.{pow-suc}
 use native.Mathlib.Omega.{arith}
 use Prim.Native.Nat.{◌%◌, ◌*◌, ◌+◌, ◌/◌, ◌<◌, ◌^◌, suc, zero, ℕ, ◌≤◌}
-use Rattle.listings.proofs.Prepending.{prepend-none, prepend-then}
+use Rattle.listings.proofs.Prepending.{prepend-none, ◌▹◌}
 use Rattle.listings.specs.Building.{Prepends}
 use Rattle.listings.specs.Decimal.{decimal, digits}
 
@@ -49,7 +49,7 @@ pub digits-on : {d e f : List ℕ} {end value at r rest : ℕ} → Digits d end 
     → Prepends e at ((48 + rest % 10) ∷ []) f r → Digits d end value f r (rest / 10)
 digits-on {rest = rest} s h p = record {
   text = (48 + rest % 10) ∷ s.text;
-  put = prepend-then s.put p;
+  put = s.put ▹ p;
   whole = sym (append_assoc (decimal (rest / 10)) ((48 + rest % 10) ∷ []) s.text) ∙ rw (decimal-high rest h s.small) at s.whole;
   small = omega (arith, s.small);
 }
@@ -58,4 +58,4 @@ digits-on {rest = rest} s h p = record {
 pub digits-end : {d e f : List ℕ} {end value at r rest : ℕ} → Digits d end value e at rest → rest < 10
     → Prepends e at ((48 + rest) ∷ []) f r → Prepends d end (decimal value) f r
 digits-end {d} {f = f} {end} {r = r} {rest} s h p =
-    subst (λ (t : List ℕ). Prepends d end t f r) (rw (decimal-low rest h) at s.whole) (prepend-then s.put p)
+    subst (λ (t : List ℕ). Prepends d end t f r) (rw (decimal-low rest h) at s.whole) (s.put ▹ p)

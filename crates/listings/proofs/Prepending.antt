@@ -31,9 +31,10 @@ prepend-one d end byte p q = record {
       ∙ ap₂ ◌∷◌ (get_or-set_same d (end - 1) byte 0 i) (rw e (drop-set-lt end d (end - 1) byte (omega arith))));
 }
 
--- a text before a text
-pub prepend-then : {d e f t u : List ℕ} {end m r : ℕ} → Prepends d end t e m → Prepends e m u f r → Prepends d end (u ++ t) f r
-prepend-then {d} {e} {f} {t} {u} {end} {m} {r} p q = record {
+-- a text, and then one before it
+infixl 35 ◌▹◌
+pub ◌▹◌ : {d e f t u : List ℕ} {end m r : ℕ} → Prepends d end t e m → Prepends e m u f r → Prepends d end (u ++ t) f r
+◌▹◌ {d} {e} {f} {t} {u} {end} {m} {r} p q = record {
   same_size = q.same_size ∙ p.same_size;
   begins = λ h. omega (arith, p.begins (first h), q.begins (second h), length-append u t);
   stands = λ h. q.stands (second h) ∙ ap (λ (l : List ℕ). u ++ l) (p.stands (first h)) ∙ rw append_assoc;
@@ -49,19 +50,17 @@ prepend-then {d} {e} {f} {t} {u} {end} {m} {r} p q = record {
       room = omega (arith, p.begins (first h), h.room, length-append u t);
     }
 
--- a line of at most 256 bytes, put before the end of an array of zeros
-pub record Built (line array : List ℕ) (at : ℕ) : Type 0 where
-  pub short : length line ≤ 256
-  pub put : Prepends (replicate 256 0) 256 line array at
+-- ---- a line of at most 256 bytes, put before the end of an array of zeros
 
--- it has room there
-zeros-room : {line array : List ℕ} {at : ℕ} → Built line array at → HasRoom (replicate 256 0) 256 line
-zeros-room b = record { size = length-replicate {A = ℕ} 256 0; within = omega arith; room = b.short }
+module _ {line array : List ℕ} {at : ℕ} (short : length line ≤ 256) (put : Prepends (replicate 256 0) 256 line array at) where
+  -- it has room there
+  zeros-room : HasRoom (replicate 256 0) 256 line
+  zeros-room = record { size = length-replicate {A = ℕ} 256 0; within = omega arith; room = short }
 
--- it ends with the array
-pub built-ends : {line array : List ℕ} {at : ℕ} → Built line array at → Ends array at
-built-ends b = record { size = b.put.same_size ∙ length-replicate {A = ℕ} 256 0; within = omega (arith, b.put.begins (zeros-room b)) }
+  -- it ends with the array
+  pub built-ends : Ends array at
+  built-ends = record { size = put.same_size ∙ length-replicate {A = ℕ} 256 0; within = omega (arith, put.begins zeros-room) }
 
--- and is all that stands from its beginning on
-pub built-stands : {line array : List ℕ} {at : ℕ} → Built line array at → drop at array ≡ line
-built-stands {line} b = b.put.stands (zeros-room b) ∙ append-nil line
+  -- and is all that stands from its beginning on
+  pub built-stands : drop at array ≡ line
+  built-stands = put.stands zeros-room ∙ append-nil line

@@ -28,7 +28,7 @@ turned (negsuc k) f = ap pos (zero-add (suc k))
 module _ (z : ℤ) (s : SFits w32 z) where
   -- the number in 64 bits
   pub wide-same : to_z w64 (of_z w64 (to_z w32 (of_z w32 z))) ≡ z
-  wide-same = rw (to_z-of_z s) (to_z-of_z (sfits_widen tt s))
+  wide-same = rw (to_z-of_z s) (to_z-of_z {w = w64} (sfits_widen tt s))
 
   -- its magnitude fits there
   size_fits : SFits w64 (pos (nat_abs z))

@@ -1,7 +1,6 @@
 -- `listings::copy_in` meets its contract: the first i bytes are copied.
-use Prim.Native.Nat.{◌-◌, ◌≤◌}
 use lib.ListN.{length, length-set}
-use lib.Seq.{paste, paste-zero, take-length}
+use lib.Seq.{paste-zero, take-length}
 use mathlib.Core.Path.{◌≡◌, refl}
 use native.Mathlib.Nat.{zero-add}
 use Rattle.listings.proofs.Copying.{copied_on}

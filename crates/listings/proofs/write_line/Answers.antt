@@ -2,7 +2,6 @@
 use lib.ListN.{length-drop}
 use native.Mathlib.Omega.{arith}
 use Rattle.listings.proofs.Conditions.{too_long, tail_written}
-use borrow.Author.Rules.{rules}
 use Rattle.listings.proofs.write_line.Goals as goal
 
 pub returns-then-room-size : goal.returns-then-room-size

@@ -1,5 +1,4 @@
 -- `listings::write_plate` meets its contract: it is the call over the plate's parts.
-use borrow.Author.Rules.{rules}
 use Rattle.listings.proofs.write_plate.Goals as goal
 
 pub returns : goal.returns

@@ -1,5 +1,4 @@
 -- `listings::write_plate_parts` meets its contract.
-use borrow.Author.Rules.{rules}
 use Rattle.listings.proofs.OfPlate.{count_fits, tested, tested-length, untested}
 use Rattle.listings.proofs.write_plate_parts.Goals as goal
 

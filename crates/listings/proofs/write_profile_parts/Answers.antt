@@ -1,5 +1,4 @@
 -- `listings::write_profile_parts` meets its contract.
-use borrow.Author.Rules.{rules}
 use Rattle.listings.proofs.OfPlate.{count_fits, tested, tested-fit, tested-length, untested}
 use Rattle.listings.proofs.write_profile_parts.Goals as goal
 

@@ -1,5 +1,4 @@
 -- `listings::write_word` meets its contract: it is the call over the plate's parts.
-use borrow.Author.Rules.{rules}
 use mir.Facts.{to_z-of_z}
 use Rattle.listings.proofs.write_word.Goals as goal
 

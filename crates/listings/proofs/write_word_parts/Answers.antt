@@ -1,5 +1,4 @@
 -- `listings::write_word_parts` meets its contract.
-use borrow.Author.Rules.{rules}
 use mir.Facts.{to_z-of_z}
 use Rattle.listings.proofs.OfPlate.{tested, tested-short, untested}
 use Rattle.listings.proofs.write_word_parts.Goals as goal

@@ -1,5 +1,4 @@
 -- `listings::pieces::character` meets its contract.
-use borrow.Author.Rules.{rules}
 use native.Mathlib.Omega.{arith}
 use Rattle.words.proofs.Word.{bit-lt}
 use Rattle.listings.proofs.pieces.character.Goals as goal

@@ -1,12 +1,8 @@
 -- `listings::pieces::largest_entry` meets its contract: the largest from i on is found.
-use Prim.Native.Nat.{◌≤◌}
-use lib.ListN.{length, drop}
 use lib.Seq.{drop-length}
 use mathlib.Core.Path.{◌≡◌, sym, ◌∙◌}
 use native.Mathlib.Omega.{arith}
-use Rattle.listings.specs.Lines.{largest}
 use Rattle.listings.proofs.Backwards.{largest-on}
-use borrow.Author.Rules.{rules}
 use Rattle.listings.proofs.pieces.largest_entry.Goals as goal
 
 pub loop-i-init : goal.loop-i-init

@@ -1,15 +1,8 @@
 -- `listings::pieces::prepend_entries` meets its contract: the entries from i on stand before the line feed.
-use Prim.Native.Nat.{ℕ, ◌≤◌}
-use lib.ListN.{length, drop}
 use lib.Seq.{drop-length}
-use mathlib.Core.List.{List, [], ◌∷◌, map}
 use mathlib.Core.Path.{◌≡◌}
 use native.Mathlib.Omega.{arith}
-use Rattle.listings.specs.Building.{Prepends}
-use Rattle.listings.specs.Decimal.{decimal}
-use Rattle.listings.specs.Lines.{following}
 use Rattle.listings.proofs.Backwards.{fields-on}
-use borrow.Author.Rules.{rules}
 use Rattle.listings.proofs.pieces.prepend_entries.Goals as goal
 
 pub loop-i-init : goal.loop-i-init

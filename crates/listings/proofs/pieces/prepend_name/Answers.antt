@@ -1,13 +1,9 @@
 -- `listings::pieces::prepend_name` meets its contract: the letters from i on stand in the array.
-use Prim.Native.Nat.{◌≤◌}
-use lib.ListN.{length, drop}
 use lib.Seq.{drop-length}
 use mathlib.Core.Path.{◌≡◌}
 use native.Mathlib.Omega.{arith}
-use Rattle.listings.specs.Building.{Prepends}
 use Rattle.listings.proofs.Backwards.{bytes_on}
 use Rattle.listings.proofs.Prepending.{prepend-none}
-use borrow.Author.Rules.{rules}
 use Rattle.listings.proofs.pieces.prepend_name.Goals as goal
 
 pub loop-i-init : goal.loop-i-init

@@ -1,7 +1,6 @@
 -- `listings::pieces::prepend_number` meets its contract: the digits put so far stand to the right of those of `rest`.
 use native.Mathlib.Omega.{arith}
-use borrow.Author.Rules.{rules}
-use Rattle.listings.proofs.Digits.{Digits, digits-start, digits-on, digits-end}
+use Rattle.listings.proofs.Digits.{digits-start, digits-on, digits-end}
 use Rattle.listings.proofs.pieces.prepend_number.Goals as goal
 
 pub loop-rest-init : goal.loop-rest-init

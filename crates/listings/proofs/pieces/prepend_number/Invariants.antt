@@ -1,7 +1,5 @@
 -- `listings::pieces::prepend_number` meets its contract: the digits put so far stand to the right of those of `rest`.
-use native.Mathlib.Omega.{arith}
-use borrow.Author.Rules.{rules}
-use Rattle.listings.proofs.Digits.{Digits, digits-start, digits-on, digits-end}
+use Rattle.listings.proofs.Digits.{Digits}
 use Rattle.listings.proofs.pieces.prepend_number.Given as goal
 
 abbrev pub invariant-loop-rest : goal.invariant-loop-rest

@@ -1,13 +1,8 @@
 -- `listings::pieces::prepend_positions` meets its contract: the positions from i on stand in the array.
-use Prim.Native.Nat.{◌≤◌}
-use lib.ListN.{drop}
 use mathlib.Core.Path.{◌≡◌}
 use native.Mathlib.Omega.{arith}
-use Rattle.listings.specs.Building.{Prepends}
-use Rattle.listings.specs.Lines.{positions}
 use Rattle.listings.proofs.Backwards.{positions-start, positions-on}
-use Rattle.listings.proofs.Prepending.{prepend-then}
-use borrow.Author.Rules.{rules}
+use Rattle.listings.proofs.Prepending.{◌▹◌}
 use Rattle.listings.proofs.pieces.prepend_positions.Goals as goal
 
 pub loop-i-init : goal.loop-i-init
@@ -29,4 +24,4 @@ pub returns : goal.returns
 returns c =
     let l = c.loop-i in
     let e : l.i ≡ 0 = omega arith in
-    prepend-then (rw e at l.invariant.1) c.prepend_byte.ensures
+    (rw e at l.invariant.1) ▹ c.prepend_byte.ensures

@@ -1,13 +1,8 @@
 -- `listings::pieces::prepend_positions` meets its contract: the positions from i on stand in the array.
 use Prim.Native.Nat.{◌≤◌}
 use lib.ListN.{drop}
-use mathlib.Core.Path.{◌≡◌}
-use native.Mathlib.Omega.{arith}
 use Rattle.listings.specs.Building.{Prepends}
 use Rattle.listings.specs.Lines.{positions}
-use Rattle.listings.proofs.Backwards.{positions-start, positions-on}
-use Rattle.listings.proofs.Prepending.{prepend-then}
-use borrow.Author.Rules.{rules}
 use Rattle.listings.proofs.pieces.prepend_positions.Given as goal
 
 abbrev pub invariant-loop-i : goal.invariant-loop-i
