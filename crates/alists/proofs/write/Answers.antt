@@ -1,6 +1,5 @@
 -- `write` meets its contract.
 use Rattle.alists.proofs.Replies.{as_line, length_over, length-zero, put-fits, put-short, row-beyond, rows-over, without-rows}
-use borrow.Author.Rules.{rules}
 use native.Mathlib.Omega.{arith}
 use Rattle.alists.proofs.write.Goals as goal
 

@@ -1,6 +1,5 @@
 -- `lists::fits_index` meets its contract.
 use borrow.Author.Tests.{eq-eqb, le-leb, lt-leb, ne_eqb}
-use borrow.Author.Rules.{rules}
 use Rattle.alists.proofs.lists.fits_index.Goals as goal
 
 pub returns-then-x-eq0 : goal.returns-then-x-eq0

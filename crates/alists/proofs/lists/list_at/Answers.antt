@@ -5,7 +5,6 @@ use mathlib.Core.Path.{sym}
 use Prim.Native.Nat.{ℕ}
 use Rattle.alists.proofs.Storing.{line_kept, line-lost}
 use Rattle.alists.proofs.Judging.{list-bad, list-good, list-wrong}
-use borrow.Author.Rules.{rules}
 use native.Mathlib.Omega.{arith}
 use Rattle.alists.proofs.lists.list_at.Goals as goal
 

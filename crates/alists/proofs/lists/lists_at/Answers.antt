@@ -1,12 +1,6 @@
 -- `lists::lists_at` meets its contract: the lists from i on are still to be put.
-use borrow.Author.Tests.{not-false, not-true}
-use lib.ListN.{drop, length}
 use mathlib.Core.Path.{sym, ◌∙◌}
-use Prim.Native.Nat.{◌-◌}
-use Rattle.alists.specs.Reading.{lists_from}
-use Rattle.alists.specs.Working.{laid_from}
-use Rattle.alists.proofs.Judging.{Laying, laying-bad, laying-end, laying-hidden, laying-on, laying-start}
-use borrow.Author.Rules.{rules}
+use Rattle.alists.proofs.Judging.{laying-bad, laying-end, laying-hidden, laying-on, laying-start}
 use native.Mathlib.Omega.{arith}
 use Rattle.alists.proofs.lists.lists_at.Goals as goal
 

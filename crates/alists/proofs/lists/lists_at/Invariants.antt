@@ -1,13 +1,9 @@
 -- `lists::lists_at` meets its contract: the lists from i on are still to be put.
-use borrow.Author.Tests.{not-false, not-true}
 use lib.ListN.{drop, length}
-use mathlib.Core.Path.{sym, ◌∙◌}
 use Prim.Native.Nat.{◌-◌}
 use Rattle.alists.specs.Reading.{lists_from}
 use Rattle.alists.specs.Working.{laid_from}
-use Rattle.alists.proofs.Judging.{Laying, laying-bad, laying-end, laying-hidden, laying-on, laying-start}
-use borrow.Author.Rules.{rules}
-use native.Mathlib.Omega.{arith}
+use Rattle.alists.proofs.Judging.{Laying}
 use Rattle.alists.proofs.lists.lists_at.Given as goal
 
 abbrev pub invariant-loop-i : goal.invariant-loop-i

@@ -1,7 +1,6 @@
 -- `lists::shows_columns` meets its contract.
 use mathlib.Core.Path.{sym}
 use Rattle.alists.proofs.Judging.{shows-known, shows-unknown}
-use borrow.Author.Rules.{rules}
 use native.Mathlib.Omega.{arith}
 use Rattle.alists.proofs.lists.shows_columns.Goals as goal
 

@@ -1,9 +1,7 @@
 -- `lists::word_of` meets its contract.
-use borrow.Author.Tests.{not-false, not-true}
 use lib.Seq.{length-take-le}
 use mathlib.Core.Path.{sym, ◌∙◌}
 use Rattle.alists.proofs.Judging.{word-padded, word-short, word-unpadded}
-use borrow.Author.Rules.{rules}
 use native.Mathlib.Omega.{arith}
 use Rattle.alists.proofs.lists.word_of.Goals as goal
 

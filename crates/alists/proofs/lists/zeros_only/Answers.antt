@@ -1,11 +1,7 @@
 -- `lists::zeros_only` meets its contract. The invariant: from i on there are only zeros exactly if there are from the start.
 use native.Mathlib.Omega.{arith}
-use lib.ListN.{drop, length}
-use mathlib.Core.Path.{◌≡◌, refl, sym, ◌∙◌}
-use Prim.Native.Nat.{◌-◌, ◌≤◌}
-use Rattle.alists.specs.Reading.{zeros_only}
+use mathlib.Core.Path.{refl, sym, ◌∙◌}
 use Rattle.alists.proofs.NumbersFound.{zeros-end, zeros-here, zeros-other}
-use borrow.Author.Rules.{rules}
 use Rattle.alists.proofs.lists.zeros_only.Goals as goal
 
 pub loop-i-init : goal.loop-i-init

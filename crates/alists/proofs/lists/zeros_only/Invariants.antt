@@ -1,11 +1,8 @@
 -- `lists::zeros_only` meets its contract. The invariant: from i on there are only zeros exactly if there are from the start.
-use native.Mathlib.Omega.{arith}
 use lib.ListN.{drop, length}
-use mathlib.Core.Path.{◌≡◌, refl, sym, ◌∙◌}
+use mathlib.Core.Path.{◌≡◌}
 use Prim.Native.Nat.{◌-◌, ◌≤◌}
 use Rattle.alists.specs.Reading.{zeros_only}
-use Rattle.alists.proofs.NumbersFound.{zeros-end, zeros-here, zeros-other}
-use borrow.Author.Rules.{rules}
 use Rattle.alists.proofs.lists.zeros_only.Given as goal
 
 abbrev pub invariant-loop-i : goal.invariant-loop-i

@@ -1,13 +1,8 @@
 -- `matrix::column_at` meets its contract. The invariant: the word is the column of the rows from j on.
-use lib.ListN.{drop, get_or, length, length-drop}
+use lib.ListN.{drop, length}
 use mathlib.Core.Path.{◌≡◌}
-use Prim.Native.Nat.{◌-◌, ◌≤◌}
+use Prim.Native.Nat.{◌≤◌}
 use Rattle.alists.specs.Lists.{column}
-use Rattle.alists.proofs.Filling.{column-back, column-room}
-use Rattle.alists.proofs.Places.{done}
-use Rattle.words.proofs.Word.{bit-lt}
-use borrow.Author.Rules.{rules}
-use native.Mathlib.Omega.{arith}
 use Rattle.alists.proofs.matrix.column_at.Given as goal
 
 abbrev pub invariant-loop-j : goal.invariant-loop-j

@@ -1,10 +1,6 @@
 -- `matrix::fill_columns` meets its contract: the columns from i on are still to be put.
-use lib.Seq.{sets}
-use mathlib.Core.Path.{◌≡◌, sym, ◌∙◌}
-use Prim.Native.Nat.{◌-◌, ◌≤◌}
-use Rattle.alists.specs.Lists.{columns_from}
+use mathlib.Core.Path.{sym, ◌∙◌}
 use Rattle.alists.proofs.Filling.{columns-end, columns-on, columns-start}
-use borrow.Author.Rules.{rules}
 use native.Mathlib.Omega.{arith}
 use Rattle.alists.proofs.matrix.fill_columns.Goals as goal
 

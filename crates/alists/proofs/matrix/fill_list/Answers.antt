@@ -1,8 +1,6 @@
 -- `matrix::fill_list` meets its contract: position by position.
 use mathlib.Core.Path.{refl}
-use Prim.Native.Nat.{◌-◌}
-use Rattle.alists.proofs.Filling.{Listing, listing-end, listing-on, listing_start}
-use borrow.Author.Rules.{rules}
+use Rattle.alists.proofs.Filling.{listing-end, listing-on, listing_start}
 use native.Mathlib.Omega.{arith}
 use Rattle.alists.proofs.matrix.fill_list.Goals as goal
 

@@ -1,9 +1,6 @@
 -- `matrix::fill_list` meets its contract: position by position.
-use mathlib.Core.Path.{refl}
 use Prim.Native.Nat.{◌-◌}
-use Rattle.alists.proofs.Filling.{Listing, listing-end, listing-on, listing_start}
-use borrow.Author.Rules.{rules}
-use native.Mathlib.Omega.{arith}
+use Rattle.alists.proofs.Filling.{Listing}
 use Rattle.alists.proofs.matrix.fill_list.Given as goal
 
 abbrev pub invariant-loop-i : goal.invariant-loop-i

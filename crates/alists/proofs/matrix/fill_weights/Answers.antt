@@ -1,12 +1,6 @@
 -- `matrix::fill_weights` meets its contract: the weights from i on are still to be put.
-use lib.ListN.{drop, length}
-use lib.Seq.{sets}
-use mathlib.Core.List.{map}
-use mathlib.Core.Path.{◌≡◌, refl, sym, ◌∙◌}
-use Prim.Native.Nat.{◌-◌, ◌≤◌}
-use Rattle.alists.specs.Lists.{weight}
+use mathlib.Core.Path.{refl, sym, ◌∙◌}
 use Rattle.alists.proofs.Filling.{weights-end, weights-on}
-use borrow.Author.Rules.{rules}
 use native.Mathlib.Omega.{arith}
 use Rattle.alists.proofs.matrix.fill_weights.Goals as goal
 

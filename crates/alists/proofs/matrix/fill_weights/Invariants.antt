@@ -2,12 +2,9 @@
 use lib.ListN.{drop, length}
 use lib.Seq.{sets}
 use mathlib.Core.List.{map}
-use mathlib.Core.Path.{◌≡◌, refl, sym, ◌∙◌}
+use mathlib.Core.Path.{◌≡◌}
 use Prim.Native.Nat.{◌-◌, ◌≤◌}
 use Rattle.alists.specs.Lists.{weight}
-use Rattle.alists.proofs.Filling.{weights-end, weights-on}
-use borrow.Author.Rules.{rules}
-use native.Mathlib.Omega.{arith}
 use Rattle.alists.proofs.matrix.fill_weights.Given as goal
 
 abbrev pub invariant-loop-i : goal.invariant-loop-i

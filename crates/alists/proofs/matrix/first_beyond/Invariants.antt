@@ -1,11 +1,6 @@
 -- `matrix::first_beyond` meets its contract: the rows before i are below.
-use borrow.Author.Tests.{leb-false, leb-true}
 use lib.ListN.{get_or, length}
-use mathlib.Core.Path.{sym, ◌∙◌}
 use Prim.Native.Nat.{◌-◌, ◌<◌, ◌^◌, ℕ, ◌≤◌}
-use Rattle.alists.proofs.Filling.{below_on}
-use borrow.Author.Rules.{rules}
-use native.Mathlib.Omega.{arith}
 use Rattle.alists.proofs.matrix.first_beyond.Given as goal
 
 abbrev pub invariant-loop-i : goal.invariant-loop-i

@@ -1,12 +1,8 @@
 -- `matrix::largest_of` meets its contract: the largest from i on is found.
-use native.Mathlib.Omega.{arith}
 use lib.ListN.{drop, length}
-use lib.Seq.{drop-length}
-use mathlib.Core.Path.{◌≡◌, sym, ◌∙◌}
+use mathlib.Core.Path.{◌≡◌}
 use Prim.Native.Nat.{◌≤◌}
 use Rattle.alists.specs.Lists.{largest}
-use Rattle.alists.proofs.Places.{largest-on}
-use borrow.Author.Rules.{rules}
 use Rattle.alists.proofs.matrix.largest_of.Given as goal
 
 abbrev pub invariant-loop-i : goal.invariant-loop-i

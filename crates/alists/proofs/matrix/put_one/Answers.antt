@@ -3,7 +3,6 @@ use borrow.Author.Tests.{eq-eqb, ne_eqb}
 use mathlib.Core.Path.{refl, sym, ◌∙◌}
 use native.Mathlib.Numerals.{add-one}
 use Rattle.words.specs.Word.{bit}
-use borrow.Author.Rules.{rules}
 use native.Mathlib.Omega.{arith}
 use Rattle.alists.proofs.matrix.put_one.Goals as goal
 

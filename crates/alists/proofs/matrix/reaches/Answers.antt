@@ -1,5 +1,4 @@
 -- `matrix::reaches` meets its contract.
-use borrow.Author.Rules.{rules}
 use borrow.Author.Tests.{lt-leb}
 use mathlib.Core.Path.{sym}
 use native.Mathlib.Omega.{arith}

@@ -1,6 +1,5 @@
 -- `numbers::feed_at` meets its contract.
 use Rattle.alists.proofs.NumbersFound.{feed-end, feed-here, feed-other}
-use borrow.Author.Rules.{rules}
 use native.Mathlib.Omega.{arith}
 use Rattle.alists.proofs.numbers.feed_at.Goals as goal
 

@@ -1,9 +1,7 @@
 -- `numbers::more_at` meets its contract.
-use borrow.Author.Tests.{not-false, not-true}
 use lib.ListN.{get_or}
 use mathlib.Core.Path.{sym, ◌∙◌}
 use Rattle.alists.proofs.NumbersFound.{between, more-end, more-here, more-other, more-zero}
-use borrow.Author.Rules.{rules}
 use native.Mathlib.Omega.{arith}
 use Rattle.alists.proofs.numbers.more_at.Goals as goal
 

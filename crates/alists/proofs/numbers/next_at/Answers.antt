@@ -1,6 +1,5 @@
 -- `numbers::next_at` meets its contract.
 use Rattle.alists.proofs.NumbersFound.{next-end, next_here, next-other}
-use borrow.Author.Rules.{rules}
 use native.Mathlib.Omega.{arith}
 use Rattle.alists.proofs.numbers.next_at.Goals as goal
 

@@ -1,9 +1,7 @@
 -- `numbers::number_at` meets its contract.
-use borrow.Author.Tests.{not-false, not-true}
 use lib.ListN.{get_or}
 use mathlib.Core.Path.{sym, ◌∙◌}
 use Rattle.alists.proofs.NumbersFound.{between, number-end, number-here, number-other}
-use borrow.Author.Rules.{rules}
 use native.Mathlib.Omega.{arith}
 use Rattle.alists.proofs.numbers.number_at.Goals as goal
 

@@ -2,7 +2,6 @@
 use lib.ListN.{drop, length-set}
 use mathlib.Core.Path.{refl, ◌∙◌}
 use Rattle.alists.proofs.Storing.{feed-stores, first-lost, first-stored}
-use borrow.Author.Rules.{rules}
 use native.Mathlib.Omega.{arith}
 use Rattle.alists.proofs.numbers.read_line.Goals as goal
 

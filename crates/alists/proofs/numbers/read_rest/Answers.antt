@@ -1,10 +1,5 @@
 -- `numbers::read_rest` meets its contract: the numbers from i on are still to be put.
-use lib.ListN.{drop, length}
-use Prim.Native.Nat.{◌-◌}
-use Rattle.alists.specs.Lines.{rest_of}
-use Rattle.alists.specs.Working.{stored}
-use Rattle.alists.proofs.Storing.{Storing, storing-bad, storing-end, storing-on, storing-start}
-use borrow.Author.Rules.{rules}
+use Rattle.alists.proofs.Storing.{storing-bad, storing-end, storing-on, storing-start}
 use native.Mathlib.Omega.{arith}
 use Rattle.alists.proofs.numbers.read_rest.Goals as goal
 

@@ -3,9 +3,7 @@ use lib.ListN.{drop, length}
 use Prim.Native.Nat.{◌-◌}
 use Rattle.alists.specs.Lines.{rest_of}
 use Rattle.alists.specs.Working.{stored}
-use Rattle.alists.proofs.Storing.{Storing, storing-bad, storing-end, storing-on, storing-start}
-use borrow.Author.Rules.{rules}
-use native.Mathlib.Omega.{arith}
+use Rattle.alists.proofs.Storing.{Storing}
 use Rattle.alists.proofs.numbers.read_rest.Given as goal
 
 abbrev pub invariant-loop-i : goal.invariant-loop-i

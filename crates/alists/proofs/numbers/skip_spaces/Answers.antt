@@ -1,11 +1,7 @@
 -- `numbers::skip_spaces` meets its contract. The invariant: what stands after the spaces from i on stands after those from `at` on.
 use native.Mathlib.Omega.{arith}
-use lib.ListN.{drop, length}
-use mathlib.Core.Path.{◌≡◌, refl, sym, ◌∙◌}
-use Prim.Native.Nat.{◌-◌, ◌≤◌}
-use Rattle.alists.specs.Lines.{skipped}
+use mathlib.Core.Path.{refl, sym, ◌∙◌}
 use Rattle.alists.proofs.NumbersFound.{skip-end, skip-here, skip-other}
-use borrow.Author.Rules.{rules}
 use Rattle.alists.proofs.numbers.skip_spaces.Goals as goal
 
 pub loop-i-init : goal.loop-i-init

@@ -1,11 +1,8 @@
 -- `numbers::skip_spaces` meets its contract. The invariant: what stands after the spaces from i on stands after those from `at` on.
-use native.Mathlib.Omega.{arith}
 use lib.ListN.{drop, length}
-use mathlib.Core.Path.{◌≡◌, refl, sym, ◌∙◌}
+use mathlib.Core.Path.{◌≡◌}
 use Prim.Native.Nat.{◌-◌, ◌≤◌}
 use Rattle.alists.specs.Lines.{skipped}
-use Rattle.alists.proofs.NumbersFound.{skip-end, skip-here, skip-other}
-use borrow.Author.Rules.{rules}
 use Rattle.alists.proofs.numbers.skip_spaces.Given as goal
 
 abbrev pub invariant-loop-i : goal.invariant-loop-i

@@ -1,6 +1,5 @@
 -- `pieces::put_byte` meets its contract.
 use Rattle.alists.proofs.Putting.{byte-dropped, byte_put}
-use borrow.Author.Rules.{rules}
 use native.Mathlib.Omega.{arith}
 use Rattle.alists.proofs.pieces.put_byte.Goals as goal
 

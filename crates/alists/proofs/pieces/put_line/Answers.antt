@@ -1,10 +1,9 @@
 -- `pieces::put_line` meets its contract: the numbers from i on are still to be put.
-use lib.ListN.{drop, get_or, length}
+use lib.ListN.{drop, get_or}
 use mathlib.Core.List.{◌++◌, [], ◌∷◌}
-use Prim.Native.Nat.{◌+◌, ◌-◌, ◌≤◌}
+use Prim.Native.Nat.{◌+◌}
 use Rattle.alists.specs.Text.{decimal, following}
-use Rattle.alists.proofs.Putting.{Going, empty-line, first-room, following-end, following-here, going_end, going_on, going-room, going_start, line-whole, rest-room}
-use borrow.Author.Rules.{rules}
+use Rattle.alists.proofs.Putting.{empty-line, first-room, following-end, following-here, going_end, going_on, going-room, going_start, line-whole, rest-room}
 use native.Mathlib.Omega.{arith}
 use Rattle.alists.proofs.pieces.put_line.Goals as goal
 

@@ -4,7 +4,6 @@ use mathlib.Core.Path.{sym}
 use Rattle.alists.proofs.Bounds.{held}
 use Rattle.alists.specs.Lists.{indices}
 use Rattle.alists.proofs.ListsPut.{list-small, list-taken}
-use borrow.Author.Rules.{rules}
 use native.Mathlib.Omega.{arith}
 use Rattle.alists.proofs.pieces.put_list.Goals as goal
 

@@ -1,11 +1,10 @@
 -- `pieces::put_lists` meets its contract: the lists from i on are still to be put.
-use lib.ListN.{drop, get_or, length}
+use lib.ListN.{drop, get_or}
 use mathlib.Core.List.{map}
-use Prim.Native.Nat.{◌+◌, ◌-◌, ◌≤◌}
+use Prim.Native.Nat.{◌+◌}
 use Rattle.alists.specs.Lists.{list_of}
 use Rattle.alists.specs.Text.{line, text_of}
-use Rattle.alists.proofs.Putting.{Going, going_done, going_on, going-room, going_start, lists-end, lists-here}
-use borrow.Author.Rules.{rules}
+use Rattle.alists.proofs.Putting.{going_done, going_on, going-room, going_start, lists-end, lists-here}
 use native.Mathlib.Omega.{arith}
 use Rattle.alists.proofs.pieces.put_lists.Goals as goal
 

@@ -1,12 +1,10 @@
 -- `pieces::put_lists` meets its contract: the lists from i on are still to be put.
-use lib.ListN.{drop, get_or, length}
+use lib.ListN.{drop, length}
 use mathlib.Core.List.{map}
-use Prim.Native.Nat.{◌+◌, ◌-◌, ◌≤◌}
+use Prim.Native.Nat.{◌-◌, ◌≤◌}
 use Rattle.alists.specs.Lists.{list_of}
-use Rattle.alists.specs.Text.{line, text_of}
-use Rattle.alists.proofs.Putting.{Going, going_done, going_on, going-room, going_start, lists-end, lists-here}
-use borrow.Author.Rules.{rules}
-use native.Mathlib.Omega.{arith}
+use Rattle.alists.specs.Text.{text_of}
+use Rattle.alists.proofs.Putting.{Going}
 use Rattle.alists.proofs.pieces.put_lists.Given as goal
 
 abbrev pub invariant-loop-i : goal.invariant-loop-i

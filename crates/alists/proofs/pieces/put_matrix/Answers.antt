@@ -4,7 +4,6 @@ use lib.Seq.{length-take-le}
 use mathlib.Core.Path.{sym}
 use Rattle.alists.specs.Text.{weights}
 use Rattle.alists.proofs.Bounds.{front, held, length-weights}
-use borrow.Author.Rules.{rules}
 use native.Mathlib.Omega.{arith}
 use Rattle.alists.proofs.pieces.put_matrix.Goals as goal
 

@@ -3,7 +3,6 @@ use mathlib.Core.Path.{ap, ◌≡◌}
 use lib.ListN.{length}
 use Rattle.alists.specs.Text.{decimal}
 use Rattle.alists.proofs.Putting.{decimal-one, decimal-two, puts_then}
-use borrow.Author.Rules.{rules}
 use native.Mathlib.Omega.{arith}
 use Rattle.alists.proofs.pieces.put_number.Goals as goal
 

@@ -1,6 +1,5 @@
 -- `pieces::put_pair` meets its contract.
 use Rattle.alists.proofs.ListsPut.{pair_small}
-use borrow.Author.Rules.{rules}
 use Rattle.alists.proofs.pieces.put_pair.Goals as goal
 
 pub put_line-requires : goal.put_line-requires

@@ -3,7 +3,6 @@ use lib.Seq.{length-take-le}
 use mathlib.Core.Path.{sym}
 use Rattle.alists.specs.Lists.{columns}
 use Rattle.alists.proofs.Bounds.{columns-length, front, held}
-use borrow.Author.Rules.{rules}
 use native.Mathlib.Omega.{arith}
 use Rattle.alists.proofs.pieces.put_text.Goals as goal
 

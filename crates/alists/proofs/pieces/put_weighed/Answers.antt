@@ -1,6 +1,5 @@
 -- `pieces::put_weighed` meets its contract: six parts.
 use Rattle.alists.proofs.Weighed.{Weighed, all-put, heights-small, room-five, room-four, room-one, room-six, room-three, room-two, tall-few, wide-few, widths-small}
-use borrow.Author.Rules.{rules}
 use Rattle.alists.proofs.pieces.put_weighed.Goals as goal
 
 pub put_pair-sizes-requires : goal.put_pair-sizes-requires

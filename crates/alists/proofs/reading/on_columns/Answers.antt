@@ -7,7 +7,6 @@ use Prim.Native.Nat.{ℕ}
 use Rattle.alists.specs.Reading.{lists_from}
 use Rattle.alists.proofs.Bounds.{front}
 use Rattle.alists.proofs.Chain.{answer-fault, columns-fault, columns-good, fault-read, lists-long, words-read}
-use borrow.Author.Rules.{rules}
 use native.Mathlib.Omega.{arith}
 use Rattle.alists.proofs.reading.on_columns.Goals as goal
 

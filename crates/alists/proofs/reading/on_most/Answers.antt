@@ -4,7 +4,6 @@ use lib.Seq.{get_or-take}
 use Prim.Native.Nat.{ℕ}
 use Rattle.alists.proofs.Storing.{line_kept, line-lost}
 use Rattle.alists.proofs.Chain.{most-faulty, most-good, tall-over, wide-over}
-use borrow.Author.Rules.{rules}
 use native.Mathlib.Omega.{arith}
 use Rattle.alists.proofs.reading.on_most.Goals as goal
 

@@ -5,7 +5,6 @@ use mathlib.Core.Path.{◌≡◌, sym, ◌∙◌}
 use Prim.Native.Nat.{ℕ}
 use Rattle.alists.proofs.Storing.{line_kept, line-lost}
 use Rattle.alists.proofs.Chain.{answer-fault, widths-faulty, widths-met, widths-unmet}
-use borrow.Author.Rules.{rules}
 use native.Mathlib.Omega.{arith}
 use Rattle.alists.proofs.reading.on_row_weights.Goals as goal
 

@@ -2,7 +2,6 @@
 use lib.ListN.{drop, length}
 use Rattle.alists.specs.Reading.{lists_from}
 use Rattle.alists.proofs.Chain.{answer-fault, fault-read, lists-long, rows-done, rows-extra, rows-fault, words-read}
-use borrow.Author.Rules.{rules}
 use native.Mathlib.Omega.{arith}
 use Rattle.alists.proofs.reading.on_rows.Goals as goal
 

@@ -1,5 +1,4 @@
 -- `reading::on_sizes` meets its contract.
-use borrow.Author.Tests.{not-false, not-true}
 use lib.ListN.{length-replicate, replicate}
 use lib.Seq.{get_or-take}
 use mathlib.Core.Path.{sym, ◌∙◌}
@@ -7,7 +6,6 @@ use Prim.Native.Nat.{ℕ}
 use Rattle.alists.proofs.Storing.{line_kept, line-lost}
 use Rattle.alists.proofs.NumbersFound.{between}
 use Rattle.alists.proofs.Chain.{size_none, size-none-second, sizes-faulty, sizes-good}
-use borrow.Author.Rules.{rules}
 use native.Mathlib.Omega.{arith}
 use Rattle.alists.proofs.reading.on_sizes.Goals as goal
 
