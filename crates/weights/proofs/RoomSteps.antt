@@ -5,7 +5,7 @@ use mathlib.Core.List.{List, ◌++◌, append-nil}
 use mathlib.Core.Path.{ap, refl, subst, ◌∙◌, ◌≡◌}
 use native.Mathlib.Decide.{dec_lt}
 use native.Mathlib.Omega.{arith}
-use Prim.Native.Nat.{◌+◌, ◌<◌, zero, ℕ, ◌≤◌}
+use Prim.Native.Nat.{◌+◌, ◌<◌, ℕ, ◌≤◌}
 use Rattle.weights.specs.Rooms.{Copied}
 
 -- all places are zero where as many as there are have been put to zero

@@ -1,10 +1,9 @@
 -- The replies of `count_weights`, case by case.
-use borrow.Author.Tests.{not-false, not-true}
 use lib.Arith.{bin_ind}
 use lib.Count.{ones, ones_step}
 use lib.ListN.{drop, get_or, length, replicate, take}
 use lib.Seq.{length-take-le}
-use mathlib.Core.Bool.{Bool, false, not, true}
+use mathlib.Core.Bool.{Bool, false, true}
 use mathlib.Core.List.{◌++◌, List}
 use mathlib.Core.Logic.{inl, inr, ◌⊎◌}
 use mathlib.Core.Path.{ap, refl, subst, sym, ◌∙◌, ◌≡◌}

@@ -1,5 +1,4 @@
 -- `weights::count_weights` meets its contract: it is the call over the plate's parts.
-use borrow.Author.Rules.{rules}
 use Rattle.weights.proofs.count_weights.Goals as goal
 
 pub returns : goal.returns

@@ -1,16 +1,13 @@
 -- `weights::count_weights_parts` meets its contract: each refusal in its order, and the numbers.
-use borrow.Author.Rules.{rules}
 use native.Mathlib.Omega.{arith}
 use Rattle.plates.specs.Prepare.{of_parts}
 use Rattle.weights.proofs.WeightCalls.{Ready, counts-still, least-found, made-ready, none_found, tally-asks, working-count}
 use Rattle.weights.proofs.WeightCalls.{entries-small, need-fits, profile-long, rooms-refused, rows-count, unprepared, whole-space}
 use Rattle.weights.proofs.count_weights_parts.Goals as goal
+use Rattle.weights.proofs.count_weights_parts.Goals.{Else-short}
 
--- what the call takes, where nothing is refused
-abbrev start : goal.Else-short → tie.Start
-start c = c
-
-ready : (c : goal.Else-short) → let a = (start c).args in
+-- what is known where nothing is refused
+ready : (c : Else-short) → let a = c.args in
     Ready (of_parts a.n a.k a.mask a.rows.now a.profile.now) c.half_of-half.result a.counts.now a.working.now
 ready c = made-ready c.parts_prepared.ensures c.if-not-parts_prepared.false c.half_of-half.ensures _ _ c.are_short-short.ensures
     c.if-k-eq64.false c.if-short.false
@@ -40,25 +37,25 @@ pub slice_bounds-tally-end-2 : goal.slice_bounds-tally-end-2
 slice_bounds-tally-end-2 c = (ready c).working_there
 
 pub slice_bounds-tally-end-3 : goal.slice_bounds-tally-end-3
-slice_bounds-tally-end-3 c = working-count (ready c)
+slice_bounds-tally-end-3 c = working-count (ready (goal.at.slice_bounds-tally-end-3 c).Else-short)
 
 pub tally-requires : goal.tally-requires
 tally-requires c =
-    let r = ready c in
+    let r = ready (goal.at.tally-requires c).Else-short in
     record {
       tally_fits = tally-asks r;
       in_bounds = r.counts_there;
     }
 
 pub find_least-least-requires : goal.find_least-least-requires
-find_least-least-requires c = counts-still (ready c) c.tally.ensures.counted c.tally.ensures.working_after
+find_least-least-requires c = counts-still (ready (goal.at.find_least-least-requires c).Else-short) c.tally.ensures.counted c.tally.ensures.working_after
 
 pub returns-then-least-lt65 : goal.returns-then-least-lt65
 returns-then-least-lt65 c =
-    least-found (ready c) c.tally.ensures.counted c.tally.ensures.working_after
+    least-found (ready (goal.at.returns-then-least-lt65 c).Else-short) c.tally.ensures.counted c.tally.ensures.working_after
     c.find_least-least.ensures (omega (arith, c.if-least-lt65.true))
 
 pub returns : goal.returns
 returns c =
-    none_found (ready c) c.tally.ensures.counted c.tally.ensures.working_after
+    none_found (ready (goal.at.returns c).Else-short) c.tally.ensures.counted c.tally.ensures.working_after
     c.find_least-least.ensures (omega (arith, c.if-least-lt65.false))

@@ -1,10 +1,8 @@
 -- `weights::rooms::clear` meets its contract. The loop's invariant: the places before i are zero. The measure is what is left.
-use borrow.Author.Rules.{rules}
-use lib.ListN.{length}
-use mathlib.Core.Path.{◌≡◌, refl}
+use mathlib.Core.Path.{refl}
 use native.Mathlib.Omega.{arith}
-use Prim.Native.Nat.{◌+◌, ◌≤◌, ◌-◌}
-use Rattle.decoding.proofs.Filled.{filled, fill_more, length-filled}
+use Prim.Native.Nat.{◌+◌}
+use Rattle.decoding.proofs.Filled.{fill_more, length-filled}
 use Rattle.weights.proofs.RoomSteps.{all-zero}
 use Rattle.weights.proofs.rooms.clear.Goals as goal
 

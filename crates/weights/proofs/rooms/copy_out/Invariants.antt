@@ -1,10 +1,6 @@
 -- `weights::rooms::copy_out` meets its contract. The loop's invariant: the counts before w are copied. The measure is what is left of 65.
-use mathlib.Core.Path.{subst, ◌≡◌}
-use native.Mathlib.Omega.{arith}
-use Prim.Native.Nat.{◌≤◌, ◌-◌, ℕ}
+use Prim.Native.Nat.{◌≤◌, ◌-◌}
 use Rattle.weights.specs.Rooms.{Copied}
-use Rattle.weights.proofs.RoomSteps.{copied_more, copied_none}
-use borrow.Author.Rules.{rules}
 use Rattle.weights.proofs.rooms.copy_out.Given as goal
 
 abbrev pub invariant-loop-w : goal.invariant-loop-w

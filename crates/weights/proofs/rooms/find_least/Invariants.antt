@@ -1,9 +1,6 @@
 -- `weights::rooms::find_least` meets its contract. The loop's invariant: no count before w is above zero. The measure is what is left of 65.
-use mathlib.Core.Path.{subst, ◌≡◌}
-use native.Mathlib.Omega.{arith}
 use Prim.Native.Nat.{◌≤◌, ◌-◌}
-use Rattle.weights.proofs.RoomSteps.{NoneBefore, none_more}
-use borrow.Author.Rules.{rules}
+use Rattle.weights.proofs.RoomSteps.{NoneBefore}
 use Rattle.weights.proofs.rooms.find_least.Given as goal
 
 abbrev pub invariant-loop-w : goal.invariant-loop-w

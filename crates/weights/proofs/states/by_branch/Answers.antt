@@ -1,6 +1,5 @@
 -- `weights::states::by_branch` meets its contract.
 use Rattle.weights.proofs.BranchWays.{by-none, by_one, by_zero}
-use borrow.Author.Rules.{rules}
 use Rattle.weights.proofs.states.by_branch.Goals as goal
 
 pub end_of-requires : goal.end_of-requires

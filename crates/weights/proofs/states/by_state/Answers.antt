@@ -4,7 +4,6 @@ use mathlib.Core.Path.{refl, subst, sym}
 use native.Mathlib.Omega.{arith}
 use Prim.Native.Nat.{◌<◌, ◌^◌, ℕ}
 use Rattle.weights.proofs.BranchWays.{both-are, first_fits, one-is, other_fits}
-use borrow.Author.Rules.{rules}
 use Rattle.weights.proofs.states.by_state.Goals as goal
 
 pub by_branch-first-requires : goal.by_branch-first-requires

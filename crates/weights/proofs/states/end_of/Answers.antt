@@ -1,5 +1,4 @@
 -- `weights::states::end_of` meets its contract.
-use borrow.Author.Rules.{rules}
 use native.Mathlib.Omega.{arith}
 use Rattle.weights.proofs.states.end_of.Goals as goal
 

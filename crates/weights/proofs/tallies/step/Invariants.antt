@@ -1,11 +1,8 @@
 -- `weights::tallies::step` meets its contract. The loop's invariant: the first p numbers are written. The measure is what is left.
-use lib.Pow.{pow_mono}
-use mathlib.Core.Path.{ap, ◌≡◌}
-use native.Mathlib.Omega.{arith}
-use Prim.Native.Nat.{◌*◌, ◌-◌, ◌^◌, ℕ}
+use mathlib.Core.Path.{◌≡◌}
+use Prim.Native.Nat.{◌*◌, ◌-◌, ◌^◌}
 use Rattle.weights.specs.Tallying.{StepFits}
-use Rattle.weights.proofs.StepFilling.{Filling, filling-all, filling-more, filling-none, place-there, state-fits}
-use borrow.Author.Rules.{rules}
+use Rattle.weights.proofs.StepFilling.{Filling}
 use Rattle.weights.proofs.tallies.step.Given as goal
 
 abbrev pub invariant-loop-p : goal.invariant-loop-p

@@ -1,10 +1,9 @@
 -- `weights::tallies::sweep` meets its contract. The loop's invariant: the numbers of depth t stand in the room. The measure is t.
 use mathlib.Core.Path.{subst, sym, ◌∙◌, ◌≡◌}
 use native.Mathlib.Omega.{arith}
-use Prim.Native.Nat.{◌-◌, suc, ℕ, ◌≤◌}
+use Prim.Native.Nat.{◌-◌, suc, ℕ}
 use Rattle.weights.specs.Tallying.{Swept}
 use Rattle.weights.proofs.SweepWays.{from-within, start-there, step_fits, swept-on, swept-start}
-use borrow.Author.Rules.{rules}
 use Rattle.weights.proofs.tallies.sweep.Goals as goal
 
 pub bounds-working-0 : goal.bounds-working-0

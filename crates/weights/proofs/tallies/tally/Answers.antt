@@ -4,7 +4,6 @@ use lib.Pow.{pow_pos}
 use mathlib.Core.Path.{ap, sym, ◌∙◌}
 use Prim.Native.Nat.{ℕ}
 use Rattle.weights.proofs.SweepWays.{counted, start-room}
-use borrow.Author.Rules.{rules}
 use Rattle.weights.proofs.tallies.tally.Goals as goal
 
 pub copy_out-requires : goal.copy_out-requires
