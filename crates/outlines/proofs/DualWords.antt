@@ -1,5 +1,5 @@
 -- Theorem: the sheet that is printed of the dual has exactly the words that are even with every codeword of the input's matrix.
-use lib.Bits.{bit_xor, xor_zero_r}
+use lib.Bits.{xor_zero_r}
 use lib.ListN.{get_or, length}
 use mathlib.Core.List.{List}
 use mathlib.Core.Logic.Iff
@@ -10,8 +10,8 @@ use Rattle.outlines.proofs.DoubleDual.{check-sum, checks-sums, double-dual}
 use Rattle.outlines.proofs.SameWords.{iff-then, prepares, printed-words}
 use Rattle.outlines.specs.declared.opening.Which.TheVariants.{Dual, Own}
 use Rattle.outlines.specs.Opening.{kind_as}
-use Rattle.outlines.specs.Words.{InDual, PrintsSheet, WordOf, as_sheet}
-use Rattle.plates.specs.Code.{Checked, InCode}
+use Rattle.outlines.specs.Words.{InDual, PrintsSheet, WordOf}
+use Rattle.plates.specs.Code.{InCode}
 use Rattle.plates.specs.declared.Kind.{Kind}
 use Rattle.plates.specs.declared.Kind.TheVariants.{G, H}
 use Rattle.plates.specs.Heads.{RowsOf}
@@ -23,7 +23,6 @@ use Rattle.words.proofs.Parity.{parity-comm}
 use Rattle.words.proofs.Sums.{in_row}
 use Rattle.words.specs.Ends.{firsts, lasts}
 use Rattle.words.specs.Parity.{parity}
-use Rattle.words.specs.Sum.{IsSum}
 use native.Mathlib.Omega.{arith}
 
 -- own: the plate rows of the matrix as it stands; other: those of the matrix under the other letter

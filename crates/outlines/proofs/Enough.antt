@@ -1,9 +1,6 @@
 -- Theorem: 8,192 bytes are enough for the sheet of every plate.
 use lib.ListN.{length}
-use mathlib.Core.List.{List}
-use mathlib.Core.Path.{◌≡◌}
-use native.Mathlib.Omega.{arith}
-use Prim.Native.Nat.{ℕ, ◌≤◌}
+use Prim.Native.Nat.{◌≤◌}
 use Rattle.decoding.proofs.MaskedWords.{rest_of}
 use Rattle.outlines.proofs.Fitting.{plate-short, rows_few, sheet-length}
 use Rattle.outlines.specs.SheetText.{sheet_of}

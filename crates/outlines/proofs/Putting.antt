@@ -1,7 +1,7 @@
 -- A text put into a room piece by piece.
 use borrow.Author.Tests.{ne_eqb}
 use lib.ListN.{get_or, length, length-append, set, take}
-use lib.Seq.{length-sets, set_out, sets, take_all, take-suc}
+use lib.Seq.{set_out, sets, take_all, take-suc}
 use mathlib.Core.List.{◌++◌, List, [], append_assoc, append-nil, ◌∷◌}
 use mathlib.Core.Path.{◌≡◌, ap, refl, subst, sym, ◌∙◌}
 use native.Mathlib.Numerals.{add-one}

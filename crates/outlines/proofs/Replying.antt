@@ -1,6 +1,6 @@
 -- What the calls reply, by the plate of the input.
 use mathlib.Core.List.{List}
-use mathlib.Core.Path.{◌≡◌, refl, subst, sym, ◌∙◌}
+use mathlib.Core.Path.{◌≡◌, refl, subst, sym}
 use native.Mathlib.Omega.{arith}
 use Prim.Native.Nat.{ℕ}
 use Rattle.listings.specs.declared.Written.{Written}

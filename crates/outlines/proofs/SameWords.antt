@@ -1,13 +1,11 @@
 -- Theorems: the sheet of an input's plate has the input's words; two inputs have the same words exactly if their plates' sheets have the same bytes.
 use lib.Bits.{bit_xor, xor_comm, xor_zero_r}
-use lib.ListN.{length}
 use mathlib.Core.List.{List}
 use mathlib.Core.Logic.Iff
 use mathlib.Core.Logic.{◌↔◌}
 use mathlib.Core.Path.{◌≡◌, ap, subst, sym, ◌∙◌}
-use native.Mathlib.Omega.{arith}
 use Prim.Native.Nat.{◌<◌, ◌^◌, ℕ}
-use Rattle.decoding.proofs.MaskedWords.{code-word, mask_word, rest_of, word-code}
+use Rattle.decoding.proofs.MaskedWords.{mask_word, rest_of, word-code}
 use Rattle.decoding.proofs.RestOfWords.{xor-through}
 use Rattle.decoding.specs.Cosets.{taken_off}
 use Rattle.outlines.proofs.Fitting.{rows_few}

@@ -1,5 +1,4 @@
 -- `put_plate` meets its contract.
-use borrow.Author.Rules.{rules}
 use Rattle.outlines.proofs.Fitting.{plate-short, plate-written, rows_few, rows-there, rows-used}
 use Rattle.outlines.proofs.put_plate.Goals as goal
 

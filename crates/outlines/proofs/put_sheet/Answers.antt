@@ -1,5 +1,4 @@
 -- `put_sheet` meets its contract.
-use borrow.Author.Rules.{rules}
 use Rattle.outlines.proofs.Fitting.{sheet-too-long, sheet-written}
 use Rattle.outlines.proofs.put_sheet.Goals as goal
 

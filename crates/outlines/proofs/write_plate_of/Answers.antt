@@ -1,5 +1,4 @@
 -- `write_plate_of` meets its contract.
-use borrow.Author.Rules.{rules}
 use Rattle.outlines.proofs.Replying.{opened-prepared, sheet-given, sheet-refused}
 use Rattle.outlines.proofs.write_plate_of.Goals as goal
 

@@ -1,5 +1,4 @@
 -- `opening::opened` meets its contract.
-use borrow.Author.Rules.{rules}
 use Rattle.outlines.proofs.Openings.{opened-refused, opened-sheet, rows-within}
 use Rattle.outlines.proofs.opening.opened.Goals as goal
 

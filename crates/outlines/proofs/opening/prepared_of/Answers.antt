@@ -1,5 +1,4 @@
 -- `opening::prepared_of` meets its contract.
-use borrow.Author.Rules.{rules}
 use lib.Seq.{length-take-le}
 use mathlib.Core.Path.{sym}
 use Rattle.outlines.proofs.Openings.{prepared-as}

@@ -1,5 +1,4 @@
 -- `pieces::bit_character` meets its contract.
-use borrow.Author.Rules.{rules}
 use native.Mathlib.Omega.{arith}
 use Rattle.words.proofs.Word.{bit-lt}
 use Rattle.outlines.proofs.pieces.bit_character.Goals as goal

@@ -1,8 +1,5 @@
 -- `pieces::put` meets its contract.
-use borrow.Author.Rules.{rules}
-use lib.ListN.{length}
-use Prim.Native.Nat.{◌-◌}
-use Rattle.outlines.proofs.Putting.{BytesPut, bytes-end, bytes_on, bytes-size, bytes-start}
+use Rattle.outlines.proofs.Putting.{bytes-end, bytes_on, bytes-size, bytes-start}
 use Rattle.outlines.proofs.pieces.put.Goals as goal
 
 pub loop-i-init : goal.loop-i-init

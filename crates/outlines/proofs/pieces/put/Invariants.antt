@@ -1,8 +1,7 @@
 -- `pieces::put` meets its contract.
-use borrow.Author.Rules.{rules}
 use lib.ListN.{length}
 use Prim.Native.Nat.{◌-◌}
-use Rattle.outlines.proofs.Putting.{BytesPut, bytes-end, bytes_on, bytes-size, bytes-start}
+use Rattle.outlines.proofs.Putting.{BytesPut}
 use Rattle.outlines.proofs.pieces.put.Given as goal
 
 abbrev pub invariant-loop-i : goal.invariant-loop-i

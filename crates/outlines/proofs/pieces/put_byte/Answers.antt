@@ -1,5 +1,4 @@
 -- `pieces::put_byte` meets its contract.
-use borrow.Author.Rules.{rules}
 use Rattle.outlines.proofs.Putting.{byte-dropped, byte_last}
 use Rattle.outlines.proofs.pieces.put_byte.Goals as goal
 

@@ -1,5 +1,4 @@
 -- `pieces::put_cover` meets its contract.
-use borrow.Author.Rules.{rules}
 use Rattle.outlines.proofs.Putting.{cover-put}
 use Rattle.outlines.proofs.pieces.put_cover.Goals as goal
 

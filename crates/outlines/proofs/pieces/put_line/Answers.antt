@@ -1,5 +1,4 @@
 -- `pieces::put_line` meets its contract.
-use borrow.Author.Rules.{rules}
 use Rattle.outlines.proofs.Putting.{line-put}
 use Rattle.outlines.proofs.pieces.put_line.Goals as goal
 

@@ -1,5 +1,4 @@
 -- `pieces::put_mask` meets its contract.
-use borrow.Author.Rules.{rules}
 use Rattle.outlines.proofs.Putting.{mask-none, mask-put}
 use Rattle.outlines.proofs.pieces.put_mask.Goals as goal
 

@@ -1,5 +1,4 @@
 -- `pieces::put_number` meets its contract.
-use borrow.Author.Rules.{rules}
 use Rattle.outlines.proofs.Putting.{digit-put, digits-put}
 use Rattle.outlines.proofs.pieces.put_number.Goals as goal
 

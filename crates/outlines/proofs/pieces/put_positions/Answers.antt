@@ -1,7 +1,5 @@
 -- `pieces::put_positions` meets its contract.
-use borrow.Author.Rules.{rules}
-use Prim.Native.Nat.{◌-◌}
-use Rattle.outlines.proofs.Putting.{PositionsPut, positions-end, positions-on, positions-size, positions-start}
+use Rattle.outlines.proofs.Putting.{positions-end, positions-on, positions-size, positions-start}
 use Rattle.outlines.proofs.pieces.put_positions.Goals as goal
 
 pub loop-i-init : goal.loop-i-init

@@ -1,7 +1,6 @@
 -- `pieces::put_positions` meets its contract.
-use borrow.Author.Rules.{rules}
 use Prim.Native.Nat.{◌-◌}
-use Rattle.outlines.proofs.Putting.{PositionsPut, positions-end, positions-on, positions-size, positions-start}
+use Rattle.outlines.proofs.Putting.{PositionsPut}
 use Rattle.outlines.proofs.pieces.put_positions.Given as goal
 
 abbrev pub invariant-loop-i : goal.invariant-loop-i

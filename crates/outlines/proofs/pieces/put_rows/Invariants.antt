@@ -1,8 +1,7 @@
 -- `pieces::put_rows` meets its contract.
-use borrow.Author.Rules.{rules}
 use lib.ListN.{length}
 use Prim.Native.Nat.{◌-◌}
-use Rattle.outlines.proofs.Putting.{RowsPut, rows_end, rows_on, rows_size, rows_start}
+use Rattle.outlines.proofs.Putting.{RowsPut}
 use Rattle.outlines.proofs.pieces.put_rows.Given as goal
 
 abbrev pub invariant-loop-i : goal.invariant-loop-i

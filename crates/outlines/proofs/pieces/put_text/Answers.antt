@@ -1,5 +1,4 @@
 -- `pieces::put_text` meets its contract.
-use borrow.Author.Rules.{rules}
 use Rattle.outlines.proofs.Putting.{text-put}
 use Rattle.outlines.proofs.pieces.put_text.Goals as goal
 
