@@ -16,7 +16,7 @@ slice_bounds-after_line-end c = sym (length-take-le _ _ (omega (arith, c.used-ta
 pub after_line-after-requires : goal.after_line-after-requires
 after_line-after-requires c =
     let u = c.used-taken in
-    omega (arith, u.ensures.1, length-take-le u.result c.args.samples.now (omega (arith, u.ensures.1, c.requires)))
+    omega (arith, u.ensures.upper_bound, length-take-le u.result c.args.samples.now (omega (arith, u.ensures.upper_bound, c.requires)))
 
 pub decoded_line-requires : goal.decoded_line-requires
 decoded_line-requires c =

@@ -5,20 +5,23 @@ use mir.Facts.{sfits_widen, Fits-nat_abs}
 use Rattle.listings.proofs.Sign.{turned-fits, turned-is}
 use Rattle.reports.proofs.tally.lost.Goals as goal
 
-below : (c : goal.Then-metric-lt0) → lt_z c.args.metric (pos 0) ≡ true
-below c = rw (to_z-of_z c.ranges.metric) at c.if-metric-lt0.true
-
 pub overflow_cast-result : goal.overflow_cast-result
 overflow_cast-result c = rw (to_z-of_z c.ranges.metric) (sfits_widen tt c.ranges.metric)
 
 pub overflow_sub-result : goal.overflow_sub-result
-overflow_sub-result c = turned-fits _ c.ranges.metric (below c)
+overflow_sub-result c =
+    let below : lt_z c.args.metric (pos 0) ≡ true = rw (to_z-of_z c.ranges.metric) at c.if-metric-lt0.true in
+    turned-fits _ c.ranges.metric below
 
 pub overflow_cast-result-then-metric-lt0 : goal.overflow_cast-result-then-metric-lt0
-overflow_cast-result-then-metric-lt0 c = rw (turned-is _ c.ranges.metric (below c)) (tt, Fits-nat_abs tt c.ranges.metric)
+overflow_cast-result-then-metric-lt0 c =
+    let below : lt_z c.args.metric (pos 0) ≡ true = rw (to_z-of_z c.ranges.metric) at c.if-metric-lt0.true in
+    rw (turned-is _ c.ranges.metric below) (tt, Fits-nat_abs tt c.ranges.metric)
 
 pub returns-then-metric-lt0 : goal.returns-then-metric-lt0
-returns-then-metric-lt0 c = rw (below c) (ap nat_abs (turned-is _ c.ranges.metric (below c)))
+returns-then-metric-lt0 c =
+    let below : lt_z c.args.metric (pos 0) ≡ true = rw (to_z-of_z c.ranges.metric) at c.if-metric-lt0.true in
+    rw below (ap nat_abs (turned-is _ c.ranges.metric below))
 
 pub returns : goal.returns
 returns c =
