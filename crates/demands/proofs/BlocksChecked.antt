@@ -25,7 +25,7 @@ use Rattle.demands.specs.Examples.{InRooms}
 use Rattle.plates.specs.declared.Plate.{Plate}
 use Rattle.plates.specs.Prepare.{IsPrepared, IsWord, rows_of}
 use Rattle.trellises.specs.SectionOf.{section_of}
-use Rattle.words.specs.Word.{Earlier}
+use Rattle.words.specs.Word.{bit, Earlier}
 use Rattle.decoding.specs.declared.Decoded.TheVariants as D
 
 -- ---- which of two words is earlier, by their first k positions
@@ -44,7 +44,7 @@ is-earlier (suc k) a b t = go (eqb (a % 2) (b % 2)) refl t (is-earlier k (a / 2)
         → (T (is_earlier k (a / 2) (b / 2)) → Earlier (a / 2) (b / 2)) → Earlier a b
     go true q t rest = (let e = rest t in record {
       place = suc e.place;
-      same = λ i. elim i [ zero ↦ (λ h. eqb-true (a % 2) (b % 2) q) | suc j ↦ (λ h. e.same j (omega arith)) ];
+      same = λ i. elim i as (λ k. k < suc e.place → bit a k ≡ bit b k) [ zero ↦ (λ h. eqb-true (a % 2) (b % 2) q) | suc j ↦ (λ h. e.same j (omega arith)) ];
       zero_here = e.zero_here;
       one_there = e.one_there;
     })

@@ -91,7 +91,7 @@ find (c ∷ cs) r = go (digit (parity c r) (small c r)) (find cs r)
   where
     go : (parity c r ≡ 0) ⊎ (parity c r ≡ 1) → Finding cs r → Finding (c ∷ cs) r
     go (inr e) rest = inr (0, suc-le-suc zero-le, e)
-    go (inl e) (inl none) = inl (λ j. elim j [ zero ↦ (λ h. e) | suc i ↦ (λ h. none i (omega arith)) ])
+    go (inl e) (inl none) = inl (λ j. elim j as (λ k. k < suc (length cs) → parity (get_or (c ∷ cs) k 0) r ≡ 0) [ zero ↦ (λ h. e) | suc i ↦ (λ h. none i (omega arith)) ])
     go (inl e) (inr (p, h, o)) = inr (suc p, suc-le-suc h, o)
 
 -- ---- one row more

@@ -8,52 +8,61 @@ use Rattle.exports.proofs.PartsCrossed.{word-found, word-refused}
 use Rattle.exports.specs.Parting.{PartShape}
 use Rattle.exports.proofs.receiving.yendrufal_word.Goals as goal
 
--- the runs are long enough
-shaped : (c : goal.Else-not-part_shaped) → let a = c.args in
-    PartShape (length a.plate.now) (length a.word.now) (length a.counts.now) (length a.at.now)
-shaped c = c.part_shaped.ensures.yes_is c.if-not-part_shaped.false
-
--- so they were when the call below was made
-abbrev asked : goal.After-best_word_parts → tie.Else1
-asked c = c
-
 pub returns-then-not-part_shaped : goal.returns-then-not-part_shaped
 returns-then-not-part_shaped c = misshaped (c.part_shaped.ensures.no_is c.if-not-part_shaped.true)
 
 pub bounds-plate-0 : goal.bounds-plate-0
-bounds-plate-0 c = omega (arith, (shaped c).0)
+bounds-plate-0 c =
+    let shaped = c.part_shaped.ensures.yes_is c.if-not-part_shaped.false in
+    omega (arith, shaped.0)
 
 pub bounds-plate-1 : goal.bounds-plate-1
-bounds-plate-1 c = omega (arith, (shaped c).0)
+bounds-plate-1 c =
+    let shaped = c.part_shaped.ensures.yes_is c.if-not-part_shaped.false in
+    omega (arith, shaped.0)
 
 pub bounds-plate-131 : goal.bounds-plate-131
-bounds-plate-131 c = omega (arith, (shaped c).0)
+bounds-plate-131 c =
+    let shaped = c.part_shaped.ensures.yes_is c.if-not-part_shaped.false in
+    omega (arith, shaped.0)
 
 pub slice_bounds-best_word_parts-end : goal.slice_bounds-best_word_parts-end
-slice_bounds-best_word_parts-end c = omega (arith, (shaped c).0)
+slice_bounds-best_word_parts-end c =
+    let shaped = c.part_shaped.ensures.yes_is c.if-not-part_shaped.false in
+    omega (arith, shaped.0)
 
 pub slice_bounds-best_word_parts-end-2 : goal.slice_bounds-best_word_parts-end-2
-slice_bounds-best_word_parts-end-2 c = omega (arith, (shaped c).0)
+slice_bounds-best_word_parts-end-2 c =
+    let shaped = c.part_shaped.ensures.yes_is c.if-not-part_shaped.false in
+    omega (arith, shaped.0)
 
 pub put_selection-requires : goal.put_selection-requires
-put_selection-requires c = let shape = shaped (asked c) in (shape.1, shape.2)
+put_selection-requires c =
+    let shaped = c.part_shaped.ensures.yes_is c.if-not-part_shaped.false in
+    let shape = shaped in (shaped.1, shaped.2)
 
 pub bounds-at-0 : goal.bounds-at-0
-bounds-at-0 c = (shaped (asked c)).3
+bounds-at-0 c =
+    let shaped = c.part_shaped.ensures.yes_is c.if-not-part_shaped.false in
+    shaped.3
 
 pub refused_at-requires : goal.refused_at-requires
-refused_at-requires c = (shaped (asked c)).3
+refused_at-requires c =
+    let shaped = c.part_shaped.ensures.yes_is c.if-not-part_shaped.false in
+    shaped.3
 
 pub returns-in-Found : goal.returns-in-Found
 returns-in-Found c =
-    let a = (asked c).before.before.before.before.before.before.before.args in
-    word-found a.samples.now _ (record { reply = c.best_word_parts.result; metrics = _; decisions = _ }) a.plate.now (shaped (asked c))
+    let shaped = c.part_shaped.ensures.yes_is c.if-not-part_shaped.false in
+    let a = c.args in
+    word-found a.samples.now _ (record { reply = c.best_word_parts.result; metrics = _; decisions = _ }) a.plate.now shaped
     c.best_word_parts.ensures c.in-Found.is
     c.put_selection.ensures
 
 pub returns-in-Refused : goal.returns-in-Refused
 returns-in-Refused c =
-    let a = (asked c).before.before.before.before.before.before.before.args in
-    word-refused a.samples.now _ (record { reply = c.best_word_parts.result; metrics = _; decisions = _ }) a.plate.now (shaped (asked c))
+    let shaped = c.part_shaped.ensures.yes_is c.if-not-part_shaped.false in
+    let a = c.args in
+    word-refused a.samples.now _ (record { reply = c.best_word_parts.result; metrics = _; decisions = _ }) a.plate.now shaped
     c.best_word_parts.ensures c.in-Refused.is
     c.refused_at.ensures

@@ -17,12 +17,12 @@ returns-then-at-lt2 c = misshaped (λ s. omega (arith, s.2))
 
 pub returns-in-Accepted : goal.returns-in-Accepted
 returns-in-Accepted c =
-    sheet-accepted _ _ _ (search rules) c.«open».ensures
+    sheet-accepted _ _ _ (search rules) c.open-report.ensures
     (sym c.verdict_of-verdict.ensures ∙ c.in-Accepted.is)
     c.put_plate.ensures c.order_number.ensures
 
 pub returns-in-Refused : goal.returns-in-Refused
 returns-in-Refused c =
-    sheet-refused _ _ _ (search rules) c.«open».ensures
+    sheet-refused _ _ _ (search rules) c.open-report.ensures
     (sym c.verdict_of-verdict.ensures ∙ c.in-Refused.is)
     c.refused_in.ensures
