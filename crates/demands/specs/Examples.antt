@@ -174,7 +174,7 @@ sheet_answer = answer (word "11110000") (pos 19) 44 11
 -- its text
 abbrev pub sheet_text : List ℕ
 sheet_text =
-    bytes "cover\t8\t_g\tfirst\n"
+    bytes "cover\t8\tG\tfirst\n"
     ++ bytes "row\t11110000\n"
     ++ bytes "row\t01011010\n"
     ++ bytes "row\t00111100\n"
