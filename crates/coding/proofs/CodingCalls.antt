@@ -1,8 +1,7 @@
 -- The replies of `encode` and `read_back`, case by case.
-use borrow.Author.Tests.{not-false, not-true}
 use lib.Bits.{bit_xor, xor_zero_r}
 use lib.ListN.{length}
-use mathlib.Core.Bool.{Bool, false, not, true}
+use mathlib.Core.Bool.{Bool, false, true}
 use mathlib.Core.Logic.{inl, inr, ◌⊎◌}
 use mathlib.Core.Path.{ap, refl, subst, sym, ◌∙◌, ◌≡◌}
 use native.Mathlib.Omega.{arith}

@@ -1,6 +1,6 @@
 -- The replies of `decode_blocks`, case by case.
 use lib.IntN.{pos, ℤ}
-use lib.ListN.{drop, get_or, length, replicate}
+use lib.ListN.{drop, length, replicate}
 use mathlib.Core.List.{◌++◌, List}
 use mathlib.Core.Logic.{inl, inr}
 use mathlib.Core.Path.{ap, refl, subst, sym, ◌∙◌, ◌≡◌}

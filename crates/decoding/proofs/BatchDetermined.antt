@@ -1,7 +1,7 @@
 -- Determined: two replies of a batch, with all that is lent, that meet its promise are equal; and each answer is the one that `decode` gives of its
 -- block.
 use lib.IntN.{pos, ℤ}
-use lib.ListN.{get_or, length}
+use lib.ListN.{length}
 use lib.Seq.{ext_get_or}
 use mathlib.Core.List.{List}
 use mathlib.Core.Path.{ap, refl, sym, ◌∙◌, ◌≡◌}

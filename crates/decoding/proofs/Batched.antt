@@ -2,9 +2,9 @@
 use borrow.Author.Tests.{eqb-false, eqb-true}
 use lib.Dec.{eqb}
 use lib.IntN.{nat_abs, pos, ℤ}
-use lib.ListN.{drop, get_or, length, length-drop, length-set, set, take}
+use lib.ListN.{drop, get_or, length, length-drop, length-set, take}
 use lib.Seq.{get_or-drop, get_or-set_other, get_or-set_same, get_or-take, length-take-le}
-use mathlib.Core.Bool.{false, false≢true, true}
+use mathlib.Core.Bool.{false, false≢true}
 use mathlib.Core.List.{List}
 use mathlib.Core.Logic.{inl, inr, ◌⊎◌}
 use mathlib.Core.Path.{ap, refl, subst, sym, ◌∙◌, ◌≡◌}
@@ -19,7 +19,7 @@ use Rattle.decoding.specs.Batching.{AreBlocks, BlockFits, BlockPut, BlocksFit, B
 use Rattle.decoding.specs.declared.Counts.{Counts}
 use Rattle.decoding.specs.declared.sweep.Sizes.{Sizes}
 use Rattle.decoding.specs.Stepping.{gain_limit}
-use Rattle.decoding.specs.Sweeping.{Kept, RoomsFit}
+use Rattle.decoding.specs.Sweeping.{RoomsFit}
 use Rattle.decoding.specs.Turning.{turned_by}
 use Rattle.trellises.specs.SectionOf.{section_of}
 use Rattle.words.proofs.Span.{lt-tri}

@@ -22,7 +22,6 @@ use Rattle.plates.specs.declared.Refusal.{Refusal}
 use Rattle.plates.specs.declared.Refusal.TheVariants.{DecisionRoom, MetricRoom, NotPrepared, SampleCount, SampleRange}
 use Rattle.plates.specs.Prepare.{IsPrepared, of_parts}
 use Rattle.plates.specs.Refusals.{Passes}
-use Rattle.trellises.proofs.NextIsBranch.{found}
 
 -- what a plate's parts are replied is what the plate is, where the profile was widened
 pub by_parts : (plate : Plate) (samples metrics : List ℤ) (decisions : List ℕ) (metrics' : List ℤ) (decisions' : List ℕ) (r : Decoded) {profile : List ℕ}

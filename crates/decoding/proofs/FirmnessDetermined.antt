@@ -19,7 +19,6 @@ use Rattle.plates.proofs.Refusing.{Single, never_both, refuses-once}
 use Rattle.plates.specs.declared.Plate.{Plate}
 use Rattle.plates.specs.declared.Refusal.{Refusal}
 use Rattle.plates.specs.Prepare.{IsWord}
-use Rattle.words.specs.Word.{bit}
 
 -- a reading is told by its values
 pub reading-told : (r s : Reading) → is_fixed r ≡ is_fixed s → value r ≡ value s → r ≡ s

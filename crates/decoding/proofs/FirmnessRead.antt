@@ -4,7 +4,7 @@ use lib.IntN.{pos, ℤ}
 use lib.ListN.{length}
 use mathlib.Core.List.{List}
 use mathlib.Core.Logic.{inl, inr, ◌⊎◌}
-use mathlib.Core.Path.{ap, ap₂, refl, sym, ◌∙◌, ◌≡◌}
+use mathlib.Core.Path.{ap, refl, sym, ◌∙◌, ◌≡◌}
 use native.Mathlib.Omega.{arith}
 use Prim.Native.Nat.{◌<◌, suc, zero, ℕ}
 use Rattle.decoding.proofs.ForcedMetrics.{best-among}

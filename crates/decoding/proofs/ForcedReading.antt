@@ -1,7 +1,7 @@
 -- The reading of a position from the rows and from both forced metrics, whose difference the machine has.
 use lib.IntN.{◌-ℤ◌, nat_abs, ℤ}
 use mathlib.Core.List.{List}
-use mathlib.Core.Path.{ap, ap₂, ◌∙◌, ◌≡◌}
+use mathlib.Core.Path.{ap₂, ◌∙◌, ◌≡◌}
 use mir.Syntax.{w32}
 use mir.Val.{SFits, of_z, to_z}
 use native.Mathlib.Omega.{arith}

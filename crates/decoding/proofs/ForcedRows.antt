@@ -1,6 +1,5 @@
 -- Where no row has a one at a position every codeword has 0 there; where a row has one, some codeword has 1 there.
-use lib.IntN.{pos}
-use lib.ListN.{get_or, length, length-take, take}
+use lib.ListN.{get_or, length-take, take}
 use lib.Seq.{get_or-take}
 use mathlib.Core.List.{List}
 use mathlib.Core.Logic.{inl, inr, ◌⊎◌}

@@ -23,7 +23,6 @@ use Rattle.decoding.specs.Sweeping.{RoomsFit, SectionSwept, SizesFit}
 use Rattle.decoding.specs.Taking.{signed}
 use Rattle.decoding.specs.Turning.{turned_by}
 use Rattle.trellises.specs.SectionOf.{section_of}
-use Rattle.trellises.specs.States.{table}
 
 module _ (table : List ℕ) (z : Sizes) (samples metrics : List ℤ) (decisions : List ℕ) (fit : SizesFit table z) (rooms : RoomsFit z samples metrics decisions)
     (p b : ℕ) (there : p < z.n) where

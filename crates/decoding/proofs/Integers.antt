@@ -4,13 +4,13 @@ use lib.Dec.{ltb}
 use lib.IntN.{nat_abs, negsuc, neg_ℤ, pos, sub_ℕ, ◌+ℤ◌, ◌-ℤ◌, ℤ}
 use lib.Signed.{lt_z, mag}
 use mathlib.Core.Bool.{Bool, cond, false, not, true}
-use mathlib.Core.Path.{refl, ◌∙◌, ◌≡◌}
+use mathlib.Core.Path.{refl, ◌≡◌}
 use mir.Facts.{to_z-of_z}
 use mir.Syntax.{w32}
 use mir.Val.{SFits, of_z, to_z}
 use native.Mathlib.Numerals.{add-one}
 use native.Mathlib.Omega.{arith}
-use Prim.Native.Nat.{◌+◌, ◌-◌, ◌<◌, ◌^◌, suc, zero, ℕ, ◌≤◌}
+use Prim.Native.Nat.{◌+◌, ◌-◌, ◌^◌, suc, zero, ℕ, ◌≤◌}
 
 -- ---- the size of a sum
 

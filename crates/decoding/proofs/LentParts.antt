@@ -1,6 +1,6 @@
 -- A part of a list that was lent and came back: what stands in it, and what stands outside it.
 use lib.ListN.{get_or-append, drop, get_or, length, length-append, length-drop, take}
-use lib.Seq.{get_or-append-add, get_or-drop, get_or-take, length-take-le}
+use lib.Seq.{get_or-append-add, get_or-drop, length-take-le}
 use mathlib.Core.List.{◌++◌, List}
 use mathlib.Core.Path.{ap, subst, sym, ◌∙◌, ◌≡◌}
 use native.Mathlib.Omega.{arith}

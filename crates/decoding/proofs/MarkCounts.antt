@@ -2,7 +2,7 @@
 use borrow.Author.Tests.{le-leb, le-ltb, lt-leb, lt-ltb, ltb-false}
 use lib.Bits.{and_mask, bit_and}
 use lib.Count.{ones, ones-le, ones_step}
-use lib.Dec.{leb, ltb}
+use lib.Dec.{ltb}
 use lib.ListN.{get_or, length}
 use lib.Pow.{pow_pos}
 use mathlib.Core.Bool.{◌&&◌, Bool, cond, false, true}

@@ -1,6 +1,5 @@
 -- A mask changes no count: a graph with turned bits has as many branches, and as many entering each state.
 use lib.Dec.{eqb}
-use lib.ListN.{length}
 use mathlib.Core.List.{List, [], ◌∷◌}
 use mathlib.Core.Path.{ap, ap₂, refl, ◌≡◌}
 use Prim.Native.Nat.{◌+◌, ◌-◌, suc, zero, ℕ}

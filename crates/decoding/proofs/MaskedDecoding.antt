@@ -4,7 +4,7 @@ use lib.IntN.{ℤ}
 use lib.Signed.{◌≤ℤ◌}
 use mathlib.Core.List.{List}
 use mathlib.Core.Logic.{◌↔◌, ◌⊎◌}
-use mathlib.Core.Path.{ap, subst, sym, ◌∙◌, ◌≡◌}
+use mathlib.Core.Path.{subst, sym, ◌∙◌, ◌≡◌}
 use Prim.Native.Nat.{ℕ}
 use Rattle.decoding.proofs.DecodeDetermined.{counts_same}
 use Rattle.decoding.proofs.IntegerOrder.{≤ℤ-antisym}

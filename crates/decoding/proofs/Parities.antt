@@ -10,7 +10,6 @@ use Rattle.decoding.proofs.TablesChecked.{full}
 use Rattle.decoding.specs.Patterns.{HighPattern, LowPattern, Pattern, TurnFits, Turned}
 use Rattle.words.proofs.Parity.{differ-mod}
 use Rattle.words.proofs.Word.{bit-xor}
-use Rattle.words.specs.Ends.{first}
 use Rattle.words.specs.Parity.{parity}
 use Rattle.words.specs.Word.{bit}
 

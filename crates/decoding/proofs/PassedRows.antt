@@ -8,16 +8,12 @@ use mathlib.Core.Path.{ap, ap₂, refl, subst, sym, ◌∙◌, ◌≡◌}
 use native.Mathlib.Nat.{lt_of_lt_of_le}
 use native.Mathlib.Omega.{arith}
 use Prim.Native.Nat.{◌%◌, ◌*◌, ◌+◌, ◌-◌, ◌<◌, ◌^◌, suc, zero, zero-le, ℕ, ◌≤◌}
-use Rattle.decoding.proofs.BegunRows.{begun-row, next-only, none-begins}
-use Rattle.decoding.proofs.LiveMarks.{last-active, marks-below, marks-bit, with-beginning, with-ending, without-beginning}
-use Rattle.decoding.specs.LiveRows.{BeginsHere, EndsAre, PassedTo, PlateRows, active_marks, begun_before, live_marks, mark_of}
-use Rattle.plates.specs.Profile.{live}
+use Rattle.decoding.proofs.BegunRows.{begun-row, next-only}
+use Rattle.decoding.proofs.LiveMarks.{marks-below, with-beginning, with-ending, without-beginning}
+use Rattle.decoding.specs.LiveRows.{BeginsHere, EndsAre, PlateRows, active_marks, begun_before, live_marks, mark_of}
 use Rattle.trellises.proofs.AmongRows.{shifted_one}
 use Rattle.trellises.proofs.OneBegins.{section-begins}
-use Rattle.trellises.specs.declared.Section.{Section}
-use Rattle.trellises.specs.RowsAmong.{rows_among}
-use Rattle.trellises.specs.SectionOf.{held, is_active, section_of}
-use Rattle.trellises.specs.Smallest.{Begins}
+use Rattle.trellises.specs.SectionOf.{is_active, section_of}
 use Rattle.words.proofs.Ends.{some-pos}
 use Rattle.words.proofs.Span.{first-unique, last-unique}
 use Rattle.words.specs.Ends.{FirstOne, LastOne, firsts, last, lasts}

@@ -2,7 +2,7 @@
 use lib.Bits.{bit_xor, differ, xor_comm}
 use lib.ListN.{drop, get_or, length}
 use mathlib.Core.List.{List, [], ◌∷◌}
-use mathlib.Core.Path.{ap, ap₂, refl, subst, sym, ◌∙◌, ◌≡◌}
+use mathlib.Core.Path.{ap, refl, subst, sym, ◌∙◌, ◌≡◌}
 use native.Mathlib.Omega.{arith}
 use Prim.Native.Nat.{◌<◌, ◌^◌, suc, suc-le-suc, zero, zero-le, ℕ}
 use Rattle.decoding.specs.Cosets.{less_row, taken_off}

@@ -21,7 +21,6 @@ use Rattle.decoding.specs.Sweeping.{RoomsFit, SectionSwept, SizesFit, WalkFits, 
 use Rattle.decoding.specs.declared.sweep.Standing.{Standing}
 use Rattle.decoding.specs.Turning.{turned_by}
 use Rattle.trellises.specs.SectionOf.{section_of}
-use Rattle.trellises.specs.States.{table}
 
 -- where nothing is forced the gains are the samples, turned by the rest
 abbrev unforced : Sizes → Forced

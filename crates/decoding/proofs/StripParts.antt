@@ -29,7 +29,6 @@ use Rattle.trellises.specs.declared.Section.{Section}
 use Rattle.trellises.specs.Numbers.{bit_of, leads_to, without}
 use Rattle.words.proofs.Parity.{differ-mod}
 use Rattle.words.proofs.Word.{bit-lt, bit-xor}
-use Rattle.words.specs.Ends.{first}
 use Rattle.words.specs.Parity.{parity}
 use Rattle.words.specs.Word.{bit}
 

@@ -16,7 +16,6 @@ use Rattle.decoding.specs.LiveRows.{EndsAre}
 use Rattle.decoding.specs.Stepping.{olds}
 use Rattle.decoding.specs.Sweeping.{BeforeSection, Kept, RoomsFit, SectionSwept, SizesFit, Swept}
 use Rattle.trellises.specs.SectionOf.{section_of}
-use Rattle.trellises.specs.States.{table}
 
 pub kept_refl : (z : Sizes) (metrics : List ℤ) (decisions : List ℕ) → Kept z metrics decisions metrics decisions
 kept_refl z metrics decisions = record { metrics_size = refl; metrics_rest = λ i h. refl; decisions_size = refl; decisions_rest = λ i h. refl }

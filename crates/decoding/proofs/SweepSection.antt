@@ -25,7 +25,6 @@ use Rattle.decoding.specs.Taking.{Taken, at_state, counting}
 use Rattle.trellises.specs.declared.Section.{Section}
 use Rattle.trellises.specs.Numbers.{leads_to}
 use Rattle.trellises.specs.SectionOf.{section_of}
-use Rattle.trellises.specs.States.{table}
 use Rattle.words.specs.Word.{bit}
 
 module _ (table : List ℕ) (z : Sizes) (samples metrics : List ℤ) (decisions : List ℕ) (t : ℕ) (fit : SizesFit table z)

@@ -1,7 +1,7 @@
 -- The rows taken on a way: the sum of those taken by depth t has the bit of their branch at t, and they make the state there.
 use borrow.Author.Tests.{le-leb, lt-ltb, ne_eqb}
 use lib.Bits.{bit_xor, xor_shifted, xor_zero_r, xor_comm}
-use lib.Dec.{T, eqb, leb, ltb}
+use lib.Dec.{T, eqb}
 use lib.ListN.{get_or, length}
 use lib.Pow.{pow_mono}
 use mathlib.Core.Bool.{◌&&◌, Bool, cond, false, not, true}
@@ -23,8 +23,7 @@ use Rattle.trellises.proofs.OneBegins.{section-begins}
 use Rattle.trellises.proofs.SectionAgrees.{chosen, live-count, section-agrees}
 use Rattle.trellises.specs.declared.Section.{Section}
 use Rattle.trellises.specs.Numbers.{bit_of, leads_to}
-use Rattle.trellises.specs.SectionOf.{is_active, section_of}
-use Rattle.trellises.specs.Smallest.{Begins}
+use Rattle.trellises.specs.SectionOf.{section_of}
 use Rattle.trellises.specs.States.{active, state_of}
 use Rattle.words.proofs.Choice.{count_none, gather-lt, gather-same, spread-gather}
 use Rattle.words.proofs.Ends.{some-pos}

@@ -3,7 +3,7 @@ use lib.Bits.{bit_xor, differ}
 use lib.IntN.{◌+ℤ◌, nat_abs, neg_ℤ-neg_ℤ, pos, ℤ}
 use lib.ListN.{get_or, length}
 use mathlib.Core.List.{List, [], ◌∷◌}
-use mathlib.Core.Path.{ap, ap₂, refl, subst, sym, ◌∙◌, ◌≡◌}
+use mathlib.Core.Path.{ap, ap₂, refl, sym, ◌∙◌, ◌≡◌}
 use mir.Syntax.{w32}
 use mir.Val.{of_z, to_z}
 use native.Mathlib.Omega.{arith}

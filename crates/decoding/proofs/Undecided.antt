@@ -13,7 +13,6 @@ use Rattle.decoding.specs.LiveRows.{EndsAre}
 use Rattle.decoding.specs.Searching.{MetricSearched}
 use Rattle.decoding.specs.Sweeping.{Kept, RoomsFit, SectionSwept, SizesFit, undecided}
 use Rattle.decoding.specs.Turning.{turned_by}
-use Rattle.trellises.specs.States.{table}
 
 pub undecided-fits : {table : List ℕ} {z : Sizes} → SizesFit table z → SizesFit table (undecided z)
 undecided-fits f = record {

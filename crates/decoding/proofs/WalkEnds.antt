@@ -17,7 +17,6 @@ use Rattle.decoding.specs.declared.walk.Walk.{Walk}
 use Rattle.decoding.specs.LiveRows.{begun_before}
 use Rattle.decoding.specs.Sweeping.{BeforeWalk, WalkFits, Walked}
 use Rattle.trellises.specs.SectionOf.{section_of}
-use Rattle.trellises.specs.States.{table}
 use Rattle.words.proofs.Sums.{sum-zero}
 
 module _ (table : List ℕ) (z : Sizes) (ends : List ℕ) (samples : List ℤ) (decisions : List ℕ) (f : WalkFits table z ends samples decisions) where

@@ -26,7 +26,6 @@ use Rattle.decoding.specs.Sweeping.{BeforeWalk, Walked}
 use Rattle.trellises.specs.declared.Section.{Section}
 use Rattle.trellises.specs.Numbers.{bit_of, branch_count, leads_to}
 use Rattle.trellises.specs.SectionOf.{section_of}
-use Rattle.trellises.specs.States.{table}
 use Rattle.words.proofs.Word.{bit-lt}
 use Rattle.words.specs.Choice.{more}
 use Rattle.words.specs.Word.{bit}

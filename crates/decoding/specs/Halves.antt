@@ -2,7 +2,6 @@
 use Rattle.std.specs.Prelude.{ℤ, length, List, ◌≡◌, ◌*◌, ◌+◌, ◌<◌, ◌^◌, ℕ, ◌≤◌}
 use Rattle.decoding.specs.declared.Counts.{Counts}
 use Rattle.decoding.specs.declared.states.Run.{Run}
-use Rattle.decoding.specs.Patterns.{Pattern}
 use Rattle.decoding.specs.Running.{Part, Ready}
 use Rattle.decoding.specs.Tables.{Tables, Weights}
 use Rattle.trellises.specs.declared.Section.{Section}

@@ -1,5 +1,5 @@
 -- What the parts of a step ask and do: a source of metrics that no part writes, and some states one after the other.
-use Rattle.std.specs.Prelude.{nat_abs, pos, ℤ, get_or, length, cond, true, List, ◌⊎◌, ◌≡◌, ◌*◌, ◌+◌, ◌<◌, ◌^◌, ℕ, ◌≤◌}
+use Rattle.std.specs.Prelude.{nat_abs, pos, ℤ, get_or, length, cond, List, ◌⊎◌, ◌≡◌, ◌*◌, ◌+◌, ◌<◌, ◌^◌, ℕ, ◌≤◌}
 use Rattle.decoding.specs.declared.Counts.{Counts}
 use Rattle.decoding.specs.declared.states.Run.{Run}
 use Rattle.decoding.specs.Stepping.{SectionFits, olds}

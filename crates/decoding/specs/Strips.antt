@@ -1,5 +1,5 @@
 -- A strip: the old metrics of 32 branches side by side, gathered from where the branches lead.
-use Rattle.std.specs.Prelude.{nat_abs, pos, ℤ, get_or, length, set, List, ◌≡◌, ◌%◌, ◌*◌, ◌+◌, ◌/◌, ◌<◌, ◌^◌, ℕ, ◌≤◌}
+use Rattle.std.specs.Prelude.{pos, ℤ, get_or, length, set, List, ◌≡◌, ◌%◌, ◌*◌, ◌+◌, ◌/◌, ◌<◌, ◌^◌, ℕ, ◌≤◌}
 use Rattle.trellises.specs.Numbers.{without}
 
 -- where branch x + i leads, from `from` on, with digit e taken out

@@ -3,7 +3,7 @@
 -- `WritesAlist`), and demands/specs/AlistFaults (`FirstFaulty`: each line judged against those above it, the first that is faulty, missing or extra).
 use lib.ListN.{drop, get_or, length, replicate, take}
 use mathlib.Core.List.{◌++◌, List, [], ◌∷◌}
-use mathlib.Core.Logic.{inl, inr, ◌↔◌, ◌⊎◌}
+use mathlib.Core.Logic.{◌↔◌}
 use mathlib.Core.Path.{ap, refl, subst, sym, ◌∙◌, ◌≡◌}
 use native.Mathlib.Omega.{arith}
 use Prim.Native.Nat.{◌-◌, ◌<◌, ◌^◌, ℕ, ◌≤◌}

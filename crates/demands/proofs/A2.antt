@@ -5,7 +5,7 @@ use lib.ListN.{length}
 use mathlib.Core.Bool.{false}
 use mathlib.Core.List.{List, [], ◌∷◌}
 use mathlib.Core.Logic.{inl, inr, ◌↔◌, ◌⊎◌}
-use mathlib.Core.Path.{ap, refl, subst, sym, ◌∙◌, ◌≡◌}
+use mathlib.Core.Path.{ap, refl, sym, ◌≡◌}
 use native.Mathlib.Omega.{arith}
 use Prim.Native.Nat.{◌<◌, ℕ, ◌≤◌}
 use Rattle.plates.specs.Code.{InCode}
@@ -19,7 +19,7 @@ use Rattle.plates.specs.Refusals.{Refuses, field, number, place}
 use Rattle.sheets.proofs.SheetFaults.{no-fault, refused-for}
 use Rattle.sheets.specs.declared.word.Word.{Word}
 use Rattle.sheets.specs.declared.word.Word.TheVariants.{Block, Cover, End, Heard, Mask, Other, Row}
-use Rattle.sheets.specs.Faults.{BeforeAt, FirstFault, Open, Part, RefusedFor, WrongAt, Wrong, due, field_at, first_off, first_word, form_number, good_field, in_turn}
+use Rattle.sheets.specs.Faults.{FirstFault, Open, Part, RefusedFor, WrongAt, Wrong, due, field_at, first_off, first_word, form_number, good_field, in_turn}
 use Rattle.sheets.specs.Faults.{malformed, miscounted, on_blocks, on_cover, on_heard, on_mask, on_nothing, on_rows, out_of_turn}
 use Rattle.sheets.specs.Sheet.{Contents, contents, reading, refused, says}
 use Rattle.sheets.specs.Text.{lines}

@@ -4,12 +4,12 @@ use lib.IntN.{nat_abs, negsuc, pos, ℤ}
 use lib.ListN.{get_or, length, replicate}
 use mathlib.Core.Bool.{false}
 use mathlib.Core.List.{List}
-use mathlib.Core.Logic.{inl, inr, ◌↔◌, ◌⊎◌}
-use mathlib.Core.Path.{ap, refl, sym, ◌∙◌, ◌≡◌}
+use mathlib.Core.Logic.{◌↔◌}
+use mathlib.Core.Path.{ap, refl, ◌≡◌}
 use native.Mathlib.Decide.{dec_le}
 use native.Mathlib.Nat.{mul-le-mul_left}
 use native.Mathlib.Omega.{arith}
-use Prim.Native.Nat.{◌*◌, ◌<◌, ℕ, ◌≤◌}
+use Prim.Native.Nat.{◌<◌, ℕ, ◌≤◌}
 use Rattle.decoding.proofs.FirmnessMargin.{margin-bounds}
 use Rattle.decoding.proofs.MetricBounds.{metric-within}
 use Rattle.decoding.proofs.SampleLimits.{none_over, samples-are-n}

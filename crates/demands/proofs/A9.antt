@@ -25,7 +25,7 @@ use Rattle.weights.proofs.WeightsMean.{counts-add-up, least-weight, none-exactly
 use Rattle.weights.specs.declared.Counted.{Counted}
 use Rattle.weights.specs.declared.Counted.TheVariants.{Least, OnlyZero, Refused}
 use Rattle.weights.specs.Number.{NumberOf, total}
-use Rattle.weights.specs.Weights.{CountsWeights, Filled, LeastWeight, NumberOfWeight, OfWeight, weight_conditions, working_need}
+use Rattle.weights.specs.Weights.{CountsWeights, Filled, LeastWeight, NumberOfWeight, weight_conditions, working_need}
 use Rattle.words.specs.Choice.{count}
 
 -- ---- refusals, in order: 5, 22, 8

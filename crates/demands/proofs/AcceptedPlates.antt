@@ -32,9 +32,8 @@ use Rattle.plates.specs.declared.Refusal.TheVariants.{NotPrepared}
 use Rattle.plates.specs.declared.Verdict.TheVariants.{Accepted}
 use Rattle.plates.specs.Dimension.{Dimension}
 use Rattle.plates.specs.Prepare.{IsPrepared, Prepares, not_prepared, rows_of}
-use Rattle.reports.specs.Answers.{Answers}
 use Rattle.reports.specs.Report.{BlockAnswer}
-use Rattle.trellises.proofs.AcceptedIsPrepared.{accepted, accepted-code, accepted-length, accepted-prepared, code_below}
+use Rattle.trellises.proofs.AcceptedIsPrepared.{accepted, accepted-code, accepted-prepared, code_below}
 use Rattle.trellises.proofs.SectionAgrees.{Agrees, chosen, section-agrees}
 use Rattle.trellises.proofs.TrellisSpells.{table_at, table-length}
 use Rattle.trellises.specs.Branching.{code_trellis}

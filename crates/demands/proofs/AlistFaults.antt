@@ -2,7 +2,7 @@
 use borrow.Author.Tests.{eq-eqb, eqb-true}
 use lib.Dec.{eqb}
 use lib.ListN.{get_or, length}
-use mathlib.Core.Bool.{Bool, ◌&&◌, true}
+use mathlib.Core.Bool.{Bool, ◌&&◌}
 use mathlib.Core.List.{◌++◌, List, [], ◌∷◌}
 use mathlib.Core.Logic.{inl, inr, ◌↔◌}
 use mathlib.Core.Path.{ap, refl, subst, sym, ◌∙◌, ◌≡◌}

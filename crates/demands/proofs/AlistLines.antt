@@ -7,7 +7,7 @@ use mathlib.Core.Bool.{Bool, cond, false, true}
 use mathlib.Core.List.{◌++◌, List, [], append_assoc, ◌∷◌}
 use mathlib.Core.Path.{ap, refl, subst, sym, ◌∙◌, ◌≡◌}
 use native.Mathlib.Omega.{arith}
-use Prim.Native.Nat.{◌%◌, ◌+◌, ◌/◌, ◌<◌, suc, zero, ℕ}
+use Prim.Native.Nat.{◌%◌, ◌+◌, ◌/◌, suc, zero, ℕ}
 use Rattle.alists.proofs.NumbersRead.{line_known, line_read}
 use Rattle.alists.proofs.SpacedOnce.{line_taken, number-taken, short-small}
 use Rattle.alists.proofs.SpacedRead.{line-back}
@@ -15,7 +15,7 @@ use Rattle.alists.specs.Accepted.{spaced_from, spaced_once}
 use Rattle.alists.specs.Lines.{Found, Line, before, faulty, feed_of, found, further, line_of, next_of, nothing, number_of, reads, rest_of, skipped}
 use Rattle.alists.specs.Text.{decimal, line}
 use Rattle.demands.specs.AlistFaults.{Says}
-use Rattle.sheets.specs.Text.{lines, onto, parts}
+use Rattle.sheets.specs.Text.{lines, onto}
 
 -- ---- up to the first line feed
 

@@ -3,7 +3,6 @@
 -- has no sample and is refused. The sum of metrics is 5 - 9 + 0 + 1.
 use lib.Count.{count_leading_zeros, ones, ones_in, count_trailing_zeros}
 use lib.IntN.{negsuc, pos, ℤ}
-use lib.ListN.{length}
 use mathlib.Core.Bool.{true}
 use mathlib.Core.List.{◌++◌, List, [], ◌∷◌}
 use mathlib.Core.Logic.{inl}
@@ -20,13 +19,12 @@ use Rattle.demands.specs.Examples.{answer, zero_plate1}
 use Rattle.listings.specs.Decimal.{decimal, signed_decimal}
 use Rattle.listings.specs.Lines.{line_of_end, less, plate_line, profile_line, refused_line, tally_line, word_line}
 use Rattle.plates.specs.declared.Kind.TheVariants.{G}
-use Rattle.plates.specs.declared.Prepared.{Prepared}
 use Rattle.plates.specs.declared.Refusal.TheVariants.{SampleCount}
 use Rattle.plates.specs.declared.Verdict.TheVariants.{Accepted}
 use Rattle.plates.specs.Prepare.{Prepares}
 use Rattle.reports.proofs.SameAnswers.{answers-listed}
 use Rattle.reports.specs.Answers.{Answers}
-use Rattle.reports.specs.Report.{BlockAnswer, BlockAnswers, Lists}
+use Rattle.reports.specs.Report.{BlockAnswer, Lists}
 use Rattle.sheets.specs.Covers.{cover_fields}
 use Rattle.sheets.specs.declared.Order.TheVariants.{First}
 use Rattle.sheets.specs.Sheet.{Contents, contents, reading, says, verdict}

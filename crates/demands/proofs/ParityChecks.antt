@@ -7,12 +7,11 @@ use mathlib.Core.Logic.{inl, inr, ◌↔◌, ◌⊎◌}
 use mathlib.Core.Path.{ap, ap₂, refl, subst, sym, ◌∙◌, ◌≡◌}
 use native.Mathlib.Decide.{dec_lt}
 use native.Mathlib.Omega.{arith}
-use Prim.Native.Nat.{◌%◌, ◌+◌, ◌/◌, ◌<◌, ◌^◌, suc, suc-le-suc, zero, zero-le, ℕ, ◌≤◌}
+use Prim.Native.Nat.{◌%◌, ◌+◌, ◌/◌, ◌<◌, ◌^◌, suc, suc-le-suc, zero, zero-le, ℕ}
 use Rattle.demands.specs.Accepted.{ParityChecks}
 use Rattle.plates.specs.Code.{Checked}
 use Rattle.words.proofs.Parity.{differ-mod, parity-comm, parity-power, parity-xor, parity-zero, parity-zero-left}
-use Rattle.words.proofs.Span.{zero_one}
-use Rattle.words.proofs.Sums.{in_all, in-cons, in_row, in-xor, in-zero, sum-zero}
+use Rattle.words.proofs.Sums.{in_all, in-cons, in_row, in-xor}
 use Rattle.words.proofs.Word.{bits_below, bits-zero, differ-zero, digit, xor-cancel}
 use Rattle.words.specs.Parity.{parity}
 use Rattle.words.specs.Sum.{IsSum, sum_of, taken}

@@ -7,9 +7,9 @@ use mathlib.Core.List.{List, [], ◌∷◌}
 use mathlib.Core.Logic.{inl, inr, ◌⊎◌}
 use mathlib.Core.Path.{ap, refl, subst, sym, ◌∙◌, ◌≡◌}
 use native.Mathlib.Omega.{arith}
-use Prim.Native.Nat.{◌+◌, ◌<◌, ◌≤◌, suc, ℕ}
+use Prim.Native.Nat.{◌+◌, ◌<◌, ◌≤◌, ℕ}
 use Rattle.demands.proofs.LineRefusals.{line-number, not-among, one-fault}
-use Rattle.demands.specs.SheetRefusals.{Among, cover_fault, first_fault, input_over, line_fault, line_numbers, sheet_conditions}
+use Rattle.demands.specs.SheetRefusals.{Among, cover_fault, first_fault, line_fault, line_numbers, sheet_conditions}
 use Rattle.plates.proofs.Refusing.{Single}
 use Rattle.plates.specs.declared.Refusal.{Refusal}
 use Rattle.plates.specs.declared.Refusal.TheVariants.{InputTooLong, Length, TooManyRows}

@@ -23,7 +23,6 @@ use Rattle.plates.specs.declared.Verdict.TheVariants as J
 use Rattle.plates.specs.Prepare.{Prepares, RowOver, Wide, mask_beyond, prepare_conditions}
 use Rattle.plates.specs.Refusals.{Passes, Refuses, number}
 use Rattle.reports.specs.declared.Report.{Report}
-use Rattle.reports.specs.declared.Stage.{Stage}
 use Rattle.reports.specs.declared.Stage.TheVariants as S
 use Rattle.reports.specs.Listing.{LeavesAs, ListingLeaves, PreparedLeaves}
 use Rattle.reports.specs.Remaining.{Rooms}
@@ -34,7 +33,7 @@ use Rattle.sheets.proofs.Replies.{sheet-not}
 use Rattle.sheets.specs.declared.Order.{Order}
 use Rattle.sheets.specs.declared.SheetReply.{SheetReply}
 use Rattle.sheets.specs.declared.SheetReply.TheVariants as R
-use Rattle.sheets.specs.Sheet.{Contents, Reading, ReadsSheet, contents, reading, refused, says, sheet_reply, start_of}
+use Rattle.sheets.specs.Sheet.{Contents, Reading, ReadsSheet, reading, refused, says, sheet_reply, start_of}
 
 -- ---- the numbers, in order
 

@@ -5,7 +5,7 @@ use mathlib.Core.List.{List}
 use mathlib.Core.Logic.{inr}
 use mathlib.Core.Path.{ap, ap₂, subst, sym, ◌∙◌, ◌≡◌}
 use native.Mathlib.Omega.{arith}
-use Prim.Native.Nat.{◌<◌, ℕ}
+use Prim.Native.Nat.{ℕ}
 use Rattle.decoding.specs.declared.firmness.Flag.{Flag}
 use Rattle.decoding.specs.declared.firmness.Flagged.TheVariants.{Found, Refused}
 use Rattle.decoding.specs.declared.firmness.Reading.{Reading}

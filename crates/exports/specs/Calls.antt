@@ -1,6 +1,5 @@
 -- What every call of the interface promises: a code is returned, and the lent cells are left so.
 use Rattle.std.specs.Prelude.{set, List, ◌⊎◌, ◌≡◌, ℕ}
-use Rattle.plates.specs.Counts.{before}
 use Rattle.plates.specs.declared.Refusal.{Refusal}
 use Rattle.plates.specs.Refusals.{number, place}
 

@@ -1,7 +1,7 @@
 -- Determined: two replies that meet the promise of `judge` are equal, and so is what stands in the lent room.
 use lib.ListN.{get_or}
 use lib.Seq.{ext_get_or}
-use mathlib.Core.Bool.{Bool, false, false≢true}
+use mathlib.Core.Bool.{Bool, false≢true}
 use mathlib.Core.List.{List}
 use mathlib.Core.Logic.{inl, inr, ◌↔◌, ◌⊎◌}
 use mathlib.Core.Path.{ap, refl, subst, sym, ◌∙◌, ◌≡◌}

@@ -7,7 +7,7 @@ use mathlib.Core.List.{List, [], ◌∷◌}
 use mathlib.Core.Path.{ap, refl, subst, sym, ◌∙◌, ◌≡◌}
 use native.Mathlib.Decide.{dec_lt}
 use native.Mathlib.Omega.{arith}
-use Prim.Native.Nat.{◌%◌, ◌-◌, ◌/◌, ◌<◌, suc, zero, ℕ}
+use Prim.Native.Nat.{◌%◌, ◌/◌, ◌<◌, suc, zero, ℕ}
 use Rattle.trellises.specs.Graph.{Graph, Path}
 use Rattle.words.proofs.Word.{bit-lt}
 use Rattle.words.specs.Choice.{count}

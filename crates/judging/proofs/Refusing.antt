@@ -1,6 +1,6 @@
 -- The replies of judging: which refusal comes first, and the judgement where none does.
 use lib.ListN.{length, replicate}
-use mathlib.Core.Bool.{Bool, false, false≢true, true}
+use mathlib.Core.Bool.{Bool, false, false≢true}
 use mathlib.Core.List.{List}
 use mathlib.Core.Logic.{inl, inr}
 use mathlib.Core.Path.{ap, refl, subst, sym, ◌∙◌, ◌≡◌}

@@ -7,7 +7,7 @@ use mathlib.Core.List.{List}
 use mathlib.Core.Path.{ap, refl, subst, sym, ◌∙◌, ◌≡◌}
 use native.Mathlib.Decide.{dec_lt}
 use native.Mathlib.Omega.{arith}
-use Prim.Native.Nat.{◌%◌, ◌-◌, ◌/◌, ◌<◌, suc, zero, ℕ, ◌≤◌}
+use Prim.Native.Nat.{◌%◌, ◌/◌, ◌<◌, suc, zero, ℕ, ◌≤◌}
 use Rattle.sheets.specs.declared.listed.Branch.{Branch}
 use Rattle.trellises.specs.Graph.{Has}
 use Rattle.trellises.specs.Graph as Graphs

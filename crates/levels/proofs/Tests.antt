@@ -1,6 +1,6 @@
 -- What the tests of a setting and of a sample find.
 use Prim.Native.Nat.{ℕ, zero, suc, ◌*◌, ◌≤◌}
-use borrow.Author.Tests.{leb-false, leb-true, not-false, not-true}
+use borrow.Author.Tests.{leb-false, leb-true}
 use lib.Dec.{T, eqb, eqb_refl, leb}
 use lib.Ieee.{Float, down, fin, inf, is_nan, lt, nan, ne, up}
 use lib.Ieee.Scale.{finite}

@@ -6,7 +6,7 @@ use mathlib.Core.Path.{ap, subst, sym, ◌∙◌, ◌≡◌}
 use native.Mathlib.Nat.{zero-add}
 use native.Mathlib.Numerals.{add-one}
 use native.Mathlib.Omega.{arith}
-use Prim.Native.Nat.{◌+◌, ◌<◌, ℕ, ◌≤◌}
+use Prim.Native.Nat.{◌+◌, ◌<◌, ℕ}
 
 module _ (first table : List ℕ) (same : length first ≡ length table) where
   -- one entry more

@@ -1,9 +1,7 @@
 -- A plate is prepared where it is not that it is not: what there is to know of it compares numbers, and numbers can be compared.
-use lib.ListN.{get_or, length}
 use mathlib.Core.List.{List}
 use mathlib.Core.Path.{◌≡◌}
 use native.Mathlib.Decide.{dec_le, ℕ_discrete}
-use native.Mathlib.Omega.{arith}
 use Prim.Native.Nat.{◌<◌, ℕ, ◌≤◌}
 use Rattle.plates.proofs.SoundIsPrepared.{prepared, sound}
 use Rattle.plates.specs.declared.Plate.{Plate}

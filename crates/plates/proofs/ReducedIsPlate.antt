@@ -9,7 +9,6 @@ use native.Mathlib.Omega.{arith}
 use Prim.Native.Nat.{◌<◌, suc, ℕ, ◌≤◌}
 use Rattle.plates.specs.Heads.{RowsOf}
 use Rattle.plates.specs.Reduced.{Reduced}
-use Rattle.plates.specs.Refusals.{place}
 use Rattle.words.proofs.Span.{Nothing, Top, first-unique, least, lt-tri, rising-apart, zero-from, zero_one}
 use Rattle.words.proofs.Sums.{in_row, in-xor}
 use Rattle.words.proofs.Word.{bit-same, bit-xor, bit-zero, differ_self, differ-zero, xor-zero-eq}

@@ -3,7 +3,7 @@ use Rattle.std.specs.Prelude.{ℕ, ◌^◌, ◌≤◌, ◌<◌, length, get_or, 
 use Rattle.words.specs.Ends.{firsts, lasts}
 use Rattle.words.specs.Sum.{IsSum}
 use Rattle.plates.specs.declared.Kind.{Kind}
-use Rattle.plates.specs.declared.Kind.TheVariants.{G, H}
+use Rattle.plates.specs.declared.Kind.TheVariants.{G}
 use Rattle.plates.specs.declared.Plate.{Plate}
 use Rattle.plates.specs.declared.Prepared.{Prepared}
 use Rattle.plates.specs.declared.Refusal.{Refusal}

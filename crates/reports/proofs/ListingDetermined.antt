@@ -1,5 +1,5 @@
 -- Determined: two replies of `write_listing`, with all that is lent, that meet its promise are equal.
-use Rattle.std.proofs.Common.{◌≡◌, ℕ, List, [], ◌∷◌, ◌++◌, length, drop, ℤ, sym, refl, ap, ◌∙◌, subst, ap₂}
+use Rattle.std.proofs.Common.{◌≡◌, ℕ, List, [], ◌∷◌, ◌++◌, length, drop, ℤ, sym, ap, ◌∙◌, subst, ap₂}
 use Rattle.plates.proofs.PrepareDetermined.{prepare-determined}
 use Rattle.plates.proofs.Refusing.{Single, never_both, refuses-once}
 use Rattle.plates.specs.declared.Plate.{Plate}
@@ -9,7 +9,7 @@ use Rattle.plates.specs.declared.Verdict.{Verdict}
 use Rattle.plates.specs.declared.Verdict.TheVariants as J
 use Rattle.listings.specs.declared.Written.{Written}
 use Rattle.listings.specs.declared.Written.TheVariants as W
-use Rattle.sheets.specs.Sheet.{Contents, Reading, says, refused, reading}
+use Rattle.sheets.specs.Sheet.{Reading, says, refused, reading}
 use Rattle.reports.specs.Listing.{LeavesAs, Listed, PreparedLeaves, WritesListing, listing_conditions}
 use Rattle.reports.specs.Remaining.{BlockLeaves, BlocksLeave, Rooms, rooms, untouched, zeroed}
 use Rattle.reports.specs.Report.{block_conditions}

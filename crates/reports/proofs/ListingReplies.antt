@@ -1,5 +1,5 @@
 -- The replies of `write_listing`, case by case.
-use Rattle.std.proofs.Common.{◌≡◌, ℕ, ◌*◌, ◌/◌, ◌<◌, ◌≤◌, List, length, sym, refl, ◌∙◌, subst, inl, inr, arith}
+use Rattle.std.proofs.Common.{◌≡◌, ℕ, ◌/◌, ◌<◌, ◌≤◌, List, length, sym, refl, ◌∙◌, subst, inl, inr, arith}
 use Rattle.plates.specs.declared.Refusal.{Refusal}
 use Rattle.plates.specs.declared.Refusal.TheVariants.{DecisionRoom, LineRoom, MetricRoom}
 use Rattle.listings.specs.declared.Written.TheVariants as W

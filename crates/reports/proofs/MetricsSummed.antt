@@ -1,7 +1,6 @@
 -- The sum of metrics is the tally's sum of those above 0 less its sum of those below 0.
-use Rattle.std.proofs.Common.{◌≡◌, ℕ, suc, ◌+◌, Bool, cond, List, [], ◌∷◌, ℤ, pos, negsuc, ◌+ℤ◌, sym, refl, ap, ◌∙◌, ap₂, zero-le, le-ltb}
+use Rattle.std.proofs.Common.{◌≡◌, ℕ, suc, Bool, cond, List, [], ◌∷◌, ℤ, pos, negsuc, ◌+ℤ◌, sym, refl, ap, ◌∙◌, ap₂, zero-le, le-ltb}
 use lib.IntN.{+ℤ_assoc, +ℤ_comm, +ℤ_idr, +ℤ_invl, pos-+ℤ-pos}
-use Rattle.decoding.specs.declared.Answer.{Answer}
 use Rattle.decoding.specs.declared.Decoded.{Decoded}
 use Rattle.decoding.specs.declared.Decoded.TheVariants as D
 use Rattle.listings.specs.declared.Tally.{Tally}

@@ -1,5 +1,5 @@
 -- A report that was just opened: what is left of it is the whole of its input's report, and how many lines that is.
-use Rattle.std.proofs.Common.{◌≡◌, ℕ, suc, ◌≤◌, Bool, true, false, cond, eqb, ltb, leb, List, [], ◌∷◌, length, drop, ℤ, sym, refl, ap, ◌∙◌, subst, arith, length-drop, ltb-false}
+use Rattle.std.proofs.Common.{◌≡◌, ℕ, suc, ◌≤◌, Bool, true, false, cond, eqb, ltb, leb, List, [], ◌∷◌, length, drop, ℤ, sym, refl, ap, subst, arith, length-drop, ltb-false}
 use Rattle.plates.specs.declared.Plate.{Plate}
 use Rattle.plates.specs.declared.Prepared.{Prepared}
 use Rattle.plates.specs.declared.Refusal.TheVariants.{InputTooLong}
@@ -14,10 +14,9 @@ use Rattle.sheets.specs.declared.Order.{Order}
 use Rattle.sheets.specs.Sheet.{Contents, Reading, says, refused, reading, start_of}
 use Rattle.sheets.specs.Text.{lines_from, onto, parts, line_feed}
 use Rattle.reports.specs.declared.Report.{Report}
-use Rattle.reports.specs.declared.Stage.{Stage}
 use Rattle.reports.specs.declared.Stage.TheVariants as S
 use Rattle.reports.specs.Listing.{LeavesAs, PreparedLeaves}
-use Rattle.reports.specs.Remaining.{BlocksLeave, HasRoom, Leaves, Left, LeftAt, Ready, Rooms, blocks_at, count_at, lines_left}
+use Rattle.reports.specs.Remaining.{BlocksLeave, HasRoom, Leaves, Left, Ready, Rooms, count_at, lines_left}
 use Rattle.reports.specs.Report.{LinesReport, PlateReports, PreparedReports, ReportsAs, at_first}
 use Rattle.reports.specs.Tally.{no_tally}
 use Rattle.reports.proofs.TallyLaws.{room-at-first}

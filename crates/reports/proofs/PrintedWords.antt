@@ -1,5 +1,5 @@
 -- A word printed in the cover's order, position by position.
-use Rattle.std.proofs.Common.{◌≡◌, ℕ, zero, suc, ◌+◌, ◌*◌, ◌^◌, ◌<◌, ◌≤◌, Bool, true, false, ltb, List, [], ◌∷◌, ◌++◌, reverse, length, ℤ, sym, refl, ap, ◌∙◌, zero-add, add-one, arith, ltb-false, ltb-true}
+use Rattle.std.proofs.Common.{◌≡◌, ℕ, zero, suc, ◌+◌, ◌*◌, ◌^◌, ◌<◌, ◌≤◌, Bool, true, false, ltb, List, [], ◌∷◌, ◌++◌, reverse, length, ℤ, refl, ap, ◌∙◌, zero-add, add-one, arith, ltb-false, ltb-true}
 use lib.ListN.{length-reverse}
 use mathlib.Core.List.{reverse-append}
 use Rattle.words.specs.Word.{bit}

@@ -3,13 +3,12 @@ use Rattle.std.proofs.Common.{◌≡◌, ℕ, suc, ◌≤◌, Bool, true, false,
 use Rattle.plates.specs.declared.Plate.{Plate}
 use Rattle.plates.specs.declared.Prepared.{Prepared}
 use Rattle.plates.specs.declared.Verdict.{Verdict}
-use Rattle.plates.specs.declared.Verdict.TheVariants as J
 use Rattle.decoding.specs.declared.Decoded.{Decoded}
 use Rattle.decoding.specs.declared.Decoded.TheVariants as D
 use Rattle.sheets.proofs.TurnedSheets.{turned-says}
 use Rattle.sheets.proofs.TurnedText.{text-turned}
 use Rattle.sheets.specs.declared.Order.{Order}
-use Rattle.sheets.specs.Sheet.{Contents, Reading, says, reading}
+use Rattle.sheets.specs.Sheet.{Contents, Reading}
 use Rattle.sheets.specs.Turned.{IsTurned, other, text_turned, under_other}
 use Rattle.reports.specs.Answers.{Answers, answer_lines, lines_of_answers, listing_lines}
 use Rattle.reports.specs.Tally.{heards_of, tally_of}

@@ -1,5 +1,5 @@
 -- Samples counted one after the other: what the loops over them keep.
-use Rattle.std.proofs.Common.{◌≡◌, ℕ, ◌+◌, ◌<◌, ◌≤◌, cond, List, ◌∷◌, length, get_or, drop, ℤ, pos, sym, refl, ap, ◌∙◌, add-one, arith, drop_of_length-le, drop-cons}
+use Rattle.std.proofs.Common.{◌≡◌, ℕ, ◌+◌, ◌<◌, ◌≤◌, cond, List, ◌∷◌, length, get_or, drop, ℤ, pos, ap, add-one, arith, drop_of_length-le, drop-cons}
 use Rattle.words.specs.Word.{bit}
 use Rattle.reports.specs.Tally.{is_zero, opposes, opposing, zeros}
 

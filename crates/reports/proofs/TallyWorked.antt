@@ -3,7 +3,6 @@ use Rattle.std.proofs.Common.{◌≡◌, ℕ, List, [], ◌∷◌, pos, negsuc, 
 use Rattle.plates.specs.declared.Refusal.TheVariants.{SampleCount}
 use Rattle.decoding.specs.declared.Decoded.{Decoded}
 use Rattle.decoding.specs.declared.Decoded.TheVariants as D
-use Rattle.listings.specs.declared.Tally.{Tally}
 use Rattle.reports.specs.Tally.{Heard, heards_of, tally_of}
 
 abbrev found : ℕ → ℕ → Decoded

@@ -4,7 +4,7 @@ use Rattle.plates.specs.declared.Kind.{Kind}
 use Rattle.plates.specs.declared.Plate.{Plate}
 use Rattle.plates.specs.declared.Prepared.{Prepared}
 use Rattle.plates.specs.declared.Refusal.{Refusal}
-use Rattle.plates.specs.declared.Refusal.TheVariants.{Length, LineRoom}
+use Rattle.plates.specs.declared.Refusal.TheVariants.{LineRoom}
 use Rattle.plates.specs.declared.Verdict.{Verdict}
 use Rattle.plates.specs.declared.Verdict.TheVariants as J
 use Rattle.plates.specs.Prepare.{Prepares, zero_plate}

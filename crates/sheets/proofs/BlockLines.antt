@@ -3,14 +3,13 @@ use Prim.Native.Nat.{ℕ, ◌+◌, ◌-◌, ◌≤◌}
 use lib.IntN.{ℤ}
 use lib.ListN.{length, take, drop}
 use mathlib.Core.Bool.{Bool, true, false}
-use mathlib.Core.List.{List, [], ◌∷◌}
-use mathlib.Core.Path.{◌≡◌, refl, sym, ◌∙◌, ap}
+use mathlib.Core.List.{List}
+use mathlib.Core.Path.{◌≡◌, refl, ap}
 use Rattle.sheets.specs.Text.{tab, fields, fields_from}
 use Rattle.sheets.specs.Numbers.{counter_of, worth}
 use Rattle.sheets.specs.Words.{word_of}
-use Rattle.sheets.specs.Blocks.{block_by, block_line, values_of, heard_rest, counter_by, counter_in, is_heard, heard_line}
+use Rattle.sheets.specs.Blocks.{block_by, heard_rest, counter_by, counter_in, is_heard, heard_line}
 use Rattle.sheets.specs.Readers.{FieldsRead, HeardRead, RestRead, LineRead, Until}
-use Rattle.sheets.specs.declared.number.Number.{Number}
 use Rattle.sheets.specs.declared.number.Number.TheVariants as N
 use Rattle.sheets.specs.declared.word.Word.{Word}
 use Rattle.sheets.specs.declared.word.Word.TheVariants.{Cover, Mask, Row, Block, Heard, End, Other}

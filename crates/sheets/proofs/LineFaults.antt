@@ -10,7 +10,7 @@ use mathlib.Core.Path.{◌≡◌, refl, sym, ◌∙◌, ap}
 use native.Mathlib.Decide.{dec_lt}
 use native.Mathlib.Omega.{arith}
 use Rattle.sheets.specs.Words.{word_of}
-use Rattle.sheets.specs.Numbers.{counter_of, is_number, number_of, sample_of}
+use Rattle.sheets.specs.Numbers.{counter_of, is_number, sample_of}
 use Rattle.sheets.specs.Rows.{bits_only, word_from}
 use Rattle.sheets.specs.Turning.{in_order}
 use Rattle.sheets.specs.Blocks.{is_sample, samples_of}

@@ -7,12 +7,12 @@ use mathlib.Core.Bool.{Bool, true, false, cond}
 use mathlib.Core.List.{List, [], ◌∷◌, reverse}
 use mathlib.Core.Path.{◌≡◌, refl, ◌∙◌, ap, ap₂}
 use native.Mathlib.Omega.{arith}
-use Rattle.sheets.specs.Text.{fields, lines, onto, parts}
-use Rattle.sheets.specs.Words.{same, word_of}
+use Rattle.sheets.specs.Text.{fields, onto, parts}
+use Rattle.sheets.specs.Words.{word_of}
 use Rattle.sheets.specs.Turning.{by_position}
 use Rattle.sheets.specs.Numbers.{counter_of, is_number}
 use Rattle.sheets.specs.Rows.{row_of}
-use Rattle.sheets.specs.Blocks.{BlockFound, block, no_block, samples_of, samples_found, values_of, heard_rest, block_by, block_line, values_after, listed_in, block_then, blocks_of, counter_by, counter_in, counters_of, is_heard, heard_line, heard_front}
+use Rattle.sheets.specs.Blocks.{BlockFound, block, no_block, samples_of, samples_found, values_of, heard_rest, block_by, block_line, values_after, listed_in, block_then, blocks_of, counter_by, counter_in, counters_of, heard_line, heard_front}
 use Rattle.sheets.specs.Lines.{late_row, late_block, late_heard, row_is, row_rest, block_is, heard_fields, line_by, line_of, row_then, rows_of, after_end, end_by, ending_of}
 use Rattle.sheets.specs.Masks.{mask_by, mask_front, mask_is, mask_of}
 use Rattle.sheets.specs.Turned.{heard_turned, rest_turned, fields_turned, other, LinesTurned}
@@ -23,7 +23,6 @@ use Rattle.sheets.specs.declared.row.Row.{Row}
 use Rattle.sheets.specs.declared.row.Row.TheVariants as R
 use Rattle.sheets.specs.declared.block.Samples.{Samples}
 use Rattle.sheets.specs.declared.block.Samples.TheVariants as S
-use Rattle.sheets.specs.declared.cover.Cover.{Cover}
 use Rattle.sheets.specs.declared.line.Came.{Came}
 use Rattle.sheets.specs.declared.line.Came.TheVariants.{Nothing}
 use Rattle.sheets.specs.declared.line.Fault.TheVariants.{Turn}

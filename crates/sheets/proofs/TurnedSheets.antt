@@ -22,7 +22,6 @@ use Rattle.sheets.specs.declared.Order.{Order}
 use Rattle.sheets.specs.declared.Order.TheVariants.{First, Last}
 use Rattle.sheets.specs.declared.word.Word.{Word}
 use Rattle.sheets.specs.declared.word.Word.TheVariants as W
-use Rattle.sheets.specs.declared.row.Row.{Row}
 use Rattle.sheets.specs.declared.number.Number.{Number}
 use Rattle.sheets.specs.declared.number.Number.TheVariants as N
 use Rattle.sheets.specs.declared.cover.KindField.{KindField}

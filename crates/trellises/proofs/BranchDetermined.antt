@@ -17,7 +17,6 @@ use Rattle.trellises.specs.declared.Next.TheVariants.{NoBranch, Refused, State}
 use Rattle.trellises.specs.Graph.{Has, branch_at}
 use Rattle.trellises.specs.States.{trellis}
 use Rattle.words.specs.Span.{Spans}
-use Rattle.words.specs.Word.{bit}
 
 -- from a depth, a state and a bit the next state is determined
 next-kept : (rows : List ℕ) (f l : ℕ → ℕ) → Kept rows f l → (t a b x y : ℕ) → Has (trellis rows f l) t a b x → Has (trellis rows f l) t a b y

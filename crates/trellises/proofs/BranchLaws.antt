@@ -1,9 +1,8 @@
 -- What `branch_parts` asks and replies, by the test of the plate, the section found and its weight.
-use borrow.Author.Tests.{not-false, not-true}
 use lib.Bits.{bit_xor}
-use lib.ListN.{length, take}
+use lib.ListN.{length}
 use lib.Seq.{length-take-le}
-use mathlib.Core.Bool.{Bool, false, not, true}
+use mathlib.Core.Bool.{Bool, false, true}
 use mathlib.Core.Logic.{inl, inr}
 use mathlib.Core.Path.{ap, ap₂, refl, subst, sym, ◌∙◌, ◌≡◌}
 use native.Mathlib.Omega.{arith}

@@ -2,7 +2,7 @@
 use mathlib.Core.Path.{ap, refl, sym, ◌∙◌, ◌≡◌}
 use native.Mathlib.Decide.{dec_lt}
 use native.Mathlib.Omega.{arith}
-use Prim.Native.Nat.{◌%◌, ◌*◌, ◌+◌, ◌/◌, ◌<◌, ◌^◌, suc, zero, ℕ, ◌≤◌}
+use Prim.Native.Nat.{◌%◌, ◌/◌, ◌<◌, ◌^◌, suc, zero, ℕ, ◌≤◌}
 use Rattle.trellises.specs.Beginnings.{splice}
 use Rattle.trellises.specs.Graph.{Graph, Has, Path}
 use Rattle.words.proofs.Word.{below-bits, bits_below, half}

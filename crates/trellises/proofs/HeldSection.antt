@@ -12,7 +12,7 @@ use mathlib.Core.Path.{ap, refl, sym, ◌∙◌, ◌≡◌}
 use native.Mathlib.Nat.{lt_of_lt_of_le, mod-eq_of_lt, mod-lt, mod-mod}
 use native.Mathlib.Numerals.{add-one}
 use native.Mathlib.Omega.{arith}
-use Prim.Native.Nat.{◌%◌, ◌*◌, ◌+◌, ◌/◌, ◌<◌, ◌^◌, suc, suc-le-suc, zero, zero-le, ℕ, ◌≤◌}
+use Prim.Native.Nat.{◌%◌, ◌*◌, ◌+◌, ◌<◌, ◌^◌, suc, suc-le-suc, zero, zero-le, ℕ, ◌≤◌}
 use Rattle.plates.specs.Profile.{live}
 use Rattle.trellises.proofs.Digits.{mod-digit}
 use Rattle.trellises.proofs.OneMoreRow.{and-false, taking, with-row}
@@ -23,7 +23,7 @@ use Rattle.trellises.specs.SectionOf.{HasRoom, held, is_active, quiet, section_o
 use Rattle.trellises.specs.Smallest.{active_at}
 use Rattle.trellises.specs.States.{active}
 use Rattle.words.proofs.Ends.{first-one-is, last-one-is}
-use Rattle.words.proofs.Word.{bit-div, bit-lt}
+use Rattle.words.proofs.Word.{bit-lt}
 use Rattle.words.specs.Choice.{more}
 use Rattle.words.specs.Ends.{FirstOne, LastOne, first, firsts, last, lasts}
 use Rattle.words.specs.Word.{bit}

@@ -13,7 +13,7 @@ use Rattle.plates.proofs.Live.{is_live, live_is}
 use Rattle.plates.proofs.OneCheck.{pow-here, pow-other}
 use Rattle.plates.specs.Profile.{live}
 use Rattle.trellises.proofs.Active.{active-is}
-use Rattle.trellises.proofs.TrellisSpells.{Kept, spans-kept, table_at, table-length, trellis-spells}
+use Rattle.trellises.proofs.TrellisSpells.{Kept, spans-kept, table_at, table-length}
 use Rattle.trellises.specs.Graph.{Branch, Has, Path, branch_at}
 use Rattle.trellises.specs.Smallest.{Different, SamePath}
 use Rattle.trellises.specs.States.{active, branch_of, state_of, trellis}
@@ -23,7 +23,7 @@ use Rattle.words.proofs.Sums.{sum-agree, sum-xor, sum-zero}
 use Rattle.words.proofs.Word.{bit-cases, bit-same, bit-xor, differ_self}
 use Rattle.words.specs.Choice.{count, spread}
 use Rattle.words.specs.Span.{Spans}
-use Rattle.words.specs.Sum.{IsSum, sum_of}
+use Rattle.words.specs.Sum.{sum_of}
 use Rattle.words.specs.Word.{bit}
 
 -- the sum that takes row j alone

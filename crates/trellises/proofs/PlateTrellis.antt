@@ -17,7 +17,7 @@ use Rattle.trellises.proofs.PathsOnce.{branches-differ, paths-once}
 use Rattle.trellises.proofs.TrellisSpells.{Kept, own-branches, trellis-spells}
 use Rattle.trellises.specs.Branching.{code_trellis, kept_to}
 use Rattle.trellises.specs.Graph.{Branch, Graph, Path, Spells}
-use Rattle.trellises.specs.Smallest.{Begins, Different, HasAll, SamePath, Smallest, active_at}
+use Rattle.trellises.specs.Smallest.{Begins, Different, HasAll, Smallest, active_at}
 use Rattle.words.proofs.Span.{zero_one}
 use Rattle.words.proofs.Word.{bits_below}
 use Rattle.words.specs.Ends.{firsts, lasts}

@@ -9,7 +9,6 @@ use mathlib.Core.Path.{ap, ap₂, refl, sym, ◌∙◌, ◌≡◌}
 use native.Mathlib.Nat.{pow-suc}
 use native.Mathlib.Omega.{arith}
 use Prim.Native.Nat.{◌%◌, ◌*◌, ◌+◌, ◌/◌, ◌<◌, ◌^◌, min, suc, zero, ℕ}
-use Rattle.plates.specs.declared.Kind.TheVariants.{G}
 use Rattle.plates.specs.Profile.{live, live_at}
 use Rattle.trellises.proofs.Digits.{gathered, mod-digit, mod-none, odd, one_more, put-half, put-odd, rest, without-zero}
 use Rattle.trellises.proofs.OneMoreRow.{LastsApart, Rising, apart-rest, begins-alone, ends-alone, live-next, live_now, rising-rest, taking, with-row}

@@ -3,7 +3,7 @@ use lib.Bits.{bit_xor, differ, xor_shifted}
 use lib.Pow.{low}
 use mathlib.Core.Bool.{Bool, cond, false, true}
 use mathlib.Core.List.{List}
-use mathlib.Core.Logic.{inl, inr, ◌↔◌, ◌⊎◌}
+use mathlib.Core.Logic.{inl, inr, ◌⊎◌}
 use mathlib.Core.Path.{ap, refl, subst, sym, ◌∙◌, ◌≡◌}
 use native.Mathlib.Decide.{dec_lt}
 use native.Mathlib.Nat.{add_comm, mod-eq_of_lt, one-mul}

@@ -5,8 +5,8 @@ use lib.ListN.{length}
 use mathlib.Core.List.{List}
 use mathlib.Core.Logic.Iff
 use mathlib.Core.Logic.{◌↔◌}
-use mathlib.Core.Path.{ap, refl, subst, sym, ◌∙◌, ◌≡◌}
-use Prim.Native.Nat.{◌<◌, ◌^◌, ℕ}
+use mathlib.Core.Path.{refl, subst, sym, ◌∙◌, ◌≡◌}
+use Prim.Native.Nat.{◌^◌, ℕ}
 use Rattle.plates.proofs.SoundIsPrepared.{sound}
 use Rattle.plates.specs.Code.{InCode, Masked}
 use Rattle.plates.specs.declared.Kind.{Kind}

@@ -1,5 +1,4 @@
 -- `asking::left_of` meets its contract.
-use borrow.Author.Rules.{rules}
 use lib.Seq.{length-take-le}
 use mathlib.Core.Path.{sym}
 use native.Mathlib.Omega.{arith}

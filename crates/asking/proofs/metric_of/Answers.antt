@@ -1,7 +1,6 @@
 -- `asking::metric_of` meets its contract. The loop's invariant: the metric of the positions from i on. The measure is i.
-use borrow.Author.Rules.{rules}
 use lib.IntN.{nat_abs, pos, ℤ, ◌+ℤ◌}
-use lib.ListN.{get_or, length}
+use lib.ListN.{get_or}
 use mathlib.Core.Path.{◌≡◌, ◌∙◌, ap₂, subst, sym}
 use mir.Facts.{to_z-of_z}
 use mir.Syntax.{w16, w32}

@@ -1,5 +1,4 @@
 -- `asking::reason_for` meets its contract: each reason in its turn.
-use borrow.Author.Rules.{rules}
 use mathlib.Core.Bool.{false, true}
 use Rattle.plates.specs.Prepare.{of_parts}
 use Rattle.decoding.proofs.PlateSizes.{rows-there}

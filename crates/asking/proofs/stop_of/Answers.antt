@@ -1,5 +1,4 @@
 -- `asking::stop_of` meets its contract.
-use borrow.Author.Rules.{rules}
 use native.Mathlib.Omega.{arith}
 use Rattle.asking.proofs.stop_of.Goals as goal
 

@@ -1,5 +1,4 @@
 -- `asking::why_not_parts` meets its contract: decoding's refusals, or the reason against decoding's answer.
-use borrow.Author.Rules.{rules}
 use Rattle.plates.specs.Prepare.{of_parts}
 use Rattle.asking.proofs.Replies.{asked_of, explained, refused}
 use Rattle.asking.proofs.why_not_parts.Goals as goal

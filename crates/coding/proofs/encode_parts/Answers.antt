@@ -1,5 +1,4 @@
 -- `coding::encode_parts` meets its contract: each refusal, and the word.
-use borrow.Author.Rules.{rules}
 use Rattle.coding.proofs.CodingCalls.{encode-refused, encoded, over-refused, rows_few, rows_long}
 use Rattle.coding.proofs.encode_parts.Goals as goal
 

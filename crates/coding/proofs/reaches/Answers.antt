@@ -1,5 +1,4 @@
 -- `coding::reaches` meets its contract.
-use borrow.Author.Rules.{rules}
 use borrow.Author.Tests.{eqb-false, eqb-true, not-false, not-true}
 use lib.Dec.{eqb}
 use lib.Pow.{pow_mono, pow_pos}

@@ -1,5 +1,4 @@
 -- `coding::read_back_parts` meets its contract: each refusal, and the information.
-use borrow.Author.Rules.{rules}
 use Rattle.coding.proofs.CodingCalls.{informed, no_word, read-back-refused, rows-headed}
 use Rattle.coding.proofs.read_back_parts.Goals as goal
 

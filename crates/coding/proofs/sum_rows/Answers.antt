@@ -2,12 +2,12 @@
 use borrow.Author.Rules.{rules}
 use lib.Bits.{bit_xor}
 use lib.ListN.{get_or}
-use mathlib.Core.Path.{◌≡◌, ◌∙◌, ap, subst, sym}
+use mathlib.Core.Path.{◌∙◌, ap, subst, sym}
 use native.Mathlib.Omega.{arith}
-use Prim.Native.Nat.{ℕ, ◌-◌, ◌≤◌, ◌<◌}
+use Prim.Native.Nat.{ℕ, ◌-◌, ◌<◌}
 use Rattle.words.proofs.Word.{bit-lt}
 use Rattle.words.specs.Sum.{taken}
-use Rattle.coding.proofs.SummingRows.{sum_from, sum-start, sum-down, sum-end}
+use Rattle.coding.proofs.SummingRows.{sum-start, sum-down, sum-end}
 use Rattle.coding.proofs.sum_rows.Goals as goal
 
 pub loop-j-init : goal.loop-j-init

@@ -1,5 +1,4 @@
 -- `coding::take_off` meets its contract.
-use borrow.Author.Rules.{rules}
 use lib.Bits.{bit_or, or_shifted_r}
 use lib.Pow.{pow-lt}
 use mathlib.Core.Path.{◌≡◌, ◌∙◌, ap, refl, sym}

@@ -3,7 +3,7 @@ use borrow.Author.Rules.{rules}
 use mathlib.Core.Path.{◌≡◌, subst}
 use native.Mathlib.Numerals.{add-one}
 use native.Mathlib.Omega.{arith}
-use Prim.Native.Nat.{ℕ, ◌-◌, ◌≤◌}
+use Prim.Native.Nat.{ℕ}
 use Rattle.coding.specs.TakingOff.{Read}
 use Rattle.coding.proofs.ReadingRows.{read-start, read-on}
 use Rattle.coding.proofs.take_rows.Goals as goal

@@ -1,11 +1,6 @@
 -- `coding::take_rows` meets its contract. The loop's invariant: the rows before j are taken off. The measure is what is left of k.
-use borrow.Author.Rules.{rules}
-use mathlib.Core.Path.{◌≡◌, subst}
-use native.Mathlib.Numerals.{add-one}
-use native.Mathlib.Omega.{arith}
-use Prim.Native.Nat.{ℕ, ◌-◌, ◌≤◌}
+use Prim.Native.Nat.{◌-◌, ◌≤◌}
 use Rattle.coding.specs.TakingOff.{Read}
-use Rattle.coding.proofs.ReadingRows.{read-start, read-on}
 use Rattle.coding.proofs.take_rows.Given as goal
 
 abbrev pub invariant-loop-j : goal.invariant-loop-j

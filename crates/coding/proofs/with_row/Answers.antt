@@ -1,5 +1,4 @@
 -- `coding::with_row` meets its contract.
-use borrow.Author.Rules.{rules}
 use lib.Bits.{bit_xor}
 use mathlib.Core.Path.{◌≡◌, ap, sym}
 use native.Mathlib.Omega.{arith}

@@ -1,5 +1,4 @@
 -- `decoding::decode` meets its contract: widening the profile does not change the plate.
-use borrow.Author.Rules.{rules}
 use Rattle.decoding.proofs.DecodeCalls.{by_parts}
 use Rattle.decoding.proofs.decode.Goals as goal
 

@@ -1,6 +1,4 @@
 -- `decoding::decode_parts` meets its contract: refusal 5, or what decoding replies of a prepared plate.
-use borrow.Author.Rules.{rules}
-use borrow.Author.Tests.{not-false, not-true}
 use Rattle.plates.specs.Prepare.{of_parts}
 use Rattle.decoding.proofs.DecodeCalls.{refused-5}
 use Rattle.decoding.proofs.decode_parts.Goals as goal

@@ -1,6 +1,4 @@
 -- `judge` meets its contract.
-use borrow.Author.Rules.{rules}
-use borrow.Author.Tests.{not-false, not-true}
 use lib.ListN.{drop, length, replicate, take}
 use lib.Seq.{length-take-le}
 use mathlib.Core.List.{List, ◌++◌}

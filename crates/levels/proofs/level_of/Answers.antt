@@ -1,6 +1,4 @@
 -- `levels::level_of` meets its contract: each refusal, and the level.
-use borrow.Author.Rules.{rules}
-use borrow.Author.Tests.{not-false, not-true}
 use mathlib.Core.Logic.{inl, inr}
 use mathlib.Core.Path.{refl}
 use mir.Facts.{to_z-of_z}

@@ -1,6 +1,4 @@
 -- `levels::levels_of` meets its contract: each refusal, with the room unchanged, and the levels.
-use borrow.Author.Rules.{rules}
-use borrow.Author.Tests.{not-false, not-true}
 use mathlib.Core.Logic.{inl, inr}
 use mathlib.Core.Path.{refl}
 use Rattle.levels.proofs.Calls.{count-passed, good-passed, length-passed, number-refused, numbers-passed, writable}

@@ -1,5 +1,4 @@
 -- `plates::parts_prepared` meets its contract: parts of other lengths are those of no prepared plate, and a plate is prepared exactly if it is sound.
-use borrow.Author.Rules.{rules}
 use mathlib.Core.Bool.{false≢true}
 use native.Mathlib.Omega.{arith}
 use Rattle.plates.proofs.SoundIsPrepared.{prepared, sound}

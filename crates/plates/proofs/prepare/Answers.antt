@@ -1,5 +1,4 @@
 -- `plates::prepare` meets its contract: the refusals in order, and the plate.
-use borrow.Author.Rules.{rules}
 use mathlib.Core.Logic.{inl, inr}
 use native.Mathlib.Omega.{arith}
 use Rattle.plates.proofs.Replies.{accept, mask-short, none-beyond, refuse-beyond, refuse-length, refuse-mask, refuse-rows, refuse-wide}

@@ -1,5 +1,4 @@
 -- `plates::refusal_entry` meets its contract: each case has its entry.
-use borrow.Author.Rules.{rules}
 use Rattle.plates.proofs.RefusalTable.{tells}
 use Rattle.plates.proofs.refusal_entry.Goals as goal
 

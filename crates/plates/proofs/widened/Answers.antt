@@ -1,10 +1,10 @@
 -- `plates::widened` meets its contract: entry by entry.
 use borrow.Author.Rules.{rules}
 use lib.ListN.{length, length-replicate, length-set, replicate}
-use lib.Seq.{paste, paste-zero}
+use lib.Seq.{paste-zero}
 use mathlib.Core.Path.{sym, ◌∙◌, ◌≡◌}
 use native.Mathlib.Omega.{arith}
-use Prim.Native.Nat.{◌-◌, ℕ, ◌≤◌}
+use Prim.Native.Nat.{ℕ}
 use Rattle.plates.proofs.EntriesCopied.{copied_all, copied_on}
 use Rattle.plates.proofs.widened.Goals as goal
 

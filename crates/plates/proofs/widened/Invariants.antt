@@ -1,11 +1,8 @@
 -- `plates::widened` meets its contract: entry by entry.
-use borrow.Author.Rules.{rules}
-use lib.ListN.{length, length-replicate, length-set, replicate}
-use lib.Seq.{paste, paste-zero}
-use mathlib.Core.Path.{sym, ◌∙◌, ◌≡◌}
-use native.Mathlib.Omega.{arith}
-use Prim.Native.Nat.{◌-◌, ℕ, ◌≤◌}
-use Rattle.plates.proofs.EntriesCopied.{copied_all, copied_on}
+use lib.ListN.{length}
+use lib.Seq.{paste}
+use mathlib.Core.Path.{◌≡◌}
+use Prim.Native.Nat.{◌-◌, ◌≤◌}
 use Rattle.plates.proofs.widened.Given as goal
 
 abbrev pub invariant-loop-t : goal.invariant-loop-t

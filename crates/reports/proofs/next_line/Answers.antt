@@ -1,6 +1,6 @@
 -- `next_line` meets its contract.
 use Rattle.reports.proofs.WrittenSteps.{at-its-stage, only-writes}
-use Rattle.std.proofs.Common.{refl, rules}
+use Rattle.std.proofs.Common.{refl}
 use Rattle.reports.proofs.next_line.Goals as goal
 
 pub returns-in-Refused : goal.returns-in-Refused

@@ -1,5 +1,4 @@
 -- `nothing_kept` meets its contract.
-use Rattle.std.proofs.Common.{rules}
 use Rattle.reports.proofs.nothing_kept.Goals as goal
 
 pub returns : goal.returns

@@ -1,5 +1,5 @@
 -- `of_sheet` meets its contract.
-use Rattle.std.proofs.Common.{sym, length-take-le, rules}
+use Rattle.std.proofs.Common.{sym, length-take-le}
 use Rattle.reports.proofs.of_sheet.Goals as goal
 
 pub slice_bounds-prepare-end : goal.slice_bounds-prepare-end

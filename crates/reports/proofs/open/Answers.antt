@@ -1,5 +1,5 @@
 -- `open` meets its contract.
-use Rattle.std.proofs.Common.{replicate, sym, refl, ◌∙◌, rules}
+use Rattle.std.proofs.Common.{replicate, sym, refl, ◌∙◌}
 use Rattle.reports.proofs.Openings.{opens-refused, opens-sheet, rows-within}
 use Rattle.reports.proofs.open.Goals as goal
 

@@ -1,5 +1,4 @@
 -- `refused` meets its contract.
-use Rattle.std.proofs.Common.{rules}
 use Rattle.reports.proofs.refused.Goals as goal
 
 pub returns : goal.returns

@@ -1,5 +1,5 @@
 -- `write_listing` meets its contract.
-use Rattle.std.proofs.Common.{arith, rules}
+use Rattle.std.proofs.Common.{arith}
 use Rattle.reports.specs.Remaining.{rooms}
 use Rattle.reports.proofs.ListingReplies.{before-lines, few-blocks, listed, refused-8, refused-9, refused-11}
 use Rattle.reports.proofs.write_listing.Goals as goal

@@ -1,5 +1,4 @@
 -- `read_block` meets its contract.
-use borrow.Author.Rules.{rules}
 use mathlib.Core.Path.{◌∙◌, sym}
 use native.Mathlib.Omega.{arith}
 use Prim.Native.Nat.{◌-◌}

@@ -1,5 +1,4 @@
 -- `read_sheet` meets its contract.
-use borrow.Author.Rules.{rules}
 use Rattle.sheets.proofs.Wholes.{sheet-body, sheet-head, sheet-long}
 use Rattle.sheets.proofs.read_sheet.Goals as goal
 

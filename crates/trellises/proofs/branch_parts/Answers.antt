@@ -1,5 +1,4 @@
 -- `trellises::branch_parts` meets its contract: refusals 5 and 12, or the reply by the section's numbers.
-use borrow.Author.Rules.{rules}
 use Rattle.trellises.proofs.BranchLaws.{refused-five, depth-over, bit-over, used-count, live-few, ending-small, live_small, state-over, state-there, answered}
 use Rattle.trellises.proofs.branch_parts.Goals as goal
 

@@ -1,6 +1,6 @@
 -- `words::last_one` meets its contract: the leading zeros begin behind the last one.
 use lib.Count.{leading_le, leading_top}
-use mathlib.Core.Path.{◌≡◌, refl}
+use mathlib.Core.Path.{refl}
 use native.Mathlib.Omega.{arith}
 use Prim.Native.Nat.{◌<◌}
 use Rattle.words.proofs.Ends.{last-is}

@@ -1,5 +1,4 @@
 -- `decoding::apart::best_word_parts` meets its contract: the answer of decoding without its metric, or its refusal.
-use borrow.Author.Rules.{rules}
 use Rattle.plates.specs.Prepare.{of_parts}
 use Rattle.decoding.proofs.ApartCalls.{chosen, refused}
 use Rattle.decoding.proofs.apart.best_word_parts.Goals as goal

@@ -1,5 +1,4 @@
 -- `decoding::batch::are_blocks` meets its contract.
-use borrow.Author.Rules.{rules}
 use Rattle.decoding.proofs.Batched.{other-count, some_left, whole-blocks}
 use Rattle.decoding.proofs.batch.are_blocks.Goals as goal
 

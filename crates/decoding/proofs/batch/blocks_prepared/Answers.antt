@@ -1,6 +1,4 @@
 -- `decoding::batch::blocks_prepared` meets its contract: each refusal in its order, and the answers.
-use borrow.Author.Rules.{rules}
-use borrow.Author.Tests.{not-false, not-true}
 use lib.IntN.{ℤ, pos}
 use lib.ListN.{length}
 use mathlib.Core.List.{List}
@@ -8,7 +6,6 @@ use mathlib.Core.Path.{◌∙◌, ◌≡◌}
 use native.Mathlib.Omega.{arith}
 use Prim.Native.Nat.{ℕ, ◌*◌, ◌+◌, ◌≤◌}
 use Rattle.plates.proofs.SoundIsPrepared.{sound}
-use Rattle.plates.specs.declared.Plate.{Plate}
 use Rattle.plates.specs.Prepare.{of_parts}
 use Rattle.decoding.specs.Batch.{Blocks}
 use Rattle.decoding.proofs.BatchCalls.{batched, blocks-fit, refused-6, refused-7, refused-8, refused-9}

@@ -1,5 +1,4 @@
 -- `decoding::batch::decode_blocks` meets its contract: refusal 5, or what a prepared plate's blocks are replied.
-use borrow.Author.Rules.{rules}
 use Rattle.plates.specs.Prepare.{of_parts}
 use Rattle.decoding.proofs.BatchCalls.{refused-5}
 use Rattle.decoding.proofs.batch.decode_blocks.Goals as goal

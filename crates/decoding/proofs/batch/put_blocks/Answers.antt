@@ -3,8 +3,6 @@ use borrow.Author.Rules.{rules}
 use lib.ListN.{length}
 use mathlib.Core.Path.{◌≡◌}
 use native.Mathlib.Omega.{arith}
-use Prim.Native.Nat.{◌*◌, ◌+◌, ◌-◌, ◌≤◌}
-use Rattle.decoding.specs.Batching.{BlocksPut}
 use Rattle.decoding.proofs.Batched.{all-put, block-fits, block_inside, blocks-on, blocks_start, there}
 use Rattle.decoding.proofs.batch.put_blocks.Goals as goal
 

@@ -1,11 +1,7 @@
 -- `decoding::batch::put_blocks` meets its contract. The loop's invariant: the first blocks are stored. The measure is how many are left.
-use borrow.Author.Rules.{rules}
 use lib.ListN.{length}
-use mathlib.Core.Path.{◌≡◌}
-use native.Mathlib.Omega.{arith}
-use Prim.Native.Nat.{◌*◌, ◌+◌, ◌-◌, ◌≤◌}
+use Prim.Native.Nat.{◌-◌, ◌≤◌}
 use Rattle.decoding.specs.Batching.{BlocksPut}
-use Rattle.decoding.proofs.Batched.{all-put, block-fits, block_inside, blocks-on, blocks_start, there}
 use Rattle.decoding.proofs.batch.put_blocks.Given as goal
 
 abbrev pub invariant-loop-at : goal.invariant-loop-at

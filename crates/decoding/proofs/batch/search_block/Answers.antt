@@ -1,6 +1,5 @@
 -- `decoding::batch::search_block` meets its contract, as `search` does.
-use borrow.Author.Rules.{rules}
-use mathlib.Core.Path.{◌≡◌, ◌∙◌, refl}
+use mathlib.Core.Path.{refl}
 use native.Mathlib.Omega.{arith}
 use mir.Facts.{to_z-of_z}
 use mir.Syntax.{w32}

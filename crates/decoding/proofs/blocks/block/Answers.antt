@@ -1,8 +1,6 @@
 -- `blocks::block` meets its contract. The strips from i on are done.
 use borrow.Author.Rules.{rules}
-use mir.Syntax.{w32}
-use mir.Val.{to_z}
-use Rattle.decoding.proofs.TwoStrips.{Strips, enough, strip-asks, strip-place, strip-shift, strips-all, strips-more, strips-none}
+use Rattle.decoding.proofs.TwoStrips.{enough, strip-asks, strip-place, strip-shift, strips-all, strips-more, strips-none}
 use Rattle.decoding.proofs.blocks.block.Goals as goal
 
 pub loop-i-init : goal.loop-i-init

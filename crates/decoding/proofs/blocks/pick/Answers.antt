@@ -1,5 +1,4 @@
 -- `blocks::pick` meets its contract.
-use borrow.Author.Rules.{rules}
 use Rattle.decoding.proofs.Picks.{pick-asks, pick-done}
 use Rattle.decoding.proofs.blocks.pick.Goals as goal
 

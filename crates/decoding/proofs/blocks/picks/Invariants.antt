@@ -1,9 +1,5 @@
 -- `blocks::picks` meets its contract. The first i states are done.
-use borrow.Author.Rules.{rules}
-use native.Mathlib.Omega.{arith}
-use mathlib.Core.Path.{◌≡◌}
 use Prim.Native.Nat.{◌-◌, ◌≤◌}
-use Rattle.decoding.proofs.Storing.{pick-fits, picks_more, picks-none}
 use Rattle.decoding.specs.Picking.{Picks}
 use Rattle.decoding.proofs.blocks.picks.Given as goal
 

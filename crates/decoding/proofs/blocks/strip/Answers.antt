@@ -1,5 +1,4 @@
 -- `blocks::strip` meets its contract.
-use borrow.Author.Rules.{rules}
 use Rattle.decoding.proofs.StripParts.{far-asks, lones-asks, lones-done, near-asks, picks-asks, picks_done}
 use Rattle.decoding.proofs.blocks.strip.Goals as goal
 

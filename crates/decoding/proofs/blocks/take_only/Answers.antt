@@ -1,5 +1,4 @@
 -- `blocks::take_only` meets its contract.
-use borrow.Author.Rules.{rules}
 use Rattle.decoding.proofs.Picks.{lone-asks, lone-done}
 use Rattle.decoding.proofs.blocks.take_only.Goals as goal
 

@@ -1,9 +1,5 @@
 -- `blocks::take_only_each` meets its contract. The first i states are done.
-use borrow.Author.Rules.{rules}
-use native.Mathlib.Omega.{arith}
-use mathlib.Core.Path.{◌≡◌}
 use Prim.Native.Nat.{◌-◌, ◌≤◌}
-use Rattle.decoding.proofs.Storing.{lone-fits, lones-more, lones-none}
 use Rattle.decoding.specs.Picking.{Lones}
 use Rattle.decoding.proofs.blocks.take_only_each.Given as goal
 

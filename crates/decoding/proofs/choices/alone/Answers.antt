@@ -1,6 +1,5 @@
 use mathlib.Core.Path.{refl}
 use mir.Facts.{to_z-of_z}
-use borrow.Author.Rules.{rules}
 use native.Mathlib.Omega.{arith}
 use Rattle.decoding.proofs.Integers.{sum_fits, sum_is}
 use Rattle.decoding.proofs.choices.alone.Goals as goal

@@ -1,5 +1,4 @@
 -- `choices::choose` meets its contract.
-use borrow.Author.Rules.{rules}
 use mathlib.Core.Path.{refl}
 use mir.Facts.{to_z-of_z}
 use native.Mathlib.Omega.{arith}

@@ -1,5 +1,4 @@
 -- `decoding::cosets::less_row` meets its contract.
-use borrow.Author.Rules.{rules}
 use lib.Bits.{xor_zero_l}
 use mathlib.Core.Path.{◌≡◌, ◌∙◌, ap, sym}
 use native.Mathlib.Omega.{arith}

@@ -1,14 +1,9 @@
 -- `decoding::cosets::rest_of` meets its contract. The loop's invariant: taking off the rows from j on leaves the rest of the word. The measure is
 -- what is left of the rows.
-use borrow.Author.Rules.{rules}
-use lib.ListN.{drop, drop_of_length-le, length}
-use mathlib.Core.List.{List, []}
-use mathlib.Core.Path.{◌≡◌, ◌∙◌, ap, refl, sym}
-use native.Mathlib.Numerals.{add-one}
-use native.Mathlib.Omega.{arith}
-use Prim.Native.Nat.{ℕ, suc, ◌-◌, ◌≤◌}
+use lib.ListN.{drop, length}
+use mathlib.Core.Path.{◌≡◌}
+use Prim.Native.Nat.{◌-◌, ◌≤◌}
 use Rattle.decoding.specs.Cosets.{taken_off}
-use Rattle.decoding.proofs.RestOfWords.{off_next}
 use Rattle.decoding.proofs.cosets.rest_of.Given as goal
 
 abbrev pub invariant-loop-j : goal.invariant-loop-j

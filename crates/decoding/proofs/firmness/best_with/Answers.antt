@@ -1,5 +1,4 @@
 -- `decoding::firmness::best_with` meets its contract, by the laws of proofs/ForcedSweep.
-use borrow.Author.Rules.{rules}
 use lib.IntN.{pos}
 use mathlib.Core.Path.{◌∙◌}
 use mir.Facts.{to_z-of_z}

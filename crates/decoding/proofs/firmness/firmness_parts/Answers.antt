@@ -1,6 +1,4 @@
 -- `decoding::firmness::firmness_parts` meets its contract: each refusal in its order, and the reading.
-use borrow.Author.Rules.{rules}
-use borrow.Author.Tests.{not-false, not-true}
 use lib.IntN.{pos}
 use lib.ListN.{length}
 use mathlib.Core.Path.{◌∙◌, ap, subst, sym}

@@ -1,11 +1,8 @@
 -- `decoding::firmness::first_with` meets its contract. The loop's invariant: the rows before j have 0 at the position.
-use borrow.Author.Rules.{rules}
 use lib.ListN.{get_or}
-use mathlib.Core.Path.{◌≡◌, ◌∙◌, sym}
-use native.Mathlib.Omega.{arith}
+use mathlib.Core.Path.{◌≡◌}
 use Prim.Native.Nat.{ℕ, ◌-◌, ◌<◌, ◌≤◌}
 use Rattle.words.specs.Word.{bit}
-use Rattle.decoding.proofs.ForcedRows.{passed-row}
 use Rattle.decoding.proofs.firmness.first_with.Given as goal
 
 abbrev pub invariant-loop-j : goal.invariant-loop-j

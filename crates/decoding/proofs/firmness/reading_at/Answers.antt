@@ -1,5 +1,4 @@
 -- `decoding::firmness::reading_at` meets its contract, by the laws of proofs/ForcedReading.
-use borrow.Author.Rules.{rules}
 use mathlib.Core.Path.{◌∙◌}
 use Rattle.decoding.proofs.ForcedReading.{fixed-read, margin-fits, open-read}
 use Rattle.decoding.proofs.SweepEnds.{rooms-kept}

@@ -1,7 +1,7 @@
 -- `decoding::live::column_of` meets its contract: the rows named are taken in from the last to the first.
 use borrow.Author.Rules.{rules}
 use Prim.Native.Nat.{◌<◌}
-use Rattle.decoding.proofs.PassedBack.{ColumnFrom, column-end, column-on, column-start, last-place, left-falls}
+use Rattle.decoding.proofs.PassedBack.{column-end, column-on, column-start, last-place, left-falls}
 use Rattle.decoding.proofs.live.column_of.Goals as goal
 
 pub loop-left-init : goal.loop-left-init

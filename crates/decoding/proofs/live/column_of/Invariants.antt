@@ -1,7 +1,5 @@
 -- `decoding::live::column_of` meets its contract: the rows named are taken in from the last to the first.
-use borrow.Author.Rules.{rules}
-use Prim.Native.Nat.{◌<◌}
-use Rattle.decoding.proofs.PassedBack.{ColumnFrom, column-end, column-on, column-start, last-place, left-falls}
+use Rattle.decoding.proofs.PassedBack.{ColumnFrom}
 use Rattle.decoding.proofs.live.column_of.Given as goal
 
 abbrev pub invariant-loop-left : goal.invariant-loop-left

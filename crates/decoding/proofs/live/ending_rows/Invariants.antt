@@ -1,12 +1,7 @@
 -- `decoding::live::ending_rows` meets its contract: the rows are noted one after the other.
-use borrow.Author.Rules.{rules}
-use lib.ListN.{length, take}
-use mathlib.Core.Path.{◌≡◌, subst}
-use native.Mathlib.Numerals.{add-one}
-use native.Mathlib.Omega.{arith}
-use Prim.Native.Nat.{ℕ, ◌-◌, ◌≤◌, zero-le}
-use Rattle.decoding.proofs.EndsFound.{Noted, all_noted, none-noted, one-noted}
-use Rattle.decoding.proofs.PassedRows.{counted, row_ends, row_last}
+use lib.ListN.{take}
+use Prim.Native.Nat.{◌-◌, ◌≤◌}
+use Rattle.decoding.proofs.EndsFound.{Noted}
 use Rattle.decoding.proofs.live.ending_rows.Given as goal
 
 abbrev pub invariant-loop-j : goal.invariant-loop-j

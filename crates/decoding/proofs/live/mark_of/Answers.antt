@@ -1,5 +1,4 @@
 -- `decoding::live::mark_of` meets its contract.
-use borrow.Author.Rules.{rules}
 use Rattle.decoding.proofs.PassedRows.{mark-is}
 use Rattle.decoding.proofs.live.mark_of.Goals as goal
 

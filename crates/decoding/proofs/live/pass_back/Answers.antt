@@ -1,13 +1,10 @@
 -- `decoding::live::pass_back` meets its contract: the row that ends joins the live rows, and the row that begins leaves them.
-use borrow.Author.Rules.{rules}
 use lib.ListN.{take}
-use mathlib.Core.Path.{◌≡◌}
 use native.Mathlib.Omega.{arith}
-use Prim.Native.Nat.{suc, ◌+◌}
+use Prim.Native.Nat.{suc}
 use Rattle.decoding.proofs.BegunRows.{begun-few}
 use Rattle.decoding.proofs.PassedBack.{all-active, before-few, passed-back}
 use Rattle.decoding.proofs.PassedRows.{active-fits, counted, ending-few, ending-joins}
-use Rattle.decoding.specs.LiveRows.{LiveAt, active_marks}
 use Rattle.decoding.proofs.live.pass_back.Goals as goal
 
 pub mark_of-requires : goal.mark_of-requires

@@ -1,5 +1,4 @@
 -- `decoding::live::row_beginning` meets its contract.
-use borrow.Author.Rules.{rules}
 use mathlib.Core.Path.{◌∙◌, sym}
 use native.Mathlib.Omega.{arith}
 use Prim.Native.Nat.{◌<◌}

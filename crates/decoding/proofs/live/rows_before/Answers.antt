@@ -1,5 +1,4 @@
 -- `decoding::live::rows_before` meets its contract.
-use borrow.Author.Rules.{rules}
 use lib.ListN.{take}
 use mathlib.Core.Path.{◌∙◌, ◌≡◌, ap, sym}
 use native.Mathlib.Omega.{arith}

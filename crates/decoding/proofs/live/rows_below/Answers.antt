@@ -1,5 +1,4 @@
 -- `decoding::live::rows_below` meets its contract.
-use borrow.Author.Rules.{rules}
 use lib.Count.{ones-le}
 use mathlib.Core.Path.{ap, sym}
 use native.Mathlib.Omega.{arith}

@@ -1,5 +1,4 @@
 -- `patterns::high_parities` meets its contract: the table is right at each entry.
-use borrow.Author.Rules.{rules}
 use Rattle.decoding.proofs.TablesChecked.{high_is}
 use Rattle.decoding.proofs.patterns.high_parities.Goals as goal
 

@@ -1,5 +1,4 @@
 -- `patterns::low_parities` meets its contract: the table is right at each entry.
-use borrow.Author.Rules.{rules}
 use Rattle.decoding.proofs.TablesChecked.{low-is}
 use Rattle.decoding.proofs.patterns.low_parities.Goals as goal
 

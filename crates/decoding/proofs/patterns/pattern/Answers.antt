@@ -1,5 +1,4 @@
 -- `patterns::pattern` meets its contract.
-use borrow.Author.Rules.{rules}
 use Rattle.decoding.proofs.Parities.{pattern-is}
 use Rattle.decoding.proofs.patterns.pattern.Goals as goal
 

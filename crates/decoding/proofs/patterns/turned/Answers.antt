@@ -1,5 +1,4 @@
 -- `patterns::turned` meets its contract.
-use borrow.Author.Rules.{rules}
 use mathlib.Core.Path.{◌∙◌, sym}
 use Rattle.decoding.proofs.Parities.{kept, turned-over}
 use Rattle.decoding.proofs.patterns.turned.Goals as goal

@@ -1,9 +1,7 @@
 -- `decoding::prepared::decode_prepared` meets its contract: each refusal in its order, and the answer.
-use borrow.Author.Rules.{rules}
-use borrow.Author.Tests.{not-false, not-true}
 use lib.IntN.{pos}
 use lib.ListN.{length}
-use mathlib.Core.Path.{◌≡◌, ◌∙◌, ap, subst, sym}
+use mathlib.Core.Path.{◌∙◌, ap, subst, sym}
 use native.Mathlib.Omega.{arith}
 use Prim.Native.Nat.{ℕ, ◌+◌, ◌*◌, ◌^◌, ◌<◌, ◌≤◌}
 use Rattle.plates.specs.Prepare.{of_parts}
@@ -12,7 +10,7 @@ use Rattle.decoding.specs.Decode.{decision_need, metric_need}
 use Rattle.decoding.specs.LiveRows.{PlateRows}
 use Rattle.decoding.specs.Searching.{Searched}
 use Rattle.decoding.specs.Sweeping.{RoomsFit, SizesFit}
-use Rattle.decoding.proofs.DecodeCalls.{decoded, refused-5, refused-6, refused-7, refused-8, refused-9, rooms-fit}
+use Rattle.decoding.proofs.DecodeCalls.{decoded, refused-6, refused-7, refused-8, refused-9, rooms-fit}
 use Rattle.decoding.proofs.Filled.{length-filled}
 use Rattle.decoding.proofs.PlateSizes.{decision-need-small, plate-sizes-fit, sizes-are}
 use Rattle.decoding.proofs.prepared.decode_prepared.Goals as goal

@@ -1,9 +1,7 @@
 -- `decoding::rooms::clear_decisions` meets its contract. The loop's invariant: the places before i are zero. The measure is what is left.
-use borrow.Author.Rules.{rules}
 use mathlib.Core.Path.{◌≡◌, refl}
 use native.Mathlib.Omega.{arith}
-use Prim.Native.Nat.{◌≤◌, ◌-◌}
-use Rattle.decoding.proofs.Filled.{filled, fill_more, length-filled}
+use Rattle.decoding.proofs.Filled.{fill_more, length-filled}
 use Rattle.decoding.proofs.rooms.clear_decisions.Goals as goal
 
 pub loop-i-init : goal.loop-i-init

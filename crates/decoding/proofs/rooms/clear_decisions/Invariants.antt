@@ -1,9 +1,7 @@
 -- `decoding::rooms::clear_decisions` meets its contract. The loop's invariant: the places before i are zero. The measure is what is left.
-use borrow.Author.Rules.{rules}
-use mathlib.Core.Path.{◌≡◌, refl}
-use native.Mathlib.Omega.{arith}
+use mathlib.Core.Path.{◌≡◌}
 use Prim.Native.Nat.{◌≤◌, ◌-◌}
-use Rattle.decoding.proofs.Filled.{filled, fill_more, length-filled}
+use Rattle.decoding.proofs.Filled.{filled}
 use Rattle.decoding.proofs.rooms.clear_decisions.Given as goal
 
 abbrev pub invariant-loop-i : goal.invariant-loop-i

@@ -1,8 +1,7 @@
 -- `decoding::rooms::clear_metrics` meets its contract. The loop's invariant: the places before i are zero. The measure is what is left.
-use Rattle.decoding.proofs.Filled.{filled, fill_more, length-filled}
+use Rattle.decoding.proofs.Filled.{fill_more, length-filled}
 use lib.IntN.{pos}
 use native.Mathlib.Omega.{arith}
-use Prim.Native.Nat.{◌≤◌, ◌-◌}
 use mathlib.Core.Path.{◌≡◌, refl}
 use Rattle.decoding.proofs.rooms.clear_metrics.Goals as goal
 

@@ -1,9 +1,8 @@
 -- `decoding::rooms::clear_metrics` meets its contract. The loop's invariant: the places before i are zero. The measure is what is left.
-use Rattle.decoding.proofs.Filled.{filled, fill_more, length-filled}
+use Rattle.decoding.proofs.Filled.{filled}
 use lib.IntN.{pos}
-use native.Mathlib.Omega.{arith}
 use Prim.Native.Nat.{◌≤◌, ◌-◌}
-use mathlib.Core.Path.{◌≡◌, refl}
+use mathlib.Core.Path.{◌≡◌}
 use Rattle.decoding.proofs.rooms.clear_metrics.Given as goal
 
 abbrev pub invariant-loop-i : goal.invariant-loop-i

@@ -1,8 +1,7 @@
 -- `decoding::rooms::rest_of_mask` meets its contract.
-use borrow.Author.Rules.{rules}
 use lib.ListN.{take}
 use lib.Seq.{length-take-le}
-use mathlib.Core.Path.{◌≡◌, ◌∙◌, ap, sym}
+use mathlib.Core.Path.{◌∙◌, ap, sym}
 use native.Mathlib.Omega.{arith}
 use Rattle.decoding.specs.Cosets.{taken_off}
 use Rattle.decoding.proofs.RestOfWords.{off_zero}

@@ -1,5 +1,4 @@
 -- `decoding::rooms::sizes_of` meets its contract.
-use borrow.Author.Rules.{rules}
 use mathlib.Core.Path.{◌≡◌, ◌∙◌, ap, refl}
 use native.Mathlib.Omega.{arith}
 use Prim.Native.Nat.{ℕ, max, ◌*◌, ◌/◌, ◌%◌, ◌^◌, ◌<◌}

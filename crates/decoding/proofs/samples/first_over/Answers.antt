@@ -1,14 +1,11 @@
 -- `decoding::samples::first_over` meets its contract. The loop's invariant: the samples before i are within the limit.
-use borrow.Author.Rules.{rules}
 use lib.IntN.{ℤ, nat_abs, pos}
-use lib.ListN.{get_or, length}
+use lib.ListN.{get_or}
 use mir.Facts.{to_z-of_z}
 use mir.Syntax.{w16}
-use mathlib.Core.Logic.{◌⊎◌, inl, inr}
-use mathlib.Core.Path.{◌≡◌, ◌∙◌, refl, subst, sym}
+use mathlib.Core.Path.{subst}
 use native.Mathlib.Omega.{arith}
-use Prim.Native.Nat.{ℕ, ◌-◌, ◌+◌, ◌<◌, ◌≤◌}
-use Rattle.words.proofs.Span.{lt-tri}
+use Prim.Native.Nat.{◌<◌, ◌≤◌}
 use Rattle.decoding.specs.Metric.{limit}
 use Rattle.decoding.proofs.SampleLimits.{passed}
 use Rattle.decoding.proofs.samples.first_over.Goals as goal

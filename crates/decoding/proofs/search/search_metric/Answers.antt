@@ -1,5 +1,4 @@
 -- `decoding::search::search_metric` meets its contract.
-use borrow.Author.Rules.{rules}
 use mathlib.Core.List.{[]}
 use mathlib.Core.Path.{refl}
 use mir.Facts.{to_z-of_z}

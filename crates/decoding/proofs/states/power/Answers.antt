@@ -1,5 +1,4 @@
 -- `states::power` meets its contract.
-use borrow.Author.Rules.{rules}
 use Rattle.decoding.proofs.Targets.{shifted_one}
 use Rattle.decoding.proofs.states.power.Goals as goal
 

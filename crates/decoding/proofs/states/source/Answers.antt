@@ -1,5 +1,4 @@
 -- `states::source` meets its contract.
-use borrow.Author.Rules.{rules}
 use mathlib.Core.Path.{◌≡◌}
 use native.Mathlib.Omega.{arith}
 use Rattle.decoding.proofs.Targets.{place-lt, source_is}

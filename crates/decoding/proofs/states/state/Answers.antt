@@ -1,5 +1,4 @@
 -- `states::state` meets its contract.
-use borrow.Author.Rules.{rules}
 use mir.Facts.{to_z-of_z}
 use Rattle.decoding.proofs.states.state.Goals as goal
 

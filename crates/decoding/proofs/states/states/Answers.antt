@@ -1,8 +1,6 @@
 -- `states::states` meets its contract. The states from i on are done.
 use borrow.Author.Rules.{rules}
-use mir.Syntax.{w32}
-use mir.Val.{to_z}
-use Rattle.decoding.proofs.Runs.{StatesFrom, next_fits, next_place, next-shift, states-all, states-more, states-none}
+use Rattle.decoding.proofs.Runs.{next_fits, next_place, next-shift, states-all, states-more, states-none}
 use Rattle.decoding.proofs.states.states.Goals as goal
 
 pub loop-i-init : goal.loop-i-init

@@ -1,5 +1,4 @@
 -- `states::stride` meets its contract.
-use borrow.Author.Rules.{rules}
 use native.Mathlib.Omega.{arith}
 use Rattle.decoding.proofs.Targets.{place-lt, stride-is}
 use Rattle.decoding.proofs.states.stride.Goals as goal

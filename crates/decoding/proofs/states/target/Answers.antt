@@ -1,5 +1,4 @@
 -- `states::target` meets its contract.
-use borrow.Author.Rules.{rules}
 use lib.Pow.{pow_pos}
 use native.Mathlib.Omega.{arith}
 use Rattle.decoding.proofs.Targets.{half_le, without-le}

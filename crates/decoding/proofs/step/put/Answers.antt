@@ -1,5 +1,4 @@
 -- `step::put` meets its contract.
-use borrow.Author.Rules.{rules}
 use lib.Seq.{set_out}
 use mathlib.Core.Path.{sym}
 use Rattle.decoding.proofs.step.put.Goals as goal

@@ -1,5 +1,4 @@
 -- `step::step` meets its contract.
-use borrow.Author.Rules.{rules}
 use Rattle.decoding.proofs.Progress.{asked, stepped}
 use Rattle.decoding.proofs.step.step.Goals as goal
 

@@ -1,5 +1,4 @@
 -- `step::step_narrow` meets its contract.
-use borrow.Author.Rules.{rules}
 use Rattle.decoding.proofs.Progress.{one_word, one-word-fits}
 use Rattle.decoding.proofs.step.step_narrow.Goals as goal
 

@@ -1,12 +1,8 @@
 -- `step::step_wide` meets its contract. The states of the first `at` decision words are done.
-use borrow.Author.Rules.{rules}
 use mathlib.Core.Path.{refl}
-use mir.Syntax.{w32}
-use mir.Val.{to_z}
 use native.Mathlib.Omega.{arith}
-use Prim.Native.Nat.{◌-◌}
 use Rattle.decoding.proofs.TablesChecked.{weights-are}
-use Rattle.decoding.proofs.Progress.{WordsDone, fill-asks, next_small, word_fits, word-prepared, words-all, words_more, words-none}
+use Rattle.decoding.proofs.Progress.{fill-asks, next_small, word_fits, word-prepared, words-all, words_more, words-none}
 use Rattle.decoding.proofs.step.step_wide.Goals as goal
 
 pub power-words-requires : goal.power-words-requires

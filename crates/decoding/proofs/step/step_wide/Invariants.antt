@@ -1,12 +1,6 @@
 -- `step::step_wide` meets its contract. The states of the first `at` decision words are done.
-use borrow.Author.Rules.{rules}
-use mathlib.Core.Path.{refl}
-use mir.Syntax.{w32}
-use mir.Val.{to_z}
-use native.Mathlib.Omega.{arith}
 use Prim.Native.Nat.{◌-◌}
-use Rattle.decoding.proofs.TablesChecked.{weights-are}
-use Rattle.decoding.proofs.Progress.{WordsDone, fill-asks, next_small, word_fits, word-prepared, words-all, words_more, words-none}
+use Rattle.decoding.proofs.Progress.{WordsDone}
 use Rattle.decoding.proofs.step.step_wide.Given as goal
 
 abbrev pub invariant-loop-at : goal.invariant-loop-at

@@ -1,5 +1,4 @@
 -- `step::word` meets its contract.
-use borrow.Author.Rules.{rules}
 use mathlib.Core.Path.{refl}
 use Rattle.decoding.proofs.TwoStrips.{word-asks, word-done}
 use Rattle.decoding.proofs.step.word.Goals as goal

@@ -1,8 +1,6 @@
 -- `strips::copies` meets its contract. The first i metrics are gathered.
-use borrow.Author.Rules.{rules}
 use native.Mathlib.Omega.{arith}
-use Prim.Native.Nat.{◌-◌}
-use Rattle.decoding.proofs.Gathering.{Fours, four-fit, fours-all, fours-more, fours-none}
+use Rattle.decoding.proofs.Gathering.{four-fit, fours-all, fours-more, fours-none}
 use Rattle.decoding.specs.Strips.{straight}
 use Rattle.decoding.proofs.strips.copies.Goals as goal
 

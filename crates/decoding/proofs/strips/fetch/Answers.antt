@@ -1,5 +1,4 @@
 -- `strips::fetch` meets its contract.
-use borrow.Author.Rules.{rules}
 use native.Mathlib.Omega.{arith}
 use Prim.Native.Nat.{◌+◌, ◌^◌}
 use Rattle.decoding.proofs.Gathering.{doubled-place, fits-there, gathered-there, paired-place, straight-place}

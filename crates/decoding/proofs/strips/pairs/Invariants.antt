@@ -1,8 +1,6 @@
 -- `strips::pairs` meets its contract. The first i metrics are gathered.
-use borrow.Author.Rules.{rules}
-use native.Mathlib.Omega.{arith}
 use Prim.Native.Nat.{◌-◌}
-use Rattle.decoding.proofs.Gathering.{Fours, four-fit, fours-all, fours-more, fours-none}
+use Rattle.decoding.proofs.Gathering.{Fours}
 use Rattle.decoding.specs.Strips.{paired}
 use Rattle.decoding.proofs.strips.pairs.Given as goal
 

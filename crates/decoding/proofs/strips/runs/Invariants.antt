@@ -1,9 +1,6 @@
 -- `strips::runs` meets its contract. The first i metrics are gathered.
-use borrow.Author.Rules.{rules}
-use mathlib.Core.Path.{ap}
-use native.Mathlib.Omega.{arith}
-use Prim.Native.Nat.{◌+◌, ◌-◌, ℕ}
-use Rattle.decoding.proofs.Gathering.{Fours, four-fit, fours-all, fours-more, fours-none, run-place}
+use Prim.Native.Nat.{◌-◌}
+use Rattle.decoding.proofs.Gathering.{Fours}
 use Rattle.decoding.specs.Strips.{landing}
 use Rattle.decoding.proofs.strips.runs.Given as goal
 

@@ -1,5 +1,4 @@
 -- `decoding::sweep::forced_gain` meets its contract: the forced gain at its position, and the sample elsewhere.
-use borrow.Author.Rules.{rules}
 use lib.IntN.{pos}
 use lib.ListN.{get_or}
 use lib.Seq.{get_or-set_other, get_or-set_same}

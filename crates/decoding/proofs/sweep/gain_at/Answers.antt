@@ -1,5 +1,4 @@
 -- `decoding::sweep::gain_at` meets its contract: the sign is turned by the bit of the rest.
-use borrow.Author.Rules.{rules}
 use Rattle.decoding.specs.Sweeping.{forced_to}
 use Rattle.decoding.proofs.TurnedSamples.{gain-small, gain-turned}
 use Rattle.decoding.proofs.sweep.gain_at.Goals as goal

@@ -1,11 +1,10 @@
 -- `decoding::sweep::sweep` meets its contract. The loop's invariant: the sweep has come to depth t, which is the measure.
-use borrow.Author.Rules.{rules}
 use lib.ListN.{take}
 use mathlib.Core.Path.{◌≡◌, ◌∙◌, subst}
 use native.Mathlib.Nat.{le_refl}
 use native.Mathlib.Omega.{arith}
-use Prim.Native.Nat.{ℕ, ◌≤◌}
-use Rattle.decoding.specs.Sweeping.{SectionSwept, Swept, gains_of}
+use Prim.Native.Nat.{ℕ}
+use Rattle.decoding.specs.Sweeping.{Swept, gains_of}
 use Rattle.decoding.proofs.SweepEnds.{before-section, kept_refl, kept_trans, room-start, rooms-kept, sweep-start}
 use Rattle.decoding.proofs.sweep.sweep.Goals as goal
 

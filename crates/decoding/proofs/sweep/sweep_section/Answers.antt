@@ -1,5 +1,4 @@
 -- `decoding::sweep::sweep_section` meets its contract, by the laws of proofs/SweepSection.
-use borrow.Author.Rules.{rules}
 use lib.IntN.{ℤ, nat_abs, pos}
 use lib.ListN.{get_or, length-set}
 use mathlib.Core.List.{List}
@@ -8,11 +7,11 @@ use mir.Facts.{to_z-of_z}
 use mir.Syntax.{w32}
 use mir.Val.{SFits}
 use native.Mathlib.Omega.{arith}
-use Prim.Native.Nat.{◌*◌, ◌+◌, ◌≤◌}
+use Prim.Native.Nat.{◌≤◌}
 use Rattle.decoding.specs.Stepping.{gain_limit}
 use Rattle.decoding.specs.Sweeping.{forced_to, gains_of}
 use Rattle.decoding.proofs.MetricBounds.{gain-fits}
-use Rattle.decoding.proofs.SweepSection.{begin-small, from_low, part_room, section-done, step_fits}
+use Rattle.decoding.proofs.SweepSection.{begin-small, from_low, section-done, step_fits}
 use Rattle.decoding.proofs.TurnedSamples.{turned-length, turned-size}
 use Rattle.decoding.proofs.sweep.sweep_section.Goals as goal
 

@@ -1,5 +1,4 @@
 -- `tables::enter` meets its contract.
-use borrow.Author.Rules.{rules}
 use lib.IntN.{ℤ}
 use lib.ListN.{set}
 use mathlib.Core.Path.{ap₂}

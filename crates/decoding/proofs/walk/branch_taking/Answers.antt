@@ -1,5 +1,4 @@
 -- `decoding::walk::branch_taking` meets its contract.
-use borrow.Author.Rules.{rules}
 use borrow.Author.Tests.{eq-eqb, ne_eqb}
 use lib.Pow.{pow_mono}
 use mathlib.Core.Bool.{Bool, cond}

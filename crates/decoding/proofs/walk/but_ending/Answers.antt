@@ -1,6 +1,4 @@
 -- `decoding::walk::but_ending` meets its contract.
-use borrow.Author.Rules.{rules}
-use mathlib.Core.Path.{ap, sym}
 use native.Mathlib.Omega.{arith}
 use Rattle.decoding.proofs.MarkCounts.{none-ends, one-ends}
 use Rattle.decoding.proofs.walk.but_ending.Goals as goal

@@ -1,5 +1,4 @@
 -- `walk::decision` meets its contract.
-use borrow.Author.Rules.{rules}
 use lib.Bits.{and_mask}
 use mathlib.Core.Path.{ap, ◌∙◌}
 use Rattle.words.specs.Word.{bit}

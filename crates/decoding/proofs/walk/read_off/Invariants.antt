@@ -1,14 +1,8 @@
 -- `decoding::walk::read_off` meets its contract. The loop's invariant: the walk has come to depth t. The measure is what is left of n.
-use borrow.Author.Rules.{rules}
-use lib.Bits.{bit_xor}
 use lib.ListN.{take}
-use mathlib.Core.Path.{◌≡◌, ap, subst, sym}
-use native.Mathlib.Numerals.{add-one}
-use native.Mathlib.Omega.{arith}
-use Prim.Native.Nat.{ℕ, ◌-◌, ◌≤◌}
+use Prim.Native.Nat.{◌-◌, ◌≤◌}
 use Rattle.decoding.specs.Sweeping.{Walked}
 use Rattle.decoding.specs.Turning.{turned_by}
-use Rattle.decoding.proofs.WalkEnds.{before-walk, walk_end, walk_start}
 use Rattle.decoding.proofs.walk.read_off.Given as goal
 
 abbrev pub invariant-loop-t : goal.invariant-loop-t

@@ -1,5 +1,4 @@
 -- `decoding::walk::row_taken` meets its contract.
-use borrow.Author.Rules.{rules}
 use borrow.Author.Tests.{eq-eqb, ne_eqb}
 use mathlib.Core.Bool.{Bool, cond}
 use mathlib.Core.Path.{◌∙◌, ap, sym}

@@ -1,8 +1,6 @@
 -- `decoding::walk::walk_section` meets its contract, by the laws of proofs/WalkSection.
-use borrow.Author.Rules.{rules}
-use mathlib.Core.Path.{◌≡◌, refl}
+use mathlib.Core.Path.{refl}
 use native.Mathlib.Omega.{arith}
-use Prim.Native.Nat.{◌<◌}
 use Rattle.decoding.specs.Turning.{turned_by}
 use Rattle.decoding.proofs.PassedRows.{active-fits, ending-few}
 use Rattle.decoding.proofs.WalkSection.{active-is, decision-there, ended-among, ending-counted, live-few, next-few, state_small, walk-begin-small, walked_on}

@@ -1,5 +1,4 @@
 -- `exports::cells::kind_of` meets its contract.
-use borrow.Author.Rules.{rules}
 use Rattle.exports.proofs.CallsMade.{kind-other}
 use Rattle.exports.proofs.cells.kind_of.Goals as goal
 

@@ -1,5 +1,4 @@
 -- `exports::cells::put_reading` meets its contract, by the laws of proofs/ReadingCells.
-use borrow.Author.Rules.{rules}
 use Rattle.exports.proofs.ReadingCells.{bit-fits, put-fixed, put-open}
 use Rattle.exports.proofs.cells.put_reading.Goals as goal
 

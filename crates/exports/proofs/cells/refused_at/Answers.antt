@@ -1,5 +1,4 @@
 -- `exports::cells::refused_at` meets its contract.
-use borrow.Author.Rules.{rules}
 use mathlib.Core.Path.{ap}
 use lib.ListN.{set}
 use Prim.Native.Nat.{ℕ}

@@ -1,5 +1,4 @@
 -- `exports::cells::written_length` meets its contract: the length, or the number of the refusal.
-use borrow.Author.Rules.{rules}
 use mathlib.Core.Path.{◌∙◌, ap, sym}
 use Rattle.exports.proofs.CallsMade.{same_code}
 use Rattle.exports.specs.Crossing.{written_as}

@@ -1,5 +1,4 @@
 -- `exports::flat::put_numbers` meets its contract: three cells.
-use borrow.Author.Rules.{rules}
 use lib.ListN.{length-set, set}
 use native.Mathlib.Omega.{arith}
 use Rattle.exports.proofs.PlatePut.{headed}

@@ -1,5 +1,4 @@
 -- `exports::flat::put_plate` meets its contract: the three steps.
-use borrow.Author.Rules.{rules}
 use Rattle.exports.proofs.PlatePut.{put_whole}
 use Rattle.plates.specs.Prepare.{of_parts}
 use Rattle.exports.proofs.flat.put_plate.Goals as goal

@@ -1,10 +1,8 @@
 -- `exports::flat::put_profile` meets its contract: cell by cell.
-use borrow.Author.Rules.{rules}
-use lib.ListN.{length, length-set}
-use mathlib.Core.Path.{◌≡◌, refl}
+use lib.ListN.{length-set}
+use mathlib.Core.Path.{refl}
 use native.Mathlib.Omega.{arith}
-use lib.Seq.{paste, paste-zero}
-use Prim.Native.Nat.{◌-◌, ◌≤◌}
+use lib.Seq.{paste-zero}
 use Rattle.exports.proofs.CellsCopied.{pasted-end, pasted-on}
 use Rattle.exports.proofs.flat.put_profile.Goals as goal
 

@@ -1,11 +1,8 @@
 -- `exports::flat::put_profile` meets its contract: cell by cell.
-use borrow.Author.Rules.{rules}
-use lib.ListN.{length, length-set}
-use mathlib.Core.Path.{◌≡◌, refl}
-use native.Mathlib.Omega.{arith}
-use lib.Seq.{paste, paste-zero}
+use lib.ListN.{length}
+use mathlib.Core.Path.{◌≡◌}
+use lib.Seq.{paste}
 use Prim.Native.Nat.{◌-◌, ◌≤◌}
-use Rattle.exports.proofs.CellsCopied.{pasted-end, pasted-on}
 use Rattle.exports.proofs.flat.put_profile.Given as goal
 
 abbrev pub invariant-loop-t : goal.invariant-loop-t

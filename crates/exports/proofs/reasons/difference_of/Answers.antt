@@ -1,5 +1,4 @@
 -- `exports::reasons::difference_of` meets its contract.
-use borrow.Author.Rules.{rules}
 use mathlib.Core.Path.{◌∙◌, ap, sym}
 use mir.Facts.{to_z-of_z}
 use mir.Syntax.{w32}

@@ -1,11 +1,7 @@
 -- `exports::receiving::yendrufal_decode` meets its promise.
-use borrow.Author.Rules.{rules}
-use borrow.Author.Tests.{not-false, not-true}
-use lib.ListN.{length}
 use native.Mathlib.Omega.{arith}
 use Rattle.exports.proofs.CallsMade.{misshaped}
 use Rattle.exports.proofs.DecodeCrossed.{decode-found, decode-refused}
-use Rattle.exports.specs.Promises.{DecodeShape}
 use Rattle.exports.proofs.receiving.yendrufal_decode.Goals as goal
 
 pub returns-then-not-decode_shaped : goal.returns-then-not-decode_shaped

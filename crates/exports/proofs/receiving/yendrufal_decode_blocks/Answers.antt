@@ -1,11 +1,7 @@
 -- `exports::receiving::yendrufal_decode_blocks` meets its promise.
-use borrow.Author.Rules.{rules}
-use borrow.Author.Tests.{not-false, not-true}
-use lib.ListN.{length}
 use native.Mathlib.Omega.{arith}
 use Rattle.exports.proofs.BatchCrossed.{batch-found, batch-refused}
 use Rattle.exports.proofs.CallsMade.{misshaped}
-use Rattle.exports.specs.Batches.{BatchShape}
 use Rattle.exports.proofs.receiving.yendrufal_decode_blocks.Goals as goal
 
 pub returns-then-not-batch_shaped : goal.returns-then-not-batch_shaped

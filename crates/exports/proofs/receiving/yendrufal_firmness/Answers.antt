@@ -1,11 +1,8 @@
 -- `exports::receiving::yendrufal_firmness` meets its promise.
-use borrow.Author.Rules.{rules}
-use borrow.Author.Tests.{not-false, not-true}
-use lib.ListN.{length}
 use native.Mathlib.Omega.{arith}
 use Rattle.exports.proofs.CallsMade.{misshaped}
 use Rattle.exports.proofs.FirmnessCrossed.{firmness-found, firmness-refused, reading-fits}
-use Rattle.exports.specs.Judging.{FirmnessCells, FirmnessShape, Judging, firmness_cells}
+use Rattle.exports.specs.Judging.{FirmnessCells, Judging, firmness_cells}
 use Rattle.exports.specs.Flat.{plate_of}
 use Rattle.exports.proofs.receiving.yendrufal_firmness.Goals as goal
 

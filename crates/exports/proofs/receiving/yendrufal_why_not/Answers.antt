@@ -1,11 +1,7 @@
 -- `exports::receiving::yendrufal_why_not` meets its promise.
-use borrow.Author.Rules.{rules}
-use borrow.Author.Tests.{not-false, not-true}
-use lib.ListN.{length}
 use native.Mathlib.Omega.{arith}
 use Rattle.exports.proofs.CallsMade.{misshaped}
 use Rattle.exports.proofs.ReasonCrossed.{why-not-explained, why-not-refused}
-use Rattle.exports.specs.Parting.{PartShape}
 use Rattle.exports.proofs.receiving.yendrufal_why_not.Goals as goal
 
 pub returns-then-not-part_shaped : goal.returns-then-not-part_shaped

@@ -1,5 +1,4 @@
 -- `exports::sheeting::refused_in` meets its contract.
-use borrow.Author.Rules.{rules}
 use mathlib.Core.Path.{ap}
 use Rattle.exports.specs.Sheeting.{place_put}
 use Rattle.plates.specs.declared.Entry.{Entry}

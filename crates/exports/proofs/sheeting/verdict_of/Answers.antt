@@ -1,5 +1,4 @@
 -- `exports::sheeting::verdict_of` meets its contract.
-use borrow.Author.Rules.{rules}
 use mathlib.Core.Path.{ap, sym}
 use Rattle.exports.specs.Sheeting.{verdict_of}
 use Rattle.exports.proofs.sheeting.verdict_of.Goals as goal

@@ -1,5 +1,4 @@
 -- `lines::branch_in` meets its contract.
-use borrow.Author.Rules.{rules}
 use Rattle.judging.proofs.lines.branch_in.Goals as goal
 
 pub returns-in-Is : goal.returns-in-Is

@@ -1,11 +1,5 @@
 -- `lines::clashes_among` meets its contract. The loop's invariant: what is left of the search says what the whole says. The measure is what is left.
-use borrow.Author.Rules.{rules}
-use mathlib.Core.Path.{ap, sym, ◌∙◌, ◌≡◌}
-use native.Mathlib.Omega.{arith}
-use Prim.Native.Nat.{◌-◌, suc}
-use Rattle.judging.specs.Listing.{clash}
-use Rattle.sheets.specs.declared.listed.Branch.{Branch}
-use Rattle.judging.proofs.Reading.{Clashing, clashing-found, clashing-none, clashing-on, clashing-start}
+use Rattle.judging.proofs.Reading.{Clashing}
 use Rattle.judging.proofs.lines.clashes_among.Given as goal
 
 abbrev pub invariant-loop-left : goal.invariant-loop-left

@@ -1,9 +1,6 @@
 -- `lines::count_lines` meets its contract. The loop's invariant: so many lines are read. The measure is what is left of the text.
-use borrow.Author.Rules.{rules}
-use lib.ListN.{length}
 use native.Mathlib.Omega.{arith}
-use Prim.Native.Nat.{◌+◌, ◌-◌}
-use Rattle.judging.proofs.Reading.{Reading, reading-end, reading-on, reading-start}
+use Rattle.judging.proofs.Reading.{reading-end, reading-on, reading-start}
 use Rattle.judging.proofs.lines.count_lines.Goals as goal
 
 pub loop-at-init : goal.loop-at-init

@@ -1,12 +1,10 @@
 -- `lines::first_faulty` meets its contract. The loop's invariant: so many lines are read, none of them faulty. The measure is what is left of the text.
-use borrow.Author.Rules.{rules}
 use lib.ListN.{length}
-use mathlib.Core.Path.{ap, ap₂, refl, sym, ◌∙◌, ◌≡◌}
-use native.Mathlib.Omega.{arith}
+use mathlib.Core.Path.{◌≡◌}
 use Prim.Native.Nat.{◌+◌, ◌-◌}
 use Rattle.sheets.specs.Listed.{entries}
-use Rattle.judging.specs.Listing.{branch_in, depth_before, faulty, faulty_at}
-use Rattle.judging.proofs.Reading.{Reading, Searching, depth-after, reading-end, reading-on, reading-start, searching-found, searching-none, searching-on, searching-start}
+use Rattle.judging.specs.Listing.{depth_before, faulty_at}
+use Rattle.judging.proofs.Reading.{Reading, Searching}
 use Rattle.judging.proofs.lines.first_faulty.Given as goal
 
 abbrev pub invariant-loop-at : goal.invariant-loop-at

@@ -1,12 +1,9 @@
 -- `lines::first_repeating` meets its contract. The loop's invariant: so many lines are read, none of which repeats. The measure is what is left of the text.
-use borrow.Author.Rules.{rules}
-use lib.ListN.{length}
 use mathlib.Core.Path.{ap, sym, ◌∙◌}
 use native.Mathlib.Omega.{arith}
-use Prim.Native.Nat.{◌+◌, ◌-◌}
 use Rattle.sheets.specs.Listed.{entries}
-use Rattle.judging.specs.Listing.{branch_in, clashes, repeats_at}
-use Rattle.judging.proofs.Reading.{Reading, Searching, reading-end, reading-on, reading-start, searching-found, searching-none, searching-on, searching-start}
+use Rattle.judging.specs.Listing.{branch_in, clashes}
+use Rattle.judging.proofs.Reading.{reading-end, reading-on, reading-start, searching-found, searching-none, searching-on, searching-start}
 use Rattle.judging.proofs.lines.first_repeating.Goals as goal
 
 pub loop-at-init : goal.loop-at-init

@@ -1,5 +1,4 @@
 -- `lines::is_faulty` meets its contract.
-use borrow.Author.Rules.{rules}
 use Rattle.judging.proofs.lines.is_faulty.Goals as goal
 
 pub returns-in-Is : goal.returns-in-Is

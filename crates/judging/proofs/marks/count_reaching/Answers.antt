@@ -1,12 +1,9 @@
 -- `marks::count_reaching` meets its contract. The loop's invariant: so many of the lines from j on pass. The measure is j.
-use borrow.Author.Rules.{rules}
 use native.Mathlib.Omega.{arith}
 use mathlib.Core.Bool.{Bool}
 use mathlib.Core.Path.{◌∙◌, ap}
-use Prim.Native.Nat.{◌-◌}
 use Rattle.words.specs.Choice.{more}
-use Rattle.judging.specs.Marks.{reach_test}
-use Rattle.judging.proofs.Counting.{Tallied, tallied-end, tallied-on, tallied-small, tallied-start}
+use Rattle.judging.proofs.Counting.{tallied-end, tallied-on, tallied-small, tallied-start}
 use Rattle.judging.proofs.marks.count_reaching.Goals as goal
 
 pub loop-j-init : goal.loop-j-init

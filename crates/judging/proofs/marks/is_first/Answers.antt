@@ -1,5 +1,4 @@
 -- `marks::is_first` meets its contract.
-use borrow.Author.Rules.{rules}
 use mathlib.Core.Path.{◌∙◌, ap, sym}
 use lib.Dec.{eqb}
 use Prim.Native.Nat.{ℕ}

@@ -1,5 +1,4 @@
 -- `marks::is_same` meets its contract.
-use borrow.Author.Rules.{rules}
 use mathlib.Core.Path.{◌∙◌, sym}
 use Rattle.judging.proofs.marks.is_same.Goals as goal
 

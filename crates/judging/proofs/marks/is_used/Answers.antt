@@ -1,5 +1,4 @@
 -- `marks::is_used` meets its contract.
-use borrow.Author.Rules.{rules}
 use borrow.Author.Tests.{eq-eqb, ne_eqb}
 use Prim.Native.Nat.{◌/◌}
 use Rattle.judging.specs.Marks.{mark_at}

@@ -1,5 +1,4 @@
 -- `marks::mark_of` meets its contract.
-use borrow.Author.Rules.{rules}
 use Rattle.judging.proofs.MarkSteps.{mark-none, mark-start, mark-start-not, mark-some}
 use Rattle.judging.proofs.marks.mark_of.Goals as goal
 

@@ -1,5 +1,4 @@
 -- `marks::raised` meets its contract.
-use borrow.Author.Rules.{rules}
 use native.Mathlib.Numerals.{add-one}
 use Rattle.judging.proofs.marks.raised.Goals as goal
 

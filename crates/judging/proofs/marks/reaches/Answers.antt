@@ -1,5 +1,4 @@
 -- `marks::reaches` meets its contract.
-use borrow.Author.Rules.{rules}
 use borrow.Author.Tests.{eq-eqb, ne_eqb}
 use Prim.Native.Nat.{◌/◌}
 use Rattle.judging.specs.Room.{lead_at, start_at}

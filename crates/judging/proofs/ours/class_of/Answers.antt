@@ -1,5 +1,4 @@
 -- `ours::class_of` meets its contract.
-use borrow.Author.Rules.{rules}
 use native.Mathlib.Omega.{arith}
 use Rattle.judging.proofs.Follows.{classed-beyond, classed-found, classed-none}
 use Rattle.judging.proofs.ours.class_of.Goals as goal

@@ -1,5 +1,4 @@
 -- `ours::end_of` meets its contract.
-use borrow.Author.Rules.{rules}
 use Rattle.judging.proofs.ours.end_of.Goals as goal
 
 pub returns-then-section : goal.returns-then-section

@@ -1,11 +1,10 @@
 -- `ours::first_suiting` meets its contract.
-use borrow.Author.Rules.{rules}
 use mathlib.Core.Path.{◌∙◌, ap, sym}
 use native.Mathlib.Numerals.{add-one}
 use native.Mathlib.Omega.{arith}
-use Prim.Native.Nat.{ℕ, ◌-◌, ◌^◌, ◌≤◌, suc}
+use Prim.Native.Nat.{ℕ}
 use Rattle.judging.specs.Ours.{suits}
-use Rattle.judging.proofs.Reading.{Searching, searching-found, searching-none, searching-on, searching-start}
+use Rattle.judging.proofs.Reading.{searching-found, searching-none, searching-on, searching-start}
 use Rattle.judging.proofs.ours.first_suiting.Goals as goal
 
 pub loop-a-init : goal.loop-a-init

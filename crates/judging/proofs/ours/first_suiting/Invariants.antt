@@ -1,11 +1,7 @@
 -- `ours::first_suiting` meets its contract.
-use borrow.Author.Rules.{rules}
-use mathlib.Core.Path.{◌∙◌, ap, sym}
-use native.Mathlib.Numerals.{add-one}
-use native.Mathlib.Omega.{arith}
-use Prim.Native.Nat.{ℕ, ◌-◌, ◌^◌, ◌≤◌, suc}
+use Prim.Native.Nat.{◌-◌, ◌^◌, ◌≤◌, suc}
 use Rattle.judging.specs.Ours.{suits}
-use Rattle.judging.proofs.Reading.{Searching, searching-found, searching-none, searching-on, searching-start}
+use Rattle.judging.proofs.Reading.{Searching}
 use Rattle.judging.proofs.ours.first_suiting.Given as goal
 
 abbrev pub invariant-loop-a : goal.invariant-loop-a

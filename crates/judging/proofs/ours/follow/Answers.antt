@@ -1,5 +1,4 @@
 -- `ours::follow` meets its contract.
-use borrow.Author.Rules.{rules}
 use lib.Pow.{pow_mono}
 use mathlib.Core.Path.{◌∙◌, sym}
 use native.Mathlib.Omega.{arith}

@@ -1,5 +1,4 @@
 -- `ours::suiting` meets its contract.
-use borrow.Author.Rules.{rules}
 use borrow.Author.Tests.{eq-eqb, ne_eqb}
 use lib.Dec.{eqb}
 use mathlib.Core.Path.{◌∙◌, ap, sym}

@@ -1,14 +1,10 @@
 -- `rooms::fill` meets its contract. The loop's invariant: the branches of the lines read stand in the room. The measure is what is left of the text.
-use borrow.Author.Rules.{rules}
 use lib.ListN.{length}
-use mathlib.Core.Path.{ap, refl, subst, sym, ◌∙◌, ◌≡◌}
-use native.Mathlib.Omega.{arith}
-use Prim.Native.Nat.{ℕ, ◌+◌, ◌-◌}
+use mathlib.Core.Path.{◌≡◌}
+use Prim.Native.Nat.{◌+◌, ◌-◌}
 use Rattle.sheets.specs.Listed.{entries}
-use Rattle.judging.specs.Listing.{branch_in}
-use Rattle.judging.specs.Room.{InRange, Stored}
-use Rattle.judging.proofs.Reading.{Reading, reading-end, reading-on, reading-start}
-use Rattle.judging.proofs.RoomSteps.{stored_more, stored-none}
+use Rattle.judging.specs.Room.{Stored}
+use Rattle.judging.proofs.Reading.{Reading}
 use Rattle.judging.proofs.rooms.fill.Given as goal
 
 abbrev pub invariant-loop-at : goal.invariant-loop-at

@@ -1,10 +1,8 @@
 -- `rooms::find` meets its contract. The loop's invariant: no line before j has that start. The measure is what is left.
-use borrow.Author.Rules.{rules}
 use borrow.Author.Tests.{eq-eqb, ne_eqb}
 use native.Mathlib.Omega.{arith}
-use Prim.Native.Nat.{◌-◌, ◌≤◌}
-use Rattle.judging.specs.Room.{key_test, start_at}
-use Rattle.judging.proofs.Reading.{Searching, searching-found, searching-none, searching-on, searching-start}
+use Rattle.judging.specs.Room.{start_at}
+use Rattle.judging.proofs.Reading.{searching-found, searching-none, searching-on, searching-start}
 use Rattle.judging.proofs.rooms.find.Goals as goal
 
 pub loop-j-init : goal.loop-j-init

@@ -1,5 +1,4 @@
 -- `rooms::lead_number` meets its contract.
-use borrow.Author.Rules.{rules}
 use native.Mathlib.Omega.{arith}
 use Rattle.judging.proofs.RoomSteps.{lead-none, lead-there}
 use Rattle.judging.proofs.rooms.lead_number.Goals as goal

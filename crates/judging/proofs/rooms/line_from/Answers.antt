@@ -1,5 +1,4 @@
 -- `rooms::line_from` meets its contract.
-use borrow.Author.Rules.{rules}
 use Rattle.judging.proofs.RoomSteps.{line-none, line-some}
 use Rattle.judging.proofs.rooms.line_from.Goals as goal
 

@@ -1,5 +1,4 @@
 -- `rooms::put` meets its contract.
-use borrow.Author.Rules.{rules}
 use lib.ListN.{length-set}
 use Prim.Native.Nat.{◌*◌}
 use native.Mathlib.Omega.{arith}

@@ -1,5 +1,4 @@
 -- `rooms::told_number` meets its contract.
-use borrow.Author.Rules.{rules}
 use Rattle.judging.proofs.RoomSteps.{told_none, told-there}
 use Rattle.judging.proofs.rooms.told_number.Goals as goal
 

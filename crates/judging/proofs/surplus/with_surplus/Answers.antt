@@ -1,5 +1,4 @@
 -- `surplus::with_surplus` meets its contract.
-use borrow.Author.Rules.{rules}
 use mathlib.Core.Path.{◌∙◌, subst, sym}
 use Rattle.judging.specs.declared.Judged.{Judged}
 use Rattle.judging.specs.Room.{theirs}

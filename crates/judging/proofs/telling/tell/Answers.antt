@@ -1,5 +1,4 @@
 -- `telling::tell` meets its contract.
-use borrow.Author.Rules.{rules}
 use native.Mathlib.Omega.{arith}
 use mathlib.Core.Path.{subst}
 use native.Mathlib.Numerals.{add-one}

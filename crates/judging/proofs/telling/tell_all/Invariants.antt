@@ -1,9 +1,5 @@
 -- `telling::tell_all` meets its contract. The loop's invariant: the lines from i on are told. The measure is i.
-use borrow.Author.Rules.{rules}
-use native.Mathlib.Omega.{arith}
-use mathlib.Core.Path.{◌≡◌, subst}
-use Prim.Native.Nat.{ℕ, ◌-◌, ◌<◌, ◌≤◌, suc}
-use Rattle.judging.proofs.RoomTold.{asking, depth_below, lead-small, same_more, same_none, told_more, told_none}
+use Prim.Native.Nat.{◌≤◌}
 use Rattle.judging.specs.Room.{SameLines, ToldFrom, theirs}
 use Rattle.judging.proofs.telling.tell_all.Given as goal
 

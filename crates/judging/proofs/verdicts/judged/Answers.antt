@@ -1,5 +1,4 @@
 -- `verdicts::judged` meets its contract.
-use borrow.Author.Rules.{rules}
 use Rattle.judging.proofs.JudgingCalls.{cleared-of, filled-ready, judged-to, surplus-for, told-asks}
 use Rattle.judging.proofs.CleanLines.{all-in-range}
 use Rattle.judging.proofs.verdicts.judged.Goals as goal

@@ -1,5 +1,4 @@
 -- `walking::step` meets its contract.
-use borrow.Author.Rules.{rules}
 use native.Mathlib.Omega.{arith}
 use lib.Bits.{bit_xor}
 use mathlib.Core.Path.{◌∙◌, ap, sym}

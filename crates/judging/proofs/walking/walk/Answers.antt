@@ -1,8 +1,7 @@
 -- `walking::walk` meets its contract. The loop's invariant: the ways from the two numbers differ, and their earliest difference makes the whole. The measure is what is left.
-use borrow.Author.Rules.{rules}
 use native.Mathlib.Omega.{arith}
 use mathlib.Core.Path.{◌≡◌, subst}
-use Prim.Native.Nat.{ℕ, ◌-◌}
+use Prim.Native.Nat.{ℕ}
 use Rattle.judging.proofs.StatesTold.{end-states, start-states}
 use Rattle.judging.proofs.WalkSteps.{Walked, walked_end, walked_on, walked_start}
 use Rattle.judging.specs.Ours.{ours}

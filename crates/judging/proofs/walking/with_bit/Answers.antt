@@ -1,5 +1,4 @@
 -- `walking::with_bit` meets its contract.
-use borrow.Author.Rules.{rules}
 use native.Mathlib.Omega.{arith}
 use lib.Pow.{pow_mono}
 use Rattle.judging.proofs.WalkSteps.{bit-left, bit-set}

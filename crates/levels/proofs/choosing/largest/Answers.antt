@@ -1,8 +1,5 @@
 -- `levels::choosing::largest` meets its contract. The loop's invariant: the level of the value is less than span above the level. The measure is the span.
-use borrow.Author.Rules.{rules}
 use native.Mathlib.Omega.{arith}
-use Prim.Native.Nat.{◌≤◌}
-use Rattle.levels.specs.Testing.{Within}
 use Rattle.levels.proofs.Narrowing.{within_end, within-half, within-start}
 use Rattle.levels.proofs.choosing.largest.Goals as goal
 

@@ -1,5 +1,4 @@
 -- `levels::choosing::level_of_sample` meets its contract.
-use borrow.Author.Rules.{rules}
 use mathlib.Core.Path.{refl, subst, sym}
 use mir.Facts.{to_z-of_z}
 use mir.Syntax.{w16}

@@ -1,5 +1,4 @@
 -- `levels::choosing::level_of_value` meets its contract.
-use borrow.Author.Rules.{rules}
 use lib.Dec.{T}
 use lib.Ieee.{of_bits}
 use lib.IntN.{+ℤ_idl}

@@ -1,5 +1,4 @@
 -- `levels::choosing::raised` meets its contract.
-use borrow.Author.Rules.{rules}
 use lib.Ieee.{Float, le}
 use mathlib.Core.Logic.{inl, inr}
 use mathlib.Core.Path.{ap, refl}

@@ -1,14 +1,11 @@
 -- `levels::choosing::write_levels` meets its contract. The loop's invariant: the room has the levels before i.
-use borrow.Author.Rules.{rules}
-use lib.IntN.{pos}
-use lib.ListN.{get_or, length, length-set}
-use mathlib.Core.Path.{◌≡◌, ap, subst, sym, ◌∙◌}
+use lib.ListN.{length-set}
+use mathlib.Core.Path.{ap, subst, sym, ◌∙◌}
 use mir.Facts.{to_z-of_z}
 use mir.Syntax.{w16}
 use native.Mathlib.Omega.{arith}
-use Prim.Native.Nat.{ℕ, ◌-◌, ◌<◌, ◌≤◌}
 use Rattle.levels.specs.declared.Sample.{Sample}
-use Rattle.levels.specs.Choosing.{LevelOfSample, sample_at, sample_of}
+use Rattle.levels.specs.Choosing.{LevelOfSample, sample_of}
 use Rattle.levels.specs.Testing.{IsNumber}
 use Rattle.levels.proofs.RoomWritten.{one_more}
 use Rattle.levels.proofs.choosing.write_levels.Goals as goal

@@ -1,6 +1,4 @@
 -- `levels::settings::is_good` meets its contract.
-use borrow.Author.Rules.{rules}
-use borrow.Author.Tests.{not-false, not-true}
 use lib.Ieee.{of_bits}
 use lib.Ieee.Scale.{finite}
 use mathlib.Core.Path.{◌∙◌, ap}

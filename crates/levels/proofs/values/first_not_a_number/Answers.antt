@@ -1,10 +1,8 @@
 -- `levels::values::first_not_a_number` meets its contract. The loop's invariant: the samples before i are erased or numbers.
 use borrow.Author.Count.{below_more}
-use borrow.Author.Rules.{rules}
-use lib.ListN.{length}
 use mathlib.Core.Path.{ap, ◌∙◌}
 use native.Mathlib.Omega.{arith}
-use Prim.Native.Nat.{ℕ, ◌-◌, ◌<◌, ◌≤◌}
+use Prim.Native.Nat.{ℕ}
 use Rattle.levels.specs.Choosing.{sample_at, sample_of}
 use Rattle.levels.specs.Giving.{not_a_number}
 use Rattle.levels.specs.Testing.{IsNumber}

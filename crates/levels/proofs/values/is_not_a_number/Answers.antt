@@ -1,5 +1,4 @@
 -- `levels::values::is_not_a_number` meets its contract.
-use borrow.Author.Rules.{rules}
 use mathlib.Core.Path.{ap, sym, ◌∙◌}
 use Rattle.levels.specs.Giving.{not_a_number}
 use Rattle.levels.proofs.Tests.{differs-is}

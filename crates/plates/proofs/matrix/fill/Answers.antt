@@ -1,5 +1,4 @@
 -- `plates::matrix::fill` meets its contract: the rows themselves, or the words that pass them.
-use borrow.Author.Rules.{rules}
 use Rattle.plates.proofs.CheckTaken.{checked}
 use Rattle.plates.proofs.TableFilled.{loaded, units-table}
 use Rattle.plates.proofs.matrix.fill.Goals as goal

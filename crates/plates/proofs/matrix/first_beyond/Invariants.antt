@@ -1,10 +1,7 @@
 -- `plates::matrix::first_beyond` meets its contract: a search.
-use borrow.Author.Rules.{rules}
 use lib.ListN.{length}
-use native.Mathlib.Omega.{arith}
 use Prim.Native.Nat.{◌-◌}
-use Rattle.plates.proofs.Gaining.{tells-not}
-use Rattle.plates.proofs.Searching.{NotYet, search-found, search-on, search-over, search-start}
+use Rattle.plates.proofs.Searching.{NotYet}
 use Rattle.plates.specs.Working.{Beyond}
 use Rattle.plates.proofs.matrix.first_beyond.Given as goal
 

@@ -1,11 +1,7 @@
 -- `plates::matrix::load_rows` meets its contract: place by place.
-use borrow.Author.Rules.{rules}
-use lib.ListN.{length}
 use mathlib.Core.Path.{refl}
 use native.Mathlib.Omega.{arith}
-use Prim.Native.Nat.{◌-◌, ◌≤◌}
 use Rattle.plates.proofs.TableFilled.{holds-end, holds_on, holds-start}
-use Rattle.plates.specs.Filling.{Holds, row_at}
 use Rattle.plates.proofs.matrix.load_rows.Goals as goal
 
 pub loop-i-init : goal.loop-i-init

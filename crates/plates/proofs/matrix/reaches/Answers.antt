@@ -1,5 +1,4 @@
 -- `plates::matrix::reaches` meets its contract.
-use borrow.Author.Rules.{rules}
 use Rattle.plates.proofs.Replies.{last-beyond, last-short, zero-short}
 use Rattle.plates.proofs.matrix.reaches.Goals as goal
 

@@ -1,5 +1,4 @@
 -- `plates::matrix::take_check` meets its contract: with an odd row, or with none.
-use borrow.Author.Rules.{rules}
 use mathlib.Core.Path.{refl}
 use native.Mathlib.Omega.{arith}
 use Rattle.plates.proofs.CheckTaken.{check-found, check-none}

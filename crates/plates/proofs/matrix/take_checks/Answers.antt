@@ -1,11 +1,7 @@
 -- `plates::matrix::take_checks` meets its contract: one check after the other.
-use borrow.Author.Rules.{rules}
-use lib.ListN.{length}
 use mathlib.Core.Path.{refl}
 use native.Mathlib.Omega.{arith}
-use Prim.Native.Nat.{◌-◌, ◌≤◌}
 use Rattle.plates.proofs.CheckTaken.{passing-end, passing-none, passing-on}
-use Rattle.plates.specs.Filling.{Passing}
 use Rattle.plates.proofs.matrix.take_checks.Goals as goal
 
 pub loop-i-init : goal.loop-i-init

@@ -1,9 +1,6 @@
 -- `plates::matrix::unit_words` meets its contract: place by place.
-use borrow.Author.Rules.{rules}
 use native.Mathlib.Omega.{arith}
-use Prim.Native.Nat.{◌-◌, ◌≤◌}
 use Rattle.plates.proofs.TableFilled.{holds-end, holds_on, holds-start, shifted_one}
-use Rattle.plates.specs.Filling.{Holds, unit}
 use Rattle.plates.proofs.matrix.unit_words.Goals as goal
 
 pub loop-i-init : goal.loop-i-init

@@ -1,8 +1,6 @@
 -- `plates::profile::first_wide` meets its contract: a search.
-use borrow.Author.Rules.{rules}
-use native.Mathlib.Omega.{arith}
 use Prim.Native.Nat.{◌+◌, ◌-◌}
-use Rattle.plates.proofs.Searching.{NotYet, search-found, search-on, search-over, search-start}
+use Rattle.plates.proofs.Searching.{NotYet}
 use Rattle.plates.specs.Working.{OverTwelve}
 use Rattle.plates.proofs.profile.first_wide.Given as goal
 

@@ -1,5 +1,4 @@
 -- `plates::profile::next_live` meets its contract.
-use borrow.Author.Rules.{rules}
 use native.Mathlib.Omega.{arith}
 use Rattle.words.proofs.Word.{bit-lt}
 use Rattle.plates.proofs.profile.next_live.Goals as goal

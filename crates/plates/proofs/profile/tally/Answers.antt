@@ -1,9 +1,6 @@
 -- `plates::profile::tally` meets its contract: depth by depth.
-use borrow.Author.Rules.{rules}
 use native.Mathlib.Omega.{arith}
-use Prim.Native.Nat.{◌-◌, ◌≤◌}
-use Rattle.plates.proofs.ProfilePassed.{Passed, next_fits, next-ready, passed-end, passed_on, passed_start}
-use Rattle.plates.specs.Profile.{live}
+use Rattle.plates.proofs.ProfilePassed.{next_fits, next-ready, passed-end, passed_on, passed_start}
 use Rattle.plates.proofs.profile.tally.Goals as goal
 
 pub loop-t-init : goal.loop-t-init

@@ -1,10 +1,7 @@
 -- `plates::reduce::clear_heads` meets its contract: row by row.
-use borrow.Author.Rules.{rules}
 use native.Mathlib.Omega.{arith}
-use Prim.Native.Nat.{◌-◌, ◌≤◌}
 use Rattle.plates.proofs.HeadsCleared.{clear-end, clear-on, clear-start}
 use Rattle.plates.proofs.LastOnesParted.{row-ready}
-use Rattle.plates.specs.Reducing.{ClearedFrom}
 use Rattle.plates.proofs.reduce.clear_heads.Goals as goal
 
 pub loop-j-init : goal.loop-j-init

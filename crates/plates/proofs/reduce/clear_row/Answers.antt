@@ -1,5 +1,4 @@
 -- `plates::reduce::clear_row` meets its contract.
-use borrow.Author.Rules.{rules}
 use native.Mathlib.Omega.{arith}
 use Rattle.plates.proofs.Gaining.{gained-row}
 use Rattle.plates.proofs.reduce.clear_row.Goals as goal

@@ -1,5 +1,4 @@
 -- `plates::reduce::column` meets its contract: with a row that has a one in the column, or with none.
-use borrow.Author.Rules.{rules}
 use Rattle.plates.proofs.FirstOnesRise.{column-found, column-none, pivot-ready}
 use Rattle.plates.proofs.TableFilled.{shifted_one}
 use Rattle.plates.proofs.reduce.column.Goals as goal

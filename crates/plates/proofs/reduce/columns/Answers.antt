@@ -1,9 +1,6 @@
 -- `plates::reduce::columns` meets its contract: column by column.
-use borrow.Author.Rules.{rules}
 use native.Mathlib.Omega.{arith}
-use Prim.Native.Nat.{◌-◌}
 use Rattle.plates.proofs.FirstOnesRise.{columns-end, columns-on, columns-start}
-use Rattle.plates.specs.Reducing.{EchelonFrom}
 use Rattle.plates.proofs.reduce.columns.Goals as goal
 
 pub loop-c-init : goal.loop-c-init

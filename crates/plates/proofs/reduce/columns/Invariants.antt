@@ -1,8 +1,5 @@
 -- `plates::reduce::columns` meets its contract: column by column.
-use borrow.Author.Rules.{rules}
-use native.Mathlib.Omega.{arith}
 use Prim.Native.Nat.{◌-◌}
-use Rattle.plates.proofs.FirstOnesRise.{columns-end, columns-on, columns-start}
 use Rattle.plates.specs.Reducing.{EchelonFrom}
 use Rattle.plates.proofs.reduce.columns.Given as goal
 

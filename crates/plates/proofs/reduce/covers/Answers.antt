@@ -1,5 +1,4 @@
 -- `plates::reduce::covers` meets its contract.
-use borrow.Author.Rules.{rules}
 use Rattle.plates.proofs.HeadsCleared.{covers-no, covers-yes}
 use Rattle.plates.proofs.reduce.covers.Goals as goal
 

@@ -1,5 +1,4 @@
 -- `plates::reduce::ends_at` meets its contract.
-use borrow.Author.Rules.{rules}
 use Rattle.plates.proofs.LastOnesParted.{ends-no, ends-yes}
 use Rattle.plates.proofs.reduce.ends_at.Goals as goal
 

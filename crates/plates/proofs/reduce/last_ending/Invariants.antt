@@ -1,7 +1,5 @@
 -- `plates::reduce::last_ending` meets its contract: a search from the end.
-use borrow.Author.Rules.{rules}
-use Rattle.plates.proofs.Gaining.{tells-not}
-use Rattle.plates.proofs.Searching.{NoneFrom, down-found, down-on, down-over, down-start}
+use Rattle.plates.proofs.Searching.{NoneFrom}
 use Rattle.plates.specs.Working.{EndsAt}
 use Rattle.plates.proofs.reduce.last_ending.Given as goal
 

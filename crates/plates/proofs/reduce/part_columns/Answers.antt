@@ -1,9 +1,6 @@
 -- `plates::reduce::part_columns` meets its contract: column by column, from the right.
-use borrow.Author.Rules.{rules}
 use native.Mathlib.Omega.{arith}
-use Prim.Native.Nat.{◌≤◌}
 use Rattle.plates.proofs.LastOnesParted.{parted-before, parts-end, parts-on, parts-start}
-use Rattle.plates.specs.Reducing.{PartedFrom}
 use Rattle.plates.proofs.reduce.part_columns.Goals as goal
 
 pub loop-c-init : goal.loop-c-init

@@ -1,5 +1,4 @@
 -- `plates::reduce::part_row` meets its contract.
-use borrow.Author.Rules.{rules}
 use native.Mathlib.Omega.{arith}
 use Rattle.plates.proofs.Gaining.{gained-row}
 use Rattle.plates.proofs.reduce.part_row.Goals as goal

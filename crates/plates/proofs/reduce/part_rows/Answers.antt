@@ -1,11 +1,8 @@
 -- `plates::reduce::part_rows` meets its contract: row after row.
-use borrow.Author.Rules.{rules}
 use mathlib.Core.Logic.{inr}
 use mathlib.Core.Path.{◌∙◌}
 use native.Mathlib.Omega.{arith}
-use Prim.Native.Nat.{◌-◌, ◌≤◌}
 use Rattle.plates.proofs.Gaining.{gained-end, gained-none, gained-on}
-use Rattle.plates.specs.Working.{EndsAt, Gained}
 use Rattle.plates.proofs.reduce.part_rows.Goals as goal
 
 pub loop-i-init : goal.loop-i-init

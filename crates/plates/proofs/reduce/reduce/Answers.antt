@@ -1,5 +1,4 @@
 -- `plates::reduce::reduce` meets its contract: the three stages one after the other.
-use borrow.Author.Rules.{rules}
 use Rattle.plates.proofs.Gaining.{narrow-same}
 use Rattle.plates.proofs.HeadsCleared.{all-reduced}
 use Rattle.plates.proofs.reduce.reduce.Goals as goal

@@ -1,5 +1,4 @@
 -- `plates::rows::even_row` meets its contract: a parity tells whether it is odd.
-use borrow.Author.Rules.{rules}
 use native.Mathlib.Omega.{arith}
 use Rattle.plates.proofs.Gaining.{gained-row, odd-tells}
 use Rattle.plates.proofs.rows.even_row.Goals as goal

@@ -1,11 +1,8 @@
 -- `plates::rows::even_rows` meets its contract: row after row.
-use borrow.Author.Rules.{rules}
 use mathlib.Core.Logic.{inl}
 use mathlib.Core.Path.{◌∙◌}
 use native.Mathlib.Omega.{arith}
-use Prim.Native.Nat.{◌+◌, ◌-◌, ◌≤◌}
 use Rattle.plates.proofs.Gaining.{gained-end, gained-none, gained-on}
-use Rattle.plates.specs.Working.{Gained, Odd}
 use Rattle.plates.proofs.rows.even_rows.Goals as goal
 
 pub loop-i-init : goal.loop-i-init

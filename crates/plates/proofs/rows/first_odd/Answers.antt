@@ -1,10 +1,7 @@
 -- `plates::rows::first_odd` meets its contract: a search.
-use borrow.Author.Rules.{rules}
 use mathlib.Core.Path.{sym, ◌∙◌}
 use native.Mathlib.Omega.{arith}
-use Prim.Native.Nat.{◌-◌}
-use Rattle.plates.proofs.Searching.{NotYet, search-found, search-on, search-over, search-start}
-use Rattle.plates.specs.Working.{Odd}
+use Rattle.plates.proofs.Searching.{search-found, search-on, search-over, search-start}
 use Rattle.plates.proofs.rows.first_odd.Goals as goal
 
 pub loop-i-init : goal.loop-i-init

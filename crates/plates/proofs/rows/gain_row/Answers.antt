@@ -1,5 +1,4 @@
 -- `plates::rows::gain_row` meets its contract.
-use borrow.Author.Rules.{rules}
 use Rattle.plates.proofs.rows.gain_row.Goals as goal
 
 pub returns : goal.returns

@@ -1,5 +1,4 @@
 -- `plates::rows::word_taken` meets its contract.
-use borrow.Author.Rules.{rules}
 use Rattle.plates.proofs.Gaining.{taken-some}
 use Rattle.plates.proofs.rows.word_taken.Goals as goal
 

@@ -1,10 +1,7 @@
 -- `plates::tested::all_heads` meets its contract. The loop's invariant: the word has the heads of the rows passed.
-use borrow.Author.Rules.{rules}
-use lib.ListN.{length}
 use native.Mathlib.Omega.{arith}
-use Prim.Native.Nat.{◌-◌, ◌<◌, ◌≤◌}
+use Prim.Native.Nat.{◌<◌}
 use Rattle.plates.proofs.HeadsClear.{heads-next, heads-none, heads-same}
-use Rattle.plates.specs.Tested.{HeadsOf}
 use Rattle.plates.proofs.tested.all_heads.Goals as goal
 
 pub loop-i-init : goal.loop-i-init

@@ -1,5 +1,4 @@
 -- `plates::tested::ending_at` meets its contract.
-use borrow.Author.Rules.{rules}
 use borrow.Author.Tests.{le-ltb, lt-ltb}
 use Rattle.plates.proofs.tested.ending_at.Goals as goal
 

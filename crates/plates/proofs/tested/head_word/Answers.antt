@@ -1,5 +1,4 @@
 -- `plates::tested::head_word` meets its contract: 1 moved up to the first one is the power of 2 there.
-use borrow.Author.Rules.{rules}
 use lib.Pow.{shl_exact}
 use mathlib.Core.Path.{◌∙◌, ap, refl}
 use native.Mathlib.Nat.{one-mul}

@@ -1,9 +1,7 @@
 -- `plates::tested::heads_clear` meets its contract. The loop's invariant: the rows that end before t are cleared, and the word has their heads.
-use borrow.Author.Rules.{rules}
 use native.Mathlib.Omega.{arith}
-use Prim.Native.Nat.{◌-◌}
 use Rattle.plates.proofs.Deciding.{fails, holds}
-use Rattle.plates.proofs.HeadsClear.{ClearedTo, cleared-all, cleared_more, cleared-none, cleared-stop}
+use Rattle.plates.proofs.HeadsClear.{cleared-all, cleared_more, cleared-none, cleared-stop}
 use Rattle.plates.proofs.tested.heads_clear.Goals as goal
 
 pub loop-t-init : goal.loop-t-init

@@ -1,5 +1,4 @@
 -- `plates::tested::may_follow` meets its contract.
-use borrow.Author.Rules.{rules}
 use native.Mathlib.Omega.{arith}
 use Rattle.plates.proofs.Deciding.{fails, holds}
 use Rattle.plates.proofs.RowsPlaced.{begins-soon, ends-late, ends-together, follows}

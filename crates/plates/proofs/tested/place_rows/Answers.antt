@@ -1,10 +1,6 @@
 -- `plates::tested::place_rows` meets its contract. The loop's invariant: the rows passed stand as a plate's do, and are in the table.
-use borrow.Author.Rules.{rules}
-use lib.ListN.{get_or, length}
 use native.Mathlib.Omega.{arith}
-use Prim.Native.Nat.{◌-◌, ◌<◌, ◌^◌}
-use Rattle.plates.proofs.Deciding.{failed, held}
-use Rattle.plates.proofs.RowsPlaced.{Seen, first-inside, last-inside, seen_all, seen_next, seen_none, seen-stop}
+use Rattle.plates.proofs.RowsPlaced.{first-inside, last-inside, seen_all, seen_next, seen_none, seen-stop}
 use Rattle.plates.proofs.tested.place_rows.Goals as goal
 
 pub loop-i-init : goal.loop-i-init

@@ -1,10 +1,6 @@
 -- `plates::tested::profile_is` meets its contract. The loop's invariant: the entries before t are the rows' own, and `live` rows are live at t.
-use borrow.Author.Rules.{rules}
-use native.Mathlib.Omega.{arith}
 use Prim.Native.Nat.{◌-◌}
-use Rattle.plates.proofs.Deciding.{failed, fails, held}
-use Rattle.plates.proofs.ProfileTested.{ProfiledTo, next-live, profiled-all, profiled-more, profiled-none, profiled-stop}
-use Rattle.words.proofs.Word.{bit-lt}
+use Rattle.plates.proofs.ProfileTested.{ProfiledTo}
 use Rattle.plates.proofs.tested.profile_is.Given as goal
 
 abbrev pub invariant-loop-t : goal.invariant-loop-t

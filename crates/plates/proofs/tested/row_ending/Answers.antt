@@ -1,5 +1,4 @@
 -- `plates::tested::row_ending` meets its contract.
-use borrow.Author.Rules.{rules}
 use native.Mathlib.Omega.{arith}
 use Rattle.plates.proofs.RowsPlaced.{entry-le, none-ending, some-ending}
 use Rattle.plates.proofs.tested.row_ending.Goals as goal

@@ -1,10 +1,9 @@
 -- `plates::tested::sound` meets its contract.
-use borrow.Author.Rules.{rules}
 use lib.ListN.{length-take}
 use lib.Seq.{length-take-le}
 use mathlib.Core.Path.{sym}
 use native.Mathlib.Omega.{arith}
-use Rattle.plates.proofs.Deciding.{alike, failed, fails, held}
+use Rattle.plates.proofs.Deciding.{alike, fails}
 use Rattle.plates.proofs.Replies.{mask-short}
 use Rattle.plates.proofs.SoundParts.{entries-part, rows-part, sound-parts, used-part}
 use Rattle.plates.proofs.tested.sound.Goals as goal

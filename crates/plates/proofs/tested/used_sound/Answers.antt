@@ -1,6 +1,5 @@
 -- `plates::tested::used_sound` meets its contract.
-use borrow.Author.Tests.{not-false}
-use Rattle.plates.proofs.Deciding.{alike, failed, fails, held}
+use Rattle.plates.proofs.Deciding.{alike, fails}
 use Rattle.plates.proofs.RowsPlaced.{empty-table}
 use Rattle.plates.proofs.tested.used_sound.Goals as goal
 

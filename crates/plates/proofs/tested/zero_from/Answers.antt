@@ -1,9 +1,6 @@
 -- `plates::tested::zero_from` meets its contract. The loop's invariant: the word has the ones of the words passed.
-use borrow.Author.Rules.{rules}
-use lib.ListN.{length}
 use native.Mathlib.Omega.{arith}
-use Prim.Native.Nat.{◌-◌}
-use Rattle.plates.proofs.ZerosTested.{OnesTo, ones-all, ones-more, ones_none}
+use Rattle.plates.proofs.ZerosTested.{ones-all, ones-more, ones_none}
 use Rattle.plates.proofs.tested.zero_from.Goals as goal
 
 pub loop-i-init : goal.loop-i-init

@@ -2,7 +2,7 @@
 use Rattle.sheets.specs.Blocks.{block_at, counter_at, next_line}
 use Rattle.reports.proofs.WrittenSteps.{only-writes}
 use Rattle.reports.proofs.BlockSteps.{block-step, end_step, places-size}
-use Rattle.std.proofs.Common.{replicate, pos, sym, refl, ◌∙◌, rules}
+use Rattle.std.proofs.Common.{replicate, pos, sym, refl, ◌∙◌}
 use Rattle.reports.proofs.blocks.block_line.Goals as goal
 
 pub samples_line-requires : goal.samples_line-requires

@@ -1,7 +1,7 @@
 -- `blocks::decoded_line` meets its contract.
 use Rattle.reports.specs.Steps.{Printable}
 use Rattle.decoding.specs.declared.Decoded.{Decoded}
-use Rattle.std.proofs.Common.{subst, rules}
+use Rattle.std.proofs.Common.{subst}
 use Rattle.reports.proofs.blocks.decoded_line.Goals as goal
 
 pub found_line-requires : goal.found_line-requires

@@ -1,5 +1,5 @@
 -- `blocks::found_line` meets its contract.
-use Rattle.std.proofs.Common.{refl, rules}
+use Rattle.std.proofs.Common.{refl}
 use Rattle.reports.proofs.blocks.found_line.Goals as goal
 
 pub returns-then-silent : goal.returns-then-silent

@@ -1,5 +1,5 @@
 -- `blocks::is_of_block` meets its contract: the number is 6 or 7.
-use Rattle.std.proofs.Common.{sym, ap, ◌∙◌, rules, eq-eqb, ne_eqb}
+use Rattle.std.proofs.Common.{sym, ◌∙◌, eq-eqb, ne_eqb}
 use Rattle.plates.specs.Refusals.{number}
 use Rattle.reports.proofs.blocks.is_of_block.Goals as goal
 

@@ -1,6 +1,6 @@
 -- `blocks::is_silent` meets its contract.
 use Rattle.reports.specs.Tally.{is_repeat}
-use Rattle.std.proofs.Common.{ap, ◌∙◌, rules}
+use Rattle.std.proofs.Common.{ap, ◌∙◌}
 use Rattle.reports.proofs.blocks.is_silent.Goals as goal
 
 pub returns-then-report : goal.returns-then-report

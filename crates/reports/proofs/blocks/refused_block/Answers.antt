@@ -1,5 +1,5 @@
 -- `blocks::refused_block` meets its contract.
-use Rattle.std.proofs.Common.{refl, rules}
+use Rattle.std.proofs.Common.{refl}
 use Rattle.reports.proofs.WrittenSteps.{not-printed, printed}
 use Rattle.reports.proofs.blocks.refused_block.Goals as goal
 

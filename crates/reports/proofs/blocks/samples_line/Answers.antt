@@ -1,7 +1,7 @@
 -- `blocks::samples_line` meets its contract.
 use Rattle.reports.proofs.PrintedWords.{printable}
 use Rattle.reports.proofs.BlockSteps.{long-room, short-room}
-use Rattle.std.proofs.Common.{sym, arith, length-take-le, rules}
+use Rattle.std.proofs.Common.{sym, arith, length-take-le}
 use Rattle.reports.proofs.blocks.samples_line.Goals as goal
 
 pub returns-then-room-lt256 : goal.returns-then-room-lt256

@@ -1,5 +1,5 @@
 -- `blocks::word_line` meets its contract.
-use Rattle.std.proofs.Common.{to_z-of_z, w32, rules}
+use Rattle.std.proofs.Common.{to_z-of_z, w32}
 use Rattle.reports.proofs.WrittenSteps.{answer-written}
 use Rattle.reports.proofs.blocks.word_line.Goals as goal
 

@@ -1,5 +1,4 @@
 -- `listing::lines_of` meets its contract.
-use Rattle.std.proofs.Common.{rules}
 use Rattle.reports.proofs.listing.lines_of.Goals as goal
 
 pub returns-in-PlateLine : goal.returns-in-PlateLine

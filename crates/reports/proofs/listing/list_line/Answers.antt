@@ -1,5 +1,5 @@
 -- `listing::list_line` meets its contract.
-use Rattle.std.proofs.Common.{refl, arith, rules}
+use Rattle.std.proofs.Common.{refl, arith}
 use Rattle.reports.proofs.ListingLines.{gives-some, line-added, refuses-never, size_small}
 use Rattle.reports.proofs.listing.list_line.Goals as goal
 

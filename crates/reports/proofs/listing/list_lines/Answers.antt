@@ -1,7 +1,7 @@
 -- `listing::list_lines` meets its contract.
-use Rattle.std.proofs.Common.{◌≡◌, ◌-◌, ◌≤◌, length, refl, arith, rules}
+use Rattle.std.proofs.Common.{refl, arith, rules}
 use Rattle.reports.specs.Remaining.{rooms}
-use Rattle.reports.proofs.ListingLines.{Stands, all-added, line-fits, none_yet, one_more}
+use Rattle.reports.proofs.ListingLines.{all-added, line-fits, none_yet, one_more}
 use Rattle.reports.proofs.listing.list_lines.Goals as goal
 
 pub loop-i-init : goal.loop-i-init

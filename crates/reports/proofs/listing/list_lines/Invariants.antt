@@ -1,7 +1,7 @@
 -- `listing::list_lines` meets its contract.
-use Rattle.std.proofs.Common.{◌≡◌, ◌-◌, ◌≤◌, length, refl, arith, rules}
+use Rattle.std.proofs.Common.{◌≡◌, ◌-◌, ◌≤◌, length}
 use Rattle.reports.specs.Remaining.{rooms}
-use Rattle.reports.proofs.ListingLines.{Stands, all-added, line-fits, none_yet, one_more}
+use Rattle.reports.proofs.ListingLines.{Stands}
 use Rattle.reports.proofs.listing.list_lines.Given as goal
 
 abbrev pub invariant-loop-i : goal.invariant-loop-i

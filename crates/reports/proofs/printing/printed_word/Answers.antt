@@ -1,5 +1,4 @@
 -- `printing::printed_word` meets its contract.
-use Rattle.std.proofs.Common.{rules}
 use Rattle.reports.proofs.printing.printed_word.Goals as goal
 
 pub returns-in-First : goal.returns-in-First

@@ -1,9 +1,9 @@
 -- `printing::reversed` meets its contract. The invariant: so many positions are turned.
-use Rattle.std.proofs.Common.{◌≡◌, ℕ, ◌-◌, refl, ap, ◌∙◌, arith, rules}
+use Rattle.std.proofs.Common.{◌≡◌, ℕ, refl, ap, ◌∙◌, arith}
 use Rattle.words.proofs.Word.{bit-lt}
 use Rattle.sheets.specs.declared.Order.TheVariants.{Last}
 use Rattle.reports.specs.Printed.{printed_as}
-use Rattle.reports.proofs.PrintedWords.{Reversing, reversing-fits, reversing-on}
+use Rattle.reports.proofs.PrintedWords.{reversing-fits, reversing-on}
 use Rattle.reports.proofs.printing.reversed.Goals as goal
 
 pub loop-i-init : goal.loop-i-init

@@ -1,6 +1,6 @@
 -- `stages::close_line` meets its contract.
 use Rattle.reports.proofs.WrittenSteps.{close-step}
-use Rattle.std.proofs.Common.{true, false, rules}
+use Rattle.std.proofs.Common.{true, false}
 use Rattle.reports.proofs.stages.close_line.Goals as goal
 
 pub returns-then-report : goal.returns-then-report

@@ -1,5 +1,4 @@
 -- `stages::end_line` meets its contract.
-use Rattle.std.proofs.Common.{rules}
 use Rattle.reports.proofs.WrittenSteps.{writes-step}
 use Rattle.reports.proofs.stages.end_line.Goals as goal
 

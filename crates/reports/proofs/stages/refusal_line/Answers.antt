@@ -1,5 +1,4 @@
 -- `stages::refusal_line` meets its contract.
-use Rattle.std.proofs.Common.{rules}
 use Rattle.reports.proofs.WrittenSteps.{after_is}
 use Rattle.reports.proofs.stages.refusal_line.Goals as goal
 

@@ -1,5 +1,4 @@
 -- `stages::refused_line` meets its contract.
-use Rattle.std.proofs.Common.{rules}
 use Rattle.reports.proofs.WrittenSteps.{refusal-written}
 use Rattle.reports.proofs.stages.refused_line.Goals as goal
 

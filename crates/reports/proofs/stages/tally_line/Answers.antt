@@ -1,6 +1,5 @@
 -- `stages::tally_line` meets its contract.
 use Rattle.reports.proofs.WrittenSteps.{writes-step}
-use Rattle.std.proofs.Common.{rules}
 use Rattle.reports.proofs.stages.tally_line.Goals as goal
 
 pub returns : goal.returns

@@ -1,5 +1,4 @@
 -- `steps::after_line` meets its contract.
-use Rattle.std.proofs.Common.{rules}
 use Rattle.reports.proofs.steps.after_line.Goals as goal
 
 pub returns : goal.returns

@@ -1,5 +1,4 @@
 -- `steps::kept_after` meets its contract.
-use Rattle.std.proofs.Common.{rules}
 use Rattle.reports.proofs.steps.kept_after.Goals as goal
 
 pub returns-then-heard : goal.returns-then-heard

@@ -1,5 +1,4 @@
 -- `steps::step_by` meets its contract.
-use Rattle.std.proofs.Common.{rules}
 use Rattle.reports.proofs.steps.step_by.Goals as goal
 
 pub returns-in-Bytes : goal.returns-in-Bytes

@@ -1,5 +1,5 @@
 -- `tally::against` meets its contract.
-use Rattle.std.proofs.Common.{◌≡◌, true, false, pos, refl, arith, to_z-of_z, rules, eq-eqb, ne_eqb}
+use Rattle.std.proofs.Common.{◌≡◌, true, false, pos, refl, arith, to_z-of_z, eq-eqb, ne_eqb}
 use lib.Signed.{lt_z}
 use Rattle.reports.proofs.tally.against.Goals as goal
 

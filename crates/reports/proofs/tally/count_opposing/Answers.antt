@@ -1,7 +1,7 @@
 -- `tally::count_opposing` meets its contract.
-use Rattle.reports.specs.Tally.{opposes, opposing}
-use Rattle.reports.proofs.TallyCounts.{Counted, counted-first, opposing-end, opposing-on}
-use Rattle.std.proofs.Common.{ℕ, ◌-◌, ◌≤◌, cond, length, get_or, drop, ℤ, pos, ap, ◌∙◌, arith, to_z-of_z, w16, rules}
+use Rattle.reports.specs.Tally.{opposes}
+use Rattle.reports.proofs.TallyCounts.{counted-first, opposing-end, opposing-on}
+use Rattle.std.proofs.Common.{ℕ, cond, get_or, ℤ, pos, ap, ◌∙◌, arith, to_z-of_z, w16}
 use Rattle.reports.proofs.tally.count_opposing.Goals as goal
 
 pub loop-i-init : goal.loop-i-init

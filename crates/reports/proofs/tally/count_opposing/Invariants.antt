@@ -1,7 +1,7 @@
 -- `tally::count_opposing` meets its contract.
-use Rattle.reports.specs.Tally.{opposes, opposing}
-use Rattle.reports.proofs.TallyCounts.{Counted, counted-first, opposing-end, opposing-on}
-use Rattle.std.proofs.Common.{ℕ, ◌-◌, ◌≤◌, cond, length, get_or, drop, ℤ, pos, ap, ◌∙◌, arith, to_z-of_z, w16, rules}
+use Rattle.reports.specs.Tally.{opposing}
+use Rattle.reports.proofs.TallyCounts.{Counted}
+use Rattle.std.proofs.Common.{◌-◌, ◌≤◌, length, drop}
 use Rattle.reports.proofs.tally.count_opposing.Given as goal
 
 abbrev pub invariant-loop-i : goal.invariant-loop-i

@@ -1,7 +1,7 @@
 -- `tally::count_zeros` meets its contract.
-use Rattle.reports.specs.Tally.{is_zero, zeros}
-use Rattle.reports.proofs.TallyCounts.{Counted, counted-first, zeros-end, zeros-on}
-use Rattle.std.proofs.Common.{◌-◌, ◌≤◌, cond, length, get_or, drop, ℤ, pos, ap, ◌∙◌, arith, to_z-of_z, w16, rules}
+use Rattle.reports.specs.Tally.{is_zero}
+use Rattle.reports.proofs.TallyCounts.{counted-first, zeros-end, zeros-on}
+use Rattle.std.proofs.Common.{cond, get_or, ℤ, pos, ap, ◌∙◌, arith, to_z-of_z, w16}
 use Rattle.reports.proofs.tally.count_zeros.Goals as goal
 
 pub loop-i-init : goal.loop-i-init

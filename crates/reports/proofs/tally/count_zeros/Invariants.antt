@@ -1,7 +1,7 @@
 -- `tally::count_zeros` meets its contract.
-use Rattle.reports.specs.Tally.{is_zero, zeros}
-use Rattle.reports.proofs.TallyCounts.{Counted, counted-first, zeros-end, zeros-on}
-use Rattle.std.proofs.Common.{◌-◌, ◌≤◌, cond, length, get_or, drop, ℤ, pos, ap, ◌∙◌, arith, to_z-of_z, w16, rules}
+use Rattle.reports.specs.Tally.{zeros}
+use Rattle.reports.proofs.TallyCounts.{Counted}
+use Rattle.std.proofs.Common.{◌-◌, ◌≤◌, length, drop}
 use Rattle.reports.proofs.tally.count_zeros.Given as goal
 
 abbrev pub invariant-loop-i : goal.invariant-loop-i

@@ -1,7 +1,7 @@
 -- `tally::decoded_share` meets its contract.
 use Rattle.reports.proofs.TallyLaws.{same-tally}
 use Rattle.reports.specs.Tally.{decoded_share, gained, lost}
-use Rattle.std.proofs.Common.{refl, ap, ◌∙◌, to_z-of_z, w32, rules}
+use Rattle.std.proofs.Common.{refl, ap, ◌∙◌, to_z-of_z, w32}
 use Rattle.reports.proofs.tally.decoded_share.Goals as goal
 
 pub returns : goal.returns

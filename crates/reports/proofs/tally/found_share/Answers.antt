@@ -1,5 +1,4 @@
 -- `tally::found_share` meets its contract.
-use Rattle.std.proofs.Common.{rules}
 use Rattle.reports.proofs.tally.found_share.Goals as goal
 
 pub returns-in-First : goal.returns-in-First

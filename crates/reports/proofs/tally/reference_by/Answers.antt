@@ -1,5 +1,4 @@
 -- `tally::reference_by` meets its contract.
-use Rattle.std.proofs.Common.{rules}
 use Rattle.reports.proofs.tally.reference_by.Goals as goal
 
 pub returns-in-First : goal.returns-in-First

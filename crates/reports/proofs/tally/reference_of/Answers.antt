@@ -1,7 +1,7 @@
 -- `tally::reference_of` meets its contract.
 use Rattle.reports.specs.declared.tally.Standing.{Standing}
 use Rattle.reports.specs.Tally.{reference_by}
-use Rattle.std.proofs.Common.{ap, ◌∙◌, rules}
+use Rattle.std.proofs.Common.{ap, ◌∙◌}
 use Rattle.reports.proofs.tally.reference_of.Goals as goal
 
 pub returns-in-Found : goal.returns-in-Found

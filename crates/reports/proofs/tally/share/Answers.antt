@@ -1,5 +1,4 @@
 -- `tally::share` meets its contract.
-use Rattle.std.proofs.Common.{rules}
 use Rattle.reports.proofs.tally.share.Goals as goal
 
 pub returns-in-Found : goal.returns-in-Found

@@ -1,5 +1,5 @@
 -- `tally::standing_by` meets its contract.
-use Rattle.std.proofs.Common.{rules, le-ltb, lt-ltb, eq-eqb, ne_eqb}
+use Rattle.std.proofs.Common.{le-ltb, lt-ltb, eq-eqb, ne_eqb}
 use Rattle.reports.proofs.tally.standing_by.Goals as goal
 
 pub returns-then-step-eq0 : goal.returns-then-step-eq0

@@ -1,6 +1,6 @@
 -- `tally::stands` meets its contract.
 use Rattle.reports.specs.Tally.{standing_by}
-use Rattle.std.proofs.Common.{ap, ◌∙◌, rules}
+use Rattle.std.proofs.Common.{ap, ◌∙◌}
 use Rattle.reports.proofs.tally.stands.Goals as goal
 
 pub returns-in-Counter : goal.returns-in-Counter

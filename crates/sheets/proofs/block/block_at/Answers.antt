@@ -1,5 +1,4 @@
 -- `block::block_at` meets its contract.
-use borrow.Author.Rules.{rules}
 use mathlib.Core.Path.{◌∙◌, sym}
 use native.Mathlib.Omega.{arith}
 use Rattle.sheets.proofs.BlockPlaces.{block-there, no-block-there, open-line, past_end}

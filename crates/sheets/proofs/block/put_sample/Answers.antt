@@ -1,5 +1,4 @@
 -- `block::put_sample` meets its contract.
-use borrow.Author.Rules.{rules}
 use lib.Seq.{set_out}
 use mathlib.Core.Path.{sym}
 use Rattle.sheets.proofs.block.put_sample.Goals as goal

@@ -1,5 +1,4 @@
 -- `block::read_block_line` meets its contract.
-use borrow.Author.Rules.{rules}
 use lib.Seq.{length-take-le}
 use mathlib.Core.Path.{sym}
 use Rattle.sheets.proofs.BlockLines.{by_word}

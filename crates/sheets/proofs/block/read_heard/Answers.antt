@@ -2,7 +2,6 @@
 use Rattle.sheets.proofs.BlockLines.{heard-bad, heard-none, heard-on}
 use native.Mathlib.Omega.{arith}
 use mathlib.Core.Path.{◌∙◌, sym}
-use borrow.Author.Rules.{rules}
 use Rattle.sheets.proofs.block.read_heard.Goals as goal
 
 pub returns-then-a-line : goal.returns-then-a-line

@@ -1,7 +1,6 @@
 -- `block::read_rest` meets its contract.
 use Rattle.sheets.proofs.Sampling.{read-bad}
 use Rattle.sheets.proofs.BlockLines.{not-block, not-heard}
-use borrow.Author.Rules.{rules}
 use Rattle.sheets.proofs.block.read_rest.Goals as goal
 
 pub returns-in_default : goal.returns-in_default

@@ -1,12 +1,9 @@
 -- `block::read_samples` meets its contract.
-use borrow.Author.Rules.{rules}
-use lib.ListN.{length}
 use mathlib.Core.Path.{◌∙◌, sym}
 use mir.Facts.{to_z-of_z}
 use mir.Syntax.{w16}
 use native.Mathlib.Omega.{arith}
-use Prim.Native.Nat.{◌+◌, ◌-◌}
-use Rattle.sheets.proofs.Sampling.{Sampling, sample-bad, sample-end, sample-on, sample-start}
+use Rattle.sheets.proofs.Sampling.{sample-bad, sample-end, sample-on, sample-start}
 use Rattle.sheets.proofs.block.read_samples.Goals as goal
 
 pub loop-at-init : goal.loop-at-init

@@ -1,5 +1,4 @@
 -- `body::after_end` meets its contract.
-use borrow.Author.Rules.{rules}
 use mathlib.Core.Path.{sym}
 use native.Mathlib.Omega.{arith}
 use Rattle.sheets.proofs.Endings.{extra-line, extra-open}

@@ -2,7 +2,6 @@
 use Rattle.sheets.proofs.BlockLines.{heard-by}
 use mathlib.Core.Path.{◌∙◌, sym}
 use lib.Seq.{length-take-le}
-use borrow.Author.Rules.{rules}
 use Rattle.sheets.proofs.body.begins_heard.Goals as goal
 
 pub slice_bounds-read_word-end : goal.slice_bounds-read_word-end

@@ -1,6 +1,5 @@
 -- `body::came_after` meets its contract.
 use Rattle.sheets.proofs.Endings.{came-blocks, came-heards}
-use borrow.Author.Rules.{rules}
 use Rattle.sheets.proofs.body.came_after.Goals as goal
 
 pub returns-then-heard : goal.returns-then-heard

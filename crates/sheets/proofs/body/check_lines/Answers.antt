@@ -1,5 +1,4 @@
 -- `body::check_lines` meets its contract.
-use borrow.Author.Rules.{rules}
 use Rattle.sheets.proofs.Bodies.{lines_are}
 use Rattle.sheets.proofs.body.check_lines.Goals as goal
 

@@ -1,5 +1,4 @@
 -- `body::close` meets its contract.
-use borrow.Author.Rules.{rules}
 use borrow.Author.Tests.{le-ltb, lt-ltb}
 use Rattle.sheets.proofs.body.close.Goals as goal
 

@@ -4,7 +4,6 @@ use Rattle.sheets.specs.Blocks.{heard_front}
 use Rattle.sheets.proofs.Parts.{from_more}
 use native.Mathlib.Omega.{arith}
 use mathlib.Core.Path.{◌∙◌, ap, sym}
-use borrow.Author.Rules.{rules}
 use Rattle.sheets.proofs.body.heard_at.Goals as goal
 
 pub returns : goal.returns

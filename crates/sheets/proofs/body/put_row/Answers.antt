@@ -1,5 +1,4 @@
 -- `body::put_row` meets its contract.
-use borrow.Author.Rules.{rules}
 use lib.Seq.{set_out}
 use mathlib.Core.Path.{sym}
 use Rattle.sheets.proofs.body.put_row.Goals as goal

@@ -1,10 +1,7 @@
 -- `body::read_blocks` meets its contract.
-use borrow.Author.Rules.{rules}
 use lib.ListN.{length}
-use native.Mathlib.Omega.{arith}
 use Prim.Native.Nat.{◌-◌}
-use Rattle.sheets.proofs.BlockRuns.{block_last, block_on, block-stop}
-use Rattle.sheets.proofs.Passing.{Passing, pass-start}
+use Rattle.sheets.proofs.Passing.{Passing}
 use Rattle.sheets.specs.Blocks.{blocks_of}
 use Rattle.sheets.proofs.body.read_blocks.Given as goal
 

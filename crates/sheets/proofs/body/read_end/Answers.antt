@@ -1,5 +1,4 @@
 -- `body::read_end` meets its contract.
-use borrow.Author.Rules.{rules}
 use mathlib.Core.Path.{◌∙◌, sym}
 use Rattle.sheets.proofs.Endings.{end-closed, end-then}
 use Rattle.sheets.proofs.body.read_end.Goals as goal

@@ -1,5 +1,4 @@
 -- `body::read_lines` meets its contract.
-use borrow.Author.Rules.{rules}
 use mathlib.Core.Path.{◌∙◌, refl, sym}
 use Rattle.sheets.proofs.body.read_lines.Goals as goal
 

@@ -1,10 +1,7 @@
 -- `body::read_rows` meets its contract.
-use borrow.Author.Rules.{rules}
-use lib.ListN.{length}
 use mathlib.Core.Path.{◌∙◌, sym}
 use native.Mathlib.Omega.{arith}
-use Prim.Native.Nat.{◌-◌}
-use Rattle.sheets.proofs.RowLines.{Rowing, row_last, row_on, row-start, row-stop}
+use Rattle.sheets.proofs.RowLines.{row_last, row_on, row-start, row-stop}
 use Rattle.sheets.proofs.body.read_rows.Goals as goal
 
 pub loop-at-init : goal.loop-at-init

@@ -4,7 +4,6 @@ use Rattle.sheets.specs.Blocks.{counter_front}
 use Rattle.sheets.proofs.Parts.{from_more, from-none}
 use native.Mathlib.Omega.{arith}
 use mathlib.Core.Path.{◌∙◌, ap, sym}
-use borrow.Author.Rules.{rules}
 use Rattle.sheets.proofs.counter.counter_at.Goals as goal
 
 pub returns-then-input-at : goal.returns-then-input-at

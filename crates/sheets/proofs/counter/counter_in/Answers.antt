@@ -6,7 +6,6 @@ use mathlib.Core.Path.{◌∙◌, ap, sym}
 use Prim.Native.Nat.{◌+◌}
 use lib.Seq.{length-take-le}
 use Rattle.sheets.specs.Text.{fields_from}
-use borrow.Author.Rules.{rules}
 use Rattle.sheets.proofs.counter.counter_in.Goals as goal
 
 pub slice_bounds-read_word-end : goal.slice_bounds-read_word-end

@@ -1,5 +1,4 @@
 -- `counter::worth` meets its contract.
-use borrow.Author.Rules.{rules}
 use Rattle.sheets.proofs.counter.worth.Goals as goal
 
 pub small-requires : goal.small-requires

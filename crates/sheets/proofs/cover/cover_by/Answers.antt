@@ -1,5 +1,4 @@
 -- `cover::cover_by` meets its contract.
-use borrow.Author.Rules.{rules}
 use Rattle.sheets.proofs.cover.cover_by.Goals as goal
 
 pub returns-in-Cover : goal.returns-in-Cover

@@ -1,5 +1,4 @@
 -- `cover::cover_fields` meets its contract.
-use borrow.Author.Rules.{rules}
 use mathlib.Core.Path.{sym}
 use Rattle.sheets.specs.Covers.{cover_fields}
 use Rattle.sheets.proofs.cover.cover_fields.Goals as goal

@@ -1,5 +1,4 @@
 -- `cover::cover_of` meets its contract.
-use borrow.Author.Rules.{rules}
 use Rattle.sheets.proofs.cover.cover_of.Goals as goal
 
 pub returns-in_default : goal.returns-in_default

@@ -1,5 +1,4 @@
 -- `cover::cover_rest` meets its contract: the fields one after the other, and none too few or too many.
-use borrow.Author.Rules.{rules}
 use native.Mathlib.Omega.{arith}
 use Rattle.sheets.proofs.Parts.{after_last, after_more, after-some}
 use Rattle.sheets.specs.Text.{tab}

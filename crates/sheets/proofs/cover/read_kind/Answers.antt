@@ -1,5 +1,4 @@
 -- `cover::read_kind` meets its contract.
-use borrow.Author.Rules.{rules}
 use mathlib.Core.Path.{◌∙◌, sym}
 use Rattle.sheets.proofs.cover.read_kind.Goals as goal
 

@@ -1,5 +1,4 @@
 -- `cover::read_order` meets its contract.
-use borrow.Author.Rules.{rules}
 use mathlib.Core.Path.{◌∙◌, sym}
 use Rattle.sheets.proofs.cover.read_order.Goals as goal
 

@@ -1,5 +1,4 @@
 -- `head::read_head` meets its contract.
-use borrow.Author.Rules.{rules}
 use lib.Seq.{length-take-le}
 use mathlib.Core.Path.{sym}
 use Rattle.sheets.proofs.Heads.{head-bad, head-is, head-none, head-open, head-over}

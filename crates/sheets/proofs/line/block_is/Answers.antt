@@ -1,5 +1,4 @@
 -- `line::block_is` meets its contract.
-use borrow.Author.Rules.{rules}
 use Rattle.sheets.proofs.line.block_is.Goals as goal
 
 pub returns-in-Bad : goal.returns-in-Bad

@@ -1,5 +1,4 @@
 -- `line::block_rest` meets its contract.
-use borrow.Author.Rules.{rules}
 use mathlib.Core.Path.{◌∙◌, ap}
 use Rattle.sheets.specs.Lines.{block_is}
 use Rattle.sheets.proofs.line.block_rest.Goals as goal

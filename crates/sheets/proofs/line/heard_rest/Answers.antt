@@ -4,7 +4,6 @@ use Rattle.sheets.specs.Lines.{block_is}
 use Rattle.sheets.proofs.Parts.{after_last, after-some}
 use native.Mathlib.Omega.{arith}
 use mathlib.Core.Path.{◌∙◌, ap}
-use borrow.Author.Rules.{rules}
 use Rattle.sheets.proofs.line.heard_rest.Goals as goal
 
 pub returns-then-a-line : goal.returns-then-a-line

@@ -1,5 +1,4 @@
 -- `line::line_between` meets its contract.
-use borrow.Author.Rules.{rules}
 use Rattle.sheets.proofs.Parts.{after-some, from_last, from_more}
 use Rattle.sheets.specs.Text.{line_feed}
 use Rattle.sheets.proofs.line.line_between.Goals as goal

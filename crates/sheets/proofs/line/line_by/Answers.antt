@@ -1,5 +1,4 @@
 -- `line::line_by` meets its contract.
-use borrow.Author.Rules.{rules}
 use Rattle.sheets.proofs.line.line_by.Goals as goal
 
 pub returns-then-late_row : goal.returns-then-late_row

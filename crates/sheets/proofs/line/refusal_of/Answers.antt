@@ -1,5 +1,4 @@
 -- `line::refusal_of` meets its contract: each fault by itself.
-use borrow.Author.Rules.{rules}
 use Rattle.sheets.proofs.line.refusal_of.Goals as goal
 
 pub returns-in-Count : goal.returns-in-Count

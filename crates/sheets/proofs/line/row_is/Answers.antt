@@ -1,5 +1,4 @@
 -- `line::row_is` meets its contract.
-use borrow.Author.Rules.{rules}
 use Rattle.sheets.proofs.line.row_is.Goals as goal
 
 pub returns-in-Is : goal.returns-in-Is

@@ -1,5 +1,4 @@
 -- `line::row_rest` meets its contract.
-use borrow.Author.Rules.{rules}
 use mathlib.Core.Path.{◌∙◌, ap}
 use native.Mathlib.Omega.{arith}
 use Rattle.sheets.proofs.Parts.{after_last, after_more, after-some}

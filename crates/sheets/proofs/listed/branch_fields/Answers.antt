@@ -1,5 +1,4 @@
 -- `listed::branch_fields` meets its contract.
-use borrow.Author.Rules.{rules}
 use mathlib.Core.Path.{sym}
 use Rattle.sheets.specs.Listed.{branch_fields}
 use Rattle.sheets.proofs.listed.branch_fields.Goals as goal

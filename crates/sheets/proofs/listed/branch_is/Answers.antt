@@ -1,5 +1,4 @@
 -- `listed::branch_is` meets its contract.
-use borrow.Author.Rules.{rules}
 use Rattle.sheets.proofs.listed.branch_is.Goals as goal
 
 pub returns-in_default : goal.returns-in_default

@@ -1,5 +1,4 @@
 -- `listed::read_branch` meets its contract.
-use borrow.Author.Rules.{rules}
 use lib.Seq.{length-take-le}
 use mathlib.Core.Path.{sym, ◌∙◌}
 use Rattle.sheets.proofs.Parts.{parts-front}

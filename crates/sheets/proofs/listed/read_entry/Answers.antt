@@ -1,5 +1,4 @@
 -- `listed::read_entry` meets its contract.
-use borrow.Author.Rules.{rules}
 use native.Mathlib.Omega.{arith}
 use Rattle.sheets.proofs.Entries.{ended-entry, past-entry, unended-entry}
 use Rattle.sheets.proofs.listed.read_entry.Goals as goal

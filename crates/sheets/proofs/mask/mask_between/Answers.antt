@@ -1,5 +1,4 @@
 -- `mask::mask_between` meets its contract.
-use borrow.Author.Rules.{rules}
 use Rattle.sheets.proofs.MaskLines.{no_line, line-there}
 use Rattle.sheets.proofs.mask.mask_between.Goals as goal
 

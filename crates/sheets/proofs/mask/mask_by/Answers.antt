@@ -1,5 +1,4 @@
 -- `mask::mask_by` meets its contract.
-use borrow.Author.Rules.{rules}
 use mathlib.Core.Path.{◌∙◌, ap}
 use Rattle.sheets.specs.Masks.{mask_is}
 use Rattle.sheets.proofs.MaskLines.{no-mask-word}

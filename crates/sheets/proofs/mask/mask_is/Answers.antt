@@ -1,5 +1,4 @@
 -- `mask::mask_is` meets its contract.
-use borrow.Author.Rules.{rules}
 use Rattle.sheets.proofs.mask.mask_is.Goals as goal
 
 pub returns-in-Row : goal.returns-in-Row

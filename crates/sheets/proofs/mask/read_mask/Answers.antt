@@ -1,5 +1,4 @@
 -- `mask::read_mask` meets its contract.
-use borrow.Author.Rules.{rules}
 use Rattle.sheets.proofs.MaskLines.{word_fits, mask-by-word}
 use Rattle.sheets.proofs.mask.read_mask.Goals as goal
 

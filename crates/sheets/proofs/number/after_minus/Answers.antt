@@ -1,5 +1,4 @@
 -- `number::after_minus` meets its contract.
-use borrow.Author.Rules.{rules}
 use borrow.Author.Tests.{eq-eqb, ne_eqb}
 use mathlib.Core.Path.{◌∙◌, ap}
 use mir.Facts.{to_z-of_z}

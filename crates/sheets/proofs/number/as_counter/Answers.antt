@@ -2,7 +2,6 @@
 use native.Mathlib.Omega.{arith}
 use mathlib.Core.Path.{refl}
 use borrow.Author.Tests.{le-leb, lt-leb}
-use borrow.Author.Rules.{rules}
 use Rattle.sheets.proofs.number.as_counter.Goals as goal
 
 pub returns-then-value-le65535 : goal.returns-then-value-le65535

@@ -1,5 +1,4 @@
 -- `number::as_sample` meets its contract.
-use borrow.Author.Rules.{rules}
 use mathlib.Core.Path.{◌∙◌, ap}
 use mir.Facts.{to_z-of_z}
 use mir.Syntax.{w16}

@@ -1,5 +1,4 @@
 -- `number::as_signed` meets its contract.
-use borrow.Author.Rules.{rules}
 use mir.Facts.{to_z_pos}
 use mir.Syntax.{w16}
 use native.Mathlib.Omega.{arith}

@@ -1,5 +1,4 @@
 -- `number::below_zero` meets its contract.
-use borrow.Author.Rules.{rules}
 use lib.IntN.{+ℤ_idl}
 use mir.Facts.{to_z-of_z, to_z_pos}
 use mir.Syntax.{w16}

@@ -1,5 +1,4 @@
 -- `number::leading_zero` meets its contract.
-use borrow.Author.Rules.{rules}
 use borrow.Author.Tests.{le-ltb, lt-ltb}
 use lib.ListN.{length}
 use Rattle.sheets.proofs.number.leading_zero.Goals as goal

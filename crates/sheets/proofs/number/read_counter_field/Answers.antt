@@ -1,7 +1,6 @@
 -- `number::read_counter_field` meets its contract.
 use Rattle.sheets.specs.Numbers.{counter_is}
 use mathlib.Core.Path.{◌∙◌, ap}
-use borrow.Author.Rules.{rules}
 use Rattle.sheets.proofs.number.read_counter_field.Goals as goal
 
 pub returns : goal.returns

@@ -1,5 +1,4 @@
 -- `number::read_number` meets its contract.
-use borrow.Author.Rules.{rules}
 use borrow.Author.Tests.{eq-eqb, le-ltb, lt-ltb, ne_eqb}
 use lib.ListN.{length}
 use mathlib.Core.Path.{◌∙◌, sym}

@@ -1,5 +1,4 @@
 -- `number::read_sample` meets its contract.
-use borrow.Author.Rules.{rules}
 use borrow.Author.Tests.{eq-eqb, ne_eqb}
 use lib.ListN.{length}
 use mathlib.Core.Path.{◌∙◌, ap}

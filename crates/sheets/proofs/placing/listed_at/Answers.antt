@@ -1,5 +1,4 @@
 -- `placing::listed_at` meets its contract.
-use borrow.Author.Rules.{rules}
 use native.Mathlib.Omega.{arith}
 use Rattle.sheets.proofs.placing.listed_at.Goals as goal
 

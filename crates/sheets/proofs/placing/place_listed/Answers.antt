@@ -1,14 +1,10 @@
 -- `placing::place_listed` meets its contract.
-use borrow.Author.Rules.{rules}
 use lib.IntN.{pos}
-use lib.ListN.{length}
 use mathlib.Core.Path.{sym}
 use mir.Facts.{to_z-of_z}
 use mir.Syntax.{w16}
 use native.Mathlib.Omega.{arith}
-use Prim.Native.Nat.{◌-◌}
-use Rattle.sheets.specs.Turning.{in_order}
-use Rattle.sheets.proofs.SamplePlaces.{Placing, placing-end, placing-on, placing-start}
+use Rattle.sheets.proofs.SamplePlaces.{placing-end, placing-on, placing-start}
 use Rattle.sheets.proofs.Turns.{in-order-entry, in-order-length}
 use Rattle.sheets.proofs.placing.place_listed.Goals as goal
 

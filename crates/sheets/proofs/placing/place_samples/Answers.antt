@@ -1,5 +1,4 @@
 -- `placing::place_samples` meets its contract.
-use borrow.Author.Rules.{rules}
 use lib.IntN.{pos}
 use lib.ListN.{replicate}
 use lib.Seq.{length-take-le}

@@ -1,12 +1,7 @@
 -- `row::bits_only` meets its contract. The invariant: the characters from i on decide.
-use borrow.Author.Rules.{rules}
-use borrow.Author.Tests.{not-false, not-true}
-use lib.ListN.{drop, length}
-use mathlib.Core.Path.{◌∙◌, ◌≡◌, refl, sym}
+use mathlib.Core.Path.{◌∙◌, refl, sym}
 use native.Mathlib.Omega.{arith}
-use Prim.Native.Nat.{◌-◌, ◌≤◌}
 use Rattle.sheets.proofs.Characters.{bits-bad, bits-done, bits-on}
-use Rattle.sheets.specs.Rows.{bits_only}
 use Rattle.sheets.proofs.row.bits_only.Goals as goal
 
 pub loop-i-init : goal.loop-i-init

@@ -1,12 +1,10 @@
 -- `row::from_left` meets its contract. The invariant: the word is that of the characters from i on.
-use borrow.Author.Rules.{rules}
 use lib.ListN.{drop, get_or, length, length-drop}
 use mathlib.Core.Path.{◌≡◌}
 use native.Mathlib.Omega.{arith}
-use Prim.Native.Nat.{◌-◌, ◌≤◌}
+use Prim.Native.Nat.{◌-◌}
 use Rattle.sheets.proofs.Bytes.{back, done}
 use Rattle.sheets.proofs.Characters.{bit_small, word_room}
-use Rattle.sheets.specs.Rows.{word_from}
 use Rattle.sheets.proofs.row.from_left.Goals as goal
 
 pub loop-i-init : goal.loop-i-init

@@ -1,11 +1,7 @@
 -- `row::from_left` meets its contract. The invariant: the word is that of the characters from i on.
-use borrow.Author.Rules.{rules}
-use lib.ListN.{drop, get_or, length, length-drop}
+use lib.ListN.{drop, length}
 use mathlib.Core.Path.{◌≡◌}
-use native.Mathlib.Omega.{arith}
-use Prim.Native.Nat.{◌-◌, ◌≤◌}
-use Rattle.sheets.proofs.Bytes.{back, done}
-use Rattle.sheets.proofs.Characters.{bit_small, word_room}
+use Prim.Native.Nat.{◌≤◌}
 use Rattle.sheets.specs.Rows.{word_from}
 use Rattle.sheets.proofs.row.from_left.Given as goal
 

@@ -1,13 +1,10 @@
 -- `row::from_right` meets its contract. The invariant: the word is that of the first i characters, turned.
-use borrow.Author.Rules.{rules}
-use lib.ListN.{get_or, length, length-reverse, length-take, take}
+use lib.ListN.{get_or, length-reverse, length-take, take}
 use lib.Seq.{take_all}
 use mathlib.Core.List.{reverse}
-use mathlib.Core.Path.{◌≡◌, refl}
+use mathlib.Core.Path.{refl}
 use native.Mathlib.Omega.{arith}
-use Prim.Native.Nat.{◌-◌, ◌≤◌}
 use Rattle.sheets.proofs.Characters.{bit_small, turn_more, word_room}
-use Rattle.sheets.specs.Rows.{word_from}
 use Rattle.sheets.proofs.row.from_right.Goals as goal
 
 pub loop-i-init : goal.loop-i-init

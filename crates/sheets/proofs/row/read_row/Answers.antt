@@ -1,6 +1,5 @@
 -- `row::read_row` meets its contract.
-use borrow.Author.Rules.{rules}
-use borrow.Author.Tests.{eq-eqb, ne_eqb, not-false, not-true}
+use borrow.Author.Tests.{eq-eqb, ne_eqb}
 use mathlib.Core.Path.{◌∙◌, ap, sym}
 use Rattle.sheets.specs.declared.row.Row.TheVariants.{Is}
 use Rattle.sheets.proofs.row.read_row.Goals as goal

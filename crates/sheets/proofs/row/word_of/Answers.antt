@@ -1,5 +1,4 @@
 -- `row::word_of` meets its contract.
-use borrow.Author.Rules.{rules}
 use Rattle.sheets.proofs.row.word_of.Goals as goal
 
 pub returns-in-First : goal.returns-in-First

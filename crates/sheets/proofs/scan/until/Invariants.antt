@@ -1,10 +1,7 @@
 -- `scan::until` meets its contract. The invariant: from i on the first stop is where it is from `at` on.
-use borrow.Author.Rules.{rules}
 use lib.ListN.{drop, length}
 use mathlib.Core.Path.{◌≡◌}
-use native.Mathlib.Omega.{arith}
 use Prim.Native.Nat.{◌+◌, ◌-◌, ◌≤◌}
-use Rattle.sheets.proofs.Bytes.{till-done, till-next, till-stop}
 use Rattle.sheets.specs.Text.{till}
 use Rattle.sheets.proofs.scan.until.Given as goal
 

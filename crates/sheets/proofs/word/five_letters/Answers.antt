@@ -1,5 +1,4 @@
 -- `word::five_letters` meets its contract.
-use borrow.Author.Rules.{rules}
 use borrow.Author.Tests.{ne_eqb}
 use Rattle.sheets.proofs.Spelling.{five}
 use Rattle.sheets.proofs.word.five_letters.Goals as goal

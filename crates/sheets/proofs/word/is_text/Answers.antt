@@ -1,12 +1,8 @@
 -- `word::is_text` meets its contract. The invariant: the letters from i on decide.
-use borrow.Author.Rules.{rules}
-use lib.ListN.{drop, length}
-use mathlib.Core.Path.{◌∙◌, ◌≡◌, refl, sym}
+use mathlib.Core.Path.{◌∙◌, refl, sym}
 use native.Mathlib.Omega.{arith}
-use Prim.Native.Nat.{◌-◌, ◌≤◌}
 use Rattle.sheets.proofs.Bytes.{done}
 use Rattle.sheets.proofs.Spelling.{apart, same_not, same-on}
-use Rattle.sheets.specs.Words.{same}
 use Rattle.sheets.proofs.word.is_text.Goals as goal
 
 pub returns-then-f-g : goal.returns-then-f-g

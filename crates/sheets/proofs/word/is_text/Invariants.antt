@@ -1,11 +1,7 @@
 -- `word::is_text` meets its contract. The invariant: the letters from i on decide.
-use borrow.Author.Rules.{rules}
 use lib.ListN.{drop, length}
-use mathlib.Core.Path.{◌∙◌, ◌≡◌, refl, sym}
-use native.Mathlib.Omega.{arith}
+use mathlib.Core.Path.{◌≡◌}
 use Prim.Native.Nat.{◌-◌, ◌≤◌}
-use Rattle.sheets.proofs.Bytes.{done}
-use Rattle.sheets.proofs.Spelling.{apart, same_not, same-on}
 use Rattle.sheets.specs.Words.{same}
 use Rattle.sheets.proofs.word.is_text.Given as goal
 

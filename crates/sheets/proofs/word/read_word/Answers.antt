@@ -1,5 +1,4 @@
 -- `word::read_word` meets its contract.
-use borrow.Author.Rules.{rules}
 use mathlib.Core.Path.{sym}
 use Rattle.sheets.proofs.Spelling.{listed3, listed4, listed5, no_word}
 use Rattle.sheets.proofs.word.read_word.Goals as goal

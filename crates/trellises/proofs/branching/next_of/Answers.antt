@@ -1,5 +1,4 @@
 -- `trellises::branching::next_of` meets its contract.
-use borrow.Author.Rules.{rules}
 use borrow.Author.Tests.{eq-eqb, ne_eqb}
 use lib.Pow.{pow_mono}
 use mathlib.Core.Path.{◌∙◌, ap, sym}

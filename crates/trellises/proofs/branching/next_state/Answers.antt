@@ -1,5 +1,4 @@
 -- `trellises::branching::next_state` meets its contract.
-use borrow.Author.Rules.{rules}
 use Rattle.trellises.proofs.branching.next_state.Goals as goal
 
 pub returns-then-section : goal.returns-then-section

@@ -1,5 +1,4 @@
 -- `trellises::branching::weight_of` meets its contract.
-use borrow.Author.Rules.{rules}
 use lib.Pow.{pow-lt}
 use mathlib.Core.Path.{◌∙◌, ap}
 use native.Mathlib.Nat.{mod-eq_of_lt, one-mul}

@@ -1,5 +1,4 @@
 -- `trellises::branching::without_digit` meets its contract.
-use borrow.Author.Rules.{rules}
 use lib.Pow.{pow_pos}
 use mathlib.Core.Path.{ap}
 use native.Mathlib.Omega.{arith}

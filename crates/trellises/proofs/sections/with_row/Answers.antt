@@ -1,5 +1,4 @@
 -- `trellises::sections::with_row` meets its contract: a row that begins later or ended before changes nothing.
-use borrow.Author.Rules.{rules}
 use Rattle.trellises.proofs.HeldSection.{held-active, held-early, held-late}
 use Rattle.trellises.proofs.sections.with_row.Goals as goal
 
