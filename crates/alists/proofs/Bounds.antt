@@ -103,7 +103,8 @@ module _ (cols rows : List ℕ) where
 
 pub front : (xs : List ℕ) (n : ℕ) → length xs ≡ n → n ≤ 64 → take n (sets (replicate 64 0) 0 xs) ≡ xs
 front xs n e h =
-    let g : sets (replicate 64 0) 0 xs ≡ xs ++ drop (0 + length xs) (replicate 64 0) = sets-eq xs (replicate 64 0) 0 (omega (arith, e, h, length-replicate {A = ℕ} 64 0)) in
+    let g : sets (replicate 64 0) 0 xs ≡ xs ++ drop (0 + length xs) (replicate 64 0) =
+    sets-eq xs (replicate 64 0) 0 (omega (arith, e, h, length-replicate {A = ℕ} 64 0)) in
     rw (g, ← e) (take-append_seam xs (drop (0 + length xs) (replicate 64 0)))
 
 pub held : (xs : List ℕ) {table' : List ℕ} → table' ≡ sets (replicate 64 0) 0 xs → length table' ≡ 64

@@ -43,17 +43,23 @@ listed-long : (n : ℕ) (d : Listed) (seen : List ℕ) (i : ℕ) (on : List ℕ 
 listed-long n (listed w s) seen i on h = shown-long n w i (on s) (shows seen i w) (h s)
 listed-long n unlisted seen i on h = tt
 
-pub lists-long : (most size : ℕ) (seen : List ℕ) (i : ℕ) (ws s : List ℕ) → Long (length ws) (lists_from most size seen i ws s)
+lists-long : (most size : ℕ) (seen : List ℕ) (i : ℕ) (ws s : List ℕ) → Long (length ws) (lists_from most size seen i ws s)
 lists-long most size seen i [] s = refl
 lists-long most size seen i (w ∷ ws) s =
     listed-long (length ws) (list_at most size w s) seen i (lists_from most size seen (suc i) ws) (λ t. lists-long most size seen (suc i) ws t)
 
-pub words-read : (l : Lists) (n : ℕ) → Long n l → (table' s : List ℕ) → laid_from (replicate 64 0) 0 l ≡ laid table' s → WordsRead l n table' s
-words-read (lists ws t) n h table' s e =
+words-in : (l : Lists) (n : ℕ) → Long n l → (table' s : List ℕ) → laid_from (replicate 64 0) 0 l ≡ laid table' s → WordsRead l n table' s
+words-in (lists ws t) n h table' s e =
     let a : sets (replicate 64 0) 0 ws ≡ table' = cc in
     let b : t ≡ s = cc in
     record { words = ws; is = rw b; stands = sym a; long = h }
-words-read (faulty_at i) n h table' s e = absurd (let z : ◌≡◌ {A = ℕ} 0 1 = cc in omega arith)
+words-in (faulty_at i) n h table' s e = absurd (let z : ◌≡◌ {A = ℕ} 0 1 = cc in omega arith)
+
+-- so are a text's lists, where reading them filled a table of zeros
+pub words-read : (most size : ℕ) (seen ws text : List ℕ) {table' s : List ℕ}
+    → laid_from (replicate 64 0) 0 (lists_from most size seen 0 ws text) ≡ laid table' s → WordsRead (lists_from most size seen 0 ws text) (length ws) table' s
+words-read most size seen ws text {table'} {s} e =
+    words-in (lists_from most size seen 0 ws text) (length ws) (lists-long most size seen 0 ws text) table' s e
 
 pub fault-read : (l : Lists) (table : List ℕ) (i : ℕ) → laid_from table 0 l ≡ fault_of i → l ≡ faulty_at i
 fault-read (lists ws t) table i e = absurd (let z : ◌≡◌ {A = ℕ} 0 1 = cc in omega arith)
@@ -73,7 +79,8 @@ module _ (n : ℕ) {l : Lists} {count : ℕ} {table' : List ℕ} (text : List �
   pub rows-done : count ≤ 64 → length text ≤ next → (table : List ℕ) → Answers (on_rows n l) table (Matrix n count) table'
   rows-done f h table =
       let g = w.long in
-      let d : sets (replicate 64 0) 0 w.words ≡ w.words ++ drop (0 + length w.words) (replicate 64 0) = sets-eq w.words (replicate 64 0) 0 (omega (arith, f, g, length-replicate {A = ℕ} 64 0)) in
+      let d : sets (replicate 64 0) 0 w.words ≡ w.words ++ drop (0 + length w.words) (replicate 64 0) =
+      sets-eq w.words (replicate 64 0) 0 (omega (arith, f, g, length-replicate {A = ℕ} 64 0)) in
       let z : 0 + length w.words ≡ length w.words = omega arith in
       let k : table' ≡ w.words ++ replicate (64 - length w.words) 0 = w.stands ∙ d ∙ rw (z, drop-zeros) in
       rw (w.is, done text next h) (record { replies = rw g; leaves = k })
@@ -104,7 +111,8 @@ module _ (table : List ℕ) where
   pub tall-over : (n m : ℕ) {l : Line} (vs s : List ℕ) → l ≡ reads vs s → m < get_or vs 0 0 → Answers (on_most n m l) table (Refused (AlistFault 2)) table
   tall-over n m vs s e h = rw (e, lt-leb (get_or vs 0 0) m h) (record { replies = refl; leaves = refl })
 
-  pub wide-over : (n m : ℕ) {l : Line} (vs s : List ℕ) → l ≡ reads vs s → get_or vs 0 0 ≤ m → n < get_or vs 1 0 → Answers (on_most n m l) table (Refused (AlistFault 2)) table
+  pub wide-over : (n m : ℕ) {l : Line} (vs s : List ℕ) → l ≡ reads vs s → get_or vs 0 0 ≤ m → n < get_or vs 1 0
+      → Answers (on_most n m l) table (Refused (AlistFault 2)) table
   wide-over n m vs s e h k = rw (e, le-leb (get_or vs 0 0) m h, lt-leb (get_or vs 1 0) n k) (record { replies = refl; leaves = refl })
 
 -- lines that are good

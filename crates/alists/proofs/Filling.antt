@@ -33,7 +33,8 @@ column-small (r ∷ rows) i = grow (column rows i) (bit r i) (length rows) (colu
 pub column-room : (rows : List ℕ) (i d m : ℕ) → length rows < m → d < 2 → column rows i * 2 + d < 2 ^ m
 column-room rows i d m h k = lt_of_lt_of_le (grow (column rows i) d (length rows) (column-small rows i) k) (pow-le-pow_right (omega arith) h)
 
-pub column-back : (rows : List ℕ) (i j : ℕ) → 0 < j → j ≤ length rows → column (drop (j - 1) rows) i ≡ column (drop j rows) i * 2 + bit (get_or rows (j - 1) 0) i
+pub column-back : (rows : List ℕ) (i j : ℕ) → 0 < j → j ≤ length rows
+    → column (drop (j - 1) rows) i ≡ column (drop j rows) i * 2 + bit (get_or rows (j - 1) 0) i
 column-back rows i j z h = rw (back rows j z h)
 
 -- ---- into a table

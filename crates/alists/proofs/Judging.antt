@@ -60,15 +60,17 @@ module _ {most size : ℕ} {seen weights text : List ℕ} {at i : ℕ} {table : 
       → Laying most size seen weights text next (i + 1) (set table i w) whole size₀
   laying-on w next e p t =
       let d = here weights i h in
+      let rest = lists_from most size seen (suc i) (drop (suc i) weights) (drop next text) in
       record {
         high = omega arith;
         place = p;
         sized = length-set table i w ∙ l.sized;
-        stands = rw add-one (sym (laid-onto table i w (lists_from most size seen (suc i) (drop (suc i) weights) (drop next text))) ∙ rw (d, e, t, add-one) at l.stands);
+        stands = rw add-one (sym (laid-onto table i w rest) ∙ rw (d, e, t, add-one) at l.stands);
       }
 
   -- a list that does not show the columns
-  pub laying-hidden : (w next : ℕ) → list_at most size (get_or weights i 0) (drop at text) ≡ listed w (drop next text) → shows seen i w ≡ false → whole ≡ fault_of i
+  pub laying-hidden : (w next : ℕ) → list_at most size (get_or weights i 0) (drop at text) ≡ listed w (drop next text) → shows seen i w ≡ false
+      → whole ≡ fault_of i
   laying-hidden w next e t = sym l.stands ∙ rw (here weights i h, e, t)
 
   -- a faulty one

@@ -50,7 +50,8 @@ padded-take (suc most) (x ∷ xs) k h = ap (λ (r : List ℕ). x ∷ r) (padded-
 pub list-taken : (most w : ℕ) → most ≤ 64 → take most (sets (replicate 64 0) 0 (indices w)) ≡ list_of most w
 list-taken most w h =
     let f = indices-few w in
-    let e : sets (replicate 64 0) 0 (indices w) ≡ indices w ++ drop (0 + length (indices w)) (replicate 64 0) = sets-eq (indices w) (replicate 64 0) 0 (omega (arith, f, length-replicate {A = ℕ} 64 0)) in
+    let e : sets (replicate 64 0) 0 (indices w) ≡ indices w ++ drop (0 + length (indices w)) (replicate 64 0) =
+    sets-eq (indices w) (replicate 64 0) 0 (omega (arith, f, length-replicate {A = ℕ} 64 0)) in
     let z : 0 + length (indices w) ≡ length (indices w) = omega arith in
     rw (e, z, drop-zeros) (padded-take most (indices w) (64 - length (indices w)) (omega (arith, f)))
 

@@ -42,7 +42,8 @@ ones-back : (size w : ℕ) → w < 2 ^ size → (p k : ℕ) → ones_of size (w 
 ones-back size w h p zero = let e : p + 0 ≡ p = omega arith in rw e
 ones-back size w h p (suc k) = go (ones-back size w h (suc p) k) (bit-cases w p)
   where
-    go : ones_of size (w % 2 ^ suc p) (ones_from w (suc p) k) ≡ word (w % 2 ^ (suc p + k)) → (bit w p ≡ 0) ⊎ (bit w p ≡ 1) → ones_of size (w % 2 ^ p) (ones_from w p (suc k)) ≡ word (w % 2 ^ (p + suc k))
+    go : ones_of size (w % 2 ^ suc p) (ones_from w (suc p) k) ≡ word (w % 2 ^ (suc p + k)) → (bit w p ≡ 0) ⊎ (bit w p ≡ 1)
+        → ones_of size (w % 2 ^ p) (ones_from w p (suc k)) ≡ word (w % 2 ^ (p + suc k))
     go r (inl b) =
         let e : p + suc k ≡ suc p + k = omega arith in
         let m : w % 2 ^ suc p ≡ w % 2 ^ p = low-on w p ∙ rw b (omega arith) in

@@ -60,5 +60,6 @@ put-fits {text} {room} {room'} {scratch} {scratch'} {size} {r} m h p =
     let s : sets room 0 text ≡ text ++ drop (0 + length text) room = sets-eq text room 0 (omega (arith, e, h)) in
     rw (e, p.stands, s, z) (fits-room text room (omega (arith, e, h)))
 
-pub put-short : {text room scratch scratch' : List ℕ} {size : ℕ} → Puts scratch 0 text scratch' size → length room < size → WritesLine text room (Refused R.LineRoom) room
+pub put-short : {text room scratch scratch' : List ℕ} {size : ℕ} → Puts scratch 0 text scratch' size → length room < size
+    → WritesLine text room (Refused R.LineRoom) room
 put-short {text} {room} {size = size} m h = let e = m.next in too_long text room (omega (arith, e, h))

@@ -1,6 +1,6 @@
 -- The numbers of a line put into a table one by one.
 use lib.Dec.{eqb}
-use lib.ListN.{drop, length, length-set, set, take}
+use lib.ListN.{drop, length, length-replicate, length-set, replicate, set, take}
 use lib.Seq.{sets, sets-eq, take-append_seam}
 use mathlib.Core.Bool.{Bool, cond, false, true}
 use mathlib.Core.List.{◌++◌, List, [], ◌∷◌}
@@ -50,7 +50,8 @@ module _ {text : List ℕ} {count at i : ℕ} {table : List ℕ} {whole : Stored
       sym s.stands ∙ rw (k, e)
 
   -- all are put
-  pub storing-end : count ≤ i → (r : LineEnd) → ReadsLine (feed_of (drop at text)) [] text r → Storing text count at i table whole size₀ → StoredAs whole text table r
+  pub storing-end : count ≤ i → (r : LineEnd) → ReadsLine (feed_of (drop at text)) [] text r
+      → Storing text count at i table whole size₀ → StoredAs whole text table r
   storing-end h r p s =
       let k : count - i ≡ 0 = omega arith in
       let e = rw k at s.stands in
@@ -64,7 +65,8 @@ storing-start text count at i table h p = record { high = h; place = p; size = r
 
 module _ (table : List ℕ) (count : ℕ) (s : List ℕ) where
   -- the first number, then the rest
-  pub first-stored : (v : ℕ) (rest : List ℕ) → 0 < count → number_of s ≡ found v rest → stored table 0 (line_of count s) ≡ stored (set table 0 v) 1 (rest_of (count - 1) rest)
+  pub first-stored : (v : ℕ) (rest : List ℕ) → 0 < count → number_of s ≡ found v rest
+      → stored table 0 (line_of count s) ≡ stored (set table 0 v) 1 (rest_of (count - 1) rest)
   first-stored v rest h e = go count h
     where
       go : (n : ℕ) → 0 < n → stored table 0 (line_of n s) ≡ stored (set table 0 v) 1 (rest_of (n - 1) rest)
@@ -106,7 +108,8 @@ pub line-long : (n : ℕ) (t vs s : List ℕ) → line_of n t ≡ reads vs s →
 line-long zero t vs s e = feed-long t vs s e
 line-long (suc n) t vs s e = further-long n (number_of t) (rest_of n) (rest-long n) vs s e
 
-stored-case : (table : List ℕ) (n : ℕ) (l : Line) → ((vs s : List ℕ) → l ≡ reads vs s → length vs ≡ n) → n ≤ length table → (table' s : List ℕ) → stored table 0 l ≡ kept table' s
+stored-case : (table : List ℕ) (n : ℕ) (l : Line) → ((vs s : List ℕ) → l ≡ reads vs s → length vs ≡ n) → n ≤ length table
+    → (table' s : List ℕ) → stored table 0 l ≡ kept table' s
     → l ≡ reads (take n table') s
 stored-case table n (reads vs t) h f table' s e =
     let l = h vs t refl in
@@ -121,9 +124,11 @@ lost-case : (table : List ℕ) (l : Line) → stored table 0 l ≡ lost → l �
 lost-case table (reads vs t) e = absurd (let z : ◌≡◌ {A = ℕ} 0 1 = cc in omega arith)
 lost-case table faulty e = refl
 
--- the line that a table holds at its start
-pub line_kept : (table : List ℕ) (n : ℕ) (t table' s : List ℕ) → n ≤ length table → stored table 0 (line_of n t) ≡ kept table' s → line_of n t ≡ reads (take n table') s
-line_kept table n t table' s h e = stored-case table n (line_of n t) (line-long n t) h table' s e
+-- the line that a table of zeros then holds at its start
+pub line_kept : (n : ℕ) (t : List ℕ) {table' s : List ℕ} → n ≤ 64 → stored (replicate 64 0) 0 (line_of n t) ≡ kept table' s
+    → line_of n t ≡ reads (take n table') s
+line_kept n t {table'} {s} h e =
+    stored-case (replicate 64 0) n (line_of n t) (line-long n t) (omega (arith, length-replicate {A = ℕ} 64 0)) table' s e
 
 pub line-lost : (table : List ℕ) (n : ℕ) (t : List ℕ) → stored table 0 (line_of n t) ≡ lost → line_of n t ≡ faulty
 line-lost table n t e = lost-case table (line_of n t) e

@@ -131,7 +131,8 @@ pub fn lists_at(
     requires size_bound { size ≤ 64 }
     requires seen_len_bound { length seen.now ≤ 64 }
     requires weights_len_bound { length weights.now ≤ 64 }
-    ensures { ReadsLists (laid_from table.old 0 (lists_from most size seen.now 0 weights.now (drop from text.now))) (length weights.now) text.now table.old result table.new }
+    ensures { ReadsLists (laid_from table.old 0 (lists_from most size seen.now 0 weights.now (drop from text.now)))
+        (length weights.now) text.now table.old result table.new }
 {
     let mut at = from;
     let mut i = 0;

@@ -1,5 +1,5 @@
 -- `lists::list_at` meets its contract.
-use lib.ListN.{drop, length-replicate, replicate}
+use lib.ListN.{drop, length-replicate}
 use lib.Seq.{length-take-le}
 use mathlib.Core.Path.{sym}
 use Prim.Native.Nat.{ℕ}
@@ -22,10 +22,12 @@ pub returns-in_default-judged : goal.returns-in_default-judged
 returns-in_default-judged c =
     let l = rw c.in-Next.is at c.read_line-line.ensures.is in
     let w = rw c.in_default-judged.is at c.word_of-judged.ensures.is in
-    record { is = list-wrong c.args.most c.args.size c.args.weight _ _ _ (line_kept (replicate 64 0) c.args.most (drop c.args.at c.args.text.now) _ _ (omega (arith, length-replicate {A = ℕ} 64 0)) l.0) w }
+    let k = line_kept c.args.most (drop c.args.at c.args.text.now) c.requires.most_bound l.0 in
+    record { is = list-wrong c.args.most c.args.size c.args.weight _ _ _ k w }
 
 pub returns : goal.returns
 returns c =
     let l = rw c.in-Next.is at c.read_line-line.ensures.is in
     let w = rw c.in-Is.is at c.word_of-judged.ensures.is in
-    record { is = (list-good c.args.most c.args.size c.args.weight _ _ _ _ (line_kept (replicate 64 0) c.args.most (drop c.args.at c.args.text.now) _ _ (omega (arith, length-replicate {A = ℕ} 64 0)) l.0) w, l.1) }
+    let k = line_kept c.args.most (drop c.args.at c.args.text.now) c.requires.most_bound l.0 in
+    record { is = (list-good c.args.most c.args.size c.args.weight _ _ _ _ k w, l.1) }

@@ -18,7 +18,8 @@ list_at-list-requires c =
 
 pub returns-in_default : goal.returns-in_default
 returns-in_default c =
-    record { size = c.loop-i.invariant.sized; is = (laying-bad (omega arith) c.loop-i.invariant (rw c.in_default.is at c.list_at-list.ensures.is), omega arith) }
+    let l = rw c.in_default.is at c.list_at-list.ensures.is in
+    record { size = c.loop-i.invariant.sized; is = (laying-bad (omega arith) c.loop-i.invariant l, omega arith) }
 
 pub shows_columns-requires : goal.shows_columns-requires
 shows_columns-requires c = c.requires.seen_len_bound
@@ -26,7 +27,11 @@ shows_columns-requires c = c.requires.seen_len_bound
 pub returns-then-not-shows_columns : goal.returns-then-not-shows_columns
 returns-then-not-shows_columns c =
     let l = rw c.in-Is.is at c.list_at-list.ensures.is in
-    record { size = c.loop-i.invariant.sized; is = (laying-hidden (omega arith) c.loop-i.invariant c.in-Is.word c.in-Is.next l.0 (sym c.shows_columns.ensures ∙ c.if-not-shows_columns.true), omega arith) }
+    let hidden = sym c.shows_columns.ensures ∙ c.if-not-shows_columns.true in
+    record {
+      size = c.loop-i.invariant.sized;
+      is = (laying-hidden (omega arith) c.loop-i.invariant c.in-Is.word c.in-Is.next l.0 hidden, omega arith);
+    }
 
 pub loop-i-preserved : goal.loop-i-preserved
 loop-i-preserved c =

@@ -11,7 +11,8 @@ loop-i-init c = (omega arith, omega arith, refl)
 
 pub returns-then-not-fits_index : goal.returns-then-not-fits_index
 returns-then-not-fits_index c =
-    record { is = sym c.loop-i.invariant.2 ∙ ones-other c.args.size c.loop-i.used c.args.list.now c.loop-i.i (omega arith) (sym c.fits_index.ensures ∙ c.if-not-fits_index.true) }
+    let unfit = sym c.fits_index.ensures ∙ c.if-not-fits_index.true in
+    record { is = sym c.loop-i.invariant.2 ∙ ones-other c.args.size c.loop-i.used c.args.list.now c.loop-i.i (omega arith) unfit }
 
 pub overflow_sub-used : goal.overflow_sub-used
 overflow_sub-used c =

@@ -1,7 +1,7 @@
 -- `matrix::column_at` meets its contract. The invariant: the word is the column of the rows from j on.
 use lib.ListN.{drop, get_or, length, length-drop}
 use mathlib.Core.Path.{◌≡◌}
-use Prim.Native.Nat.{◌-◌}
+use Prim.Native.Nat.{◌-◌, ◌<◌}
 use Rattle.alists.proofs.Filling.{column-back, column-room}
 use Rattle.alists.proofs.Places.{done}
 use Rattle.words.proofs.Word.{bit-lt}
@@ -17,7 +17,8 @@ overflow_mul-word c =
 
 pub overflow_add-word : goal.overflow_add-word
 overflow_add-word c =
-    omega (arith, column-room (drop c.loop-j.j c.args.rows.now) c.args.i c.bit_at.result 64 (rw length-drop (omega arith)) (rw c.bit_at.ensures (bit-lt c.args.i (get_or c.args.rows.now (c.loop-j.j - 1) 0))))
+    let b : c.bit_at.result < 2 = rw c.bit_at.ensures (bit-lt c.args.i (get_or c.args.rows.now (c.loop-j.j - 1) 0)) in
+    omega (arith, column-room (drop c.loop-j.j c.args.rows.now) c.args.i c.bit_at.result 64 (rw length-drop (omega arith)) b)
 
 pub loop-j-preserved : goal.loop-j-preserved
 loop-j-preserved c =

@@ -11,7 +11,8 @@ returns-then-at-text c =
 
 pub returns-then-not-is_digit : goal.returns-then-not-is_digit
 returns-then-not-is_digit c =
-    record { is = (more-other c.args.text.now c.args.at c.args.first (omega arith) (sym c.is_digit.ensures ∙ c.if-not-is_digit.true), omega arith, omega arith) }
+    let other = sym c.is_digit.ensures ∙ c.if-not-is_digit.true in
+    record { is = (more-other c.args.text.now c.args.at c.args.first (omega arith) other, omega arith, omega arith) }
 
 pub returns-then-first-eq0 : goal.returns-then-first-eq0
 returns-then-first-eq0 c =
@@ -28,6 +29,8 @@ overflow_add-result c =
 
 pub returns : goal.returns
 returns c =
-    let b = between 48 57 (get_or c.args.text.now c.args.at 0) (sym c.is_digit.ensures ∙ c.if-not-is_digit.false) in
+    let digit = sym c.is_digit.ensures ∙ c.if-not-is_digit.false in
+    let b = between 48 57 (get_or c.args.text.now c.args.at 0) digit in
     let d = c.digit.ensures in
-    record { is = (more-here c.args.text.now c.args.at c.args.first (omega arith) (sym c.is_digit.ensures ∙ c.if-not-is_digit.false) c.if-first-eq0.false ∙ rw d, omega arith, omega (arith, b.0, b.1, d)) }
+    let here = more-here c.args.text.now c.args.at c.args.first (omega arith) digit c.if-first-eq0.false in
+    record { is = (here ∙ rw d, omega arith, omega (arith, b.0, b.1, d)) }

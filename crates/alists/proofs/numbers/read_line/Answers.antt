@@ -11,7 +11,8 @@ returns-then-count-eq0 c =
 
 pub returns-in_default : goal.returns-in_default
 returns-in_default c =
-    record { size = refl; is = first-lost c.args.table.now c.args.count (drop c.args.at c.args.text.now) (omega arith) (rw c.in_default.is at c.number_at-first.ensures.is) }
+    let n = rw c.in_default.is at c.number_at-first.ensures.is in
+    record { size = refl; is = first-lost c.args.table.now c.args.count (drop c.args.at c.args.text.now) (omega arith) n }
 
 pub read_rest-requires : goal.read_rest-requires
 read_rest-requires c =

@@ -27,30 +27,38 @@ loop-i-init c = (omega arith, omega arith, going_start _ _ _)
 
 pub put_byte-space-requires : goal.put_byte-space-requires
 put_byte-space-requires c =
+    let digits = decimal (get_or c.args.numbers.now c.loop-i.i 0) in
+    let rest = following (drop (c.loop-i.i + 1) c.args.numbers.now) in
     let g = rw (following-here c.args.numbers.now c.loop-i.i (omega arith)) at c.loop-i.invariant.2 in
-    let r = going-room (32 ∷ []) ((decimal (get_or c.args.numbers.now c.loop-i.i 0)) ++ (following (drop (c.loop-i.i + 1) c.args.numbers.now))) 32768 g (rest-room c.args.numbers.now 32768 (omega arith) c.requires.numbers_bound c.put_number-next.ensures) in
+    let b = rest-room c.args.numbers.now 32768 (omega arith) c.requires.numbers_bound c.put_number-next.ensures in
+    let r = going-room (32 ∷ []) (digits ++ rest) 32768 g b in
     omega (arith, r)
 
 pub put_number-next-requires-in-loop-i : goal.put_number-next-requires-in-loop-i
 put_number-next-requires-in-loop-i c =
+    let digits = decimal (get_or c.args.numbers.now c.loop-i.i 0) in
+    let rest = following (drop (c.loop-i.i + 1) c.args.numbers.now) in
     let g = rw (following-here c.args.numbers.now c.loop-i.i (omega arith)) at c.loop-i.invariant.2 in
-    let k = going_on (32 ∷ []) ((decimal (get_or c.args.numbers.now c.loop-i.i 0)) ++ (following (drop (c.loop-i.i + 1) c.args.numbers.now))) g c.put_byte-space.ensures in
+    let b = rest-room c.args.numbers.now 32768 (omega arith) c.requires.numbers_bound c.put_number-next.ensures in
+    let k = going_on (32 ∷ []) (digits ++ rest) g c.put_byte-space.ensures in
     record {
       value_bound = c.requires.small.below c.loop-i.i;
-      value_bound_2 = going-room (decimal (get_or c.args.numbers.now c.loop-i.i 0)) (following (drop (c.loop-i.i + 1) c.args.numbers.now)) 32768 k (rest-room c.args.numbers.now 32768 (omega arith) c.requires.numbers_bound c.put_number-next.ensures);
+      value_bound_2 = going-room digits rest 32768 k b;
     }
 
 pub loop-i-preserved : goal.loop-i-preserved
 loop-i-preserved c =
+    let digits = decimal (get_or c.args.numbers.now c.loop-i.i 0) in
+    let rest = following (drop (c.loop-i.i + 1) c.args.numbers.now) in
     let g = rw (following-here c.args.numbers.now c.loop-i.i (omega arith)) at c.loop-i.invariant.2 in
-    let k = going_on (32 ∷ []) (decimal (get_or c.args.numbers.now c.loop-i.i 0) ++ following (drop (c.loop-i.i + 1) c.args.numbers.now)) g c.put_byte-space.ensures in
-    (omega arith, omega arith, going_on (decimal (get_or c.args.numbers.now c.loop-i.i 0)) (following (drop (c.loop-i.i + 1) c.args.numbers.now)) k c.put_number-next-in-loop-i.ensures)
+    let k = going_on (32 ∷ []) (digits ++ rest) g c.put_byte-space.ensures in
+    (omega arith, omega arith, going_on digits rest k c.put_number-next-in-loop-i.ensures)
 
 pub put_byte-requires-2 : goal.put_byte-requires-2
 put_byte-requires-2 c =
     let g = rw (following-end c.args.numbers.now c.loop-i.i (omega arith)) at c.loop-i.invariant.2 in
     let l = g.long in
-    let b = (rest-room c.args.numbers.now 32768 (omega arith) c.requires.numbers_bound c.put_number-next.ensures) in
+    let b = rest-room c.args.numbers.now 32768 (omega arith) c.requires.numbers_bound c.put_number-next.ensures in
     omega (arith, l, b)
 
 pub returns : goal.returns

@@ -14,16 +14,20 @@ loop-i-init c =
 
 pub put_list-next-requires : goal.put_list-next-requires
 put_list-next-requires c =
+    let here = line (list_of c.args.most (get_or c.args.words.now c.loop-i.i 0)) in
+    let rest = text_of (map (list_of c.args.most) (drop (c.loop-i.i + 1) c.args.words.now)) in
     let g = rw (lists-here c.args.most c.args.words.now c.loop-i.i (omega arith)) at c.loop-i.invariant.1 in
     record {
       most_bound = c.requires.most_bound;
-      word_bound = going-room (line (list_of c.args.most (get_or c.args.words.now c.loop-i.i 0))) (text_of (map (list_of c.args.most) (drop (c.loop-i.i + 1) c.args.words.now))) 32768 g c.requires.words_bound;
+      word_bound = going-room here rest 32768 g c.requires.words_bound;
     }
 
 pub loop-i-preserved : goal.loop-i-preserved
 loop-i-preserved c =
+    let here = line (list_of c.args.most (get_or c.args.words.now c.loop-i.i 0)) in
+    let rest = text_of (map (list_of c.args.most) (drop (c.loop-i.i + 1) c.args.words.now)) in
     let g = rw (lists-here c.args.most c.args.words.now c.loop-i.i (omega arith)) at c.loop-i.invariant.1 in
-    (omega arith, going_on (line (list_of c.args.most (get_or c.args.words.now c.loop-i.i 0))) (text_of (map (list_of c.args.most) (drop (c.loop-i.i + 1) c.args.words.now))) g c.put_list-next.ensures)
+    (omega arith, going_on here rest g c.put_list-next.ensures)
 
 pub shape_of-room : goal.shape_of-room
 shape_of-room c = c.loop-i.invariant.1.size

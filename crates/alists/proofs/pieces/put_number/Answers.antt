@@ -27,4 +27,5 @@ put_byte-requires-2 c =
 
 pub returns : goal.returns
 returns c =
-    rw (decimal-two c.args.value c.if-value-lt10.false, ← c.character-2.ensures, ← c.character-3.ensures) (puts_then c.put_byte-next.ensures c.put_byte-2.ensures)
+    rw (decimal-two c.args.value c.if-value-lt10.false, ← c.character-2.ensures, ← c.character-3.ensures)
+    (puts_then c.put_byte-next.ensures c.put_byte-2.ensures)

@@ -1,12 +1,12 @@
 -- `reading::on_columns` meets its contract.
-use lib.ListN.{drop, length, length-replicate}
+use lib.ListN.{drop, length-replicate}
 use lib.Seq.{length-take-le}
 use mathlib.Core.List.{[]}
 use mathlib.Core.Path.{sym}
 use Prim.Native.Nat.{ℕ}
 use Rattle.alists.specs.Reading.{lists_from}
 use Rattle.alists.proofs.Bounds.{front}
-use Rattle.alists.proofs.Chain.{answer-fault, columns-fault, columns-good, fault-read, lists-long, words-read}
+use Rattle.alists.proofs.Chain.{answer-fault, columns-fault, columns-good, fault-read, words-read}
 use native.Mathlib.Omega.{arith}
 use Rattle.alists.proofs.reading.on_columns.Goals as goal
 
@@ -38,7 +38,7 @@ slice_bounds-on_rows-end c =
 pub on_rows-requires : goal.on_rows-requires
 on_rows-requires c =
     let e = rw c.in-Next.is at c.lists_at-lists.ensures.is in
-    let w = words-read (lists_from c.args.tall c.args.m [] 0 c.args.heights.now (drop c.args.at c.args.text.now)) (length c.args.heights.now) (lists-long c.args.tall c.args.m [] 0 c.args.heights.now (drop c.args.at c.args.text.now)) _ _ e.0 in
+    let w = words-read c.args.tall c.args.m [] c.args.heights.now (drop c.args.at c.args.text.now) e.0 in
     let z = c.lists_at-lists.ensures.size in
     record {
       at_in_bounds = e.1;
@@ -51,14 +51,15 @@ on_rows-requires c =
 pub returns-in-Bad : goal.returns-in-Bad
 returns-in-Bad c =
     let e = rw c.in-Bad.is at c.lists_at-lists.ensures.is in
-    answer-fault _ c.args.table.now (columns-fault c.args.n c.args.wide c.args.widths.now (lists_from c.args.tall c.args.m [] 0 c.args.heights.now (drop c.args.at c.args.text.now)) c.in-Bad.i (fault-read (lists_from c.args.tall c.args.m [] 0 c.args.heights.now (drop c.args.at c.args.text.now)) _ c.in-Bad.i e.0))
+    let f = fault-read (lists_from c.args.tall c.args.m [] 0 c.args.heights.now (drop c.args.at c.args.text.now)) _ _ e.0 in
+    answer-fault _ c.args.table.now (columns-fault c.args.n c.args.wide c.args.widths.now _ _ f)
 
 pub returns-in-Next : goal.returns-in-Next
 returns-in-Next c =
     let e = rw c.in-Next.is at c.lists_at-lists.ensures.is in
-    let w = words-read (lists_from c.args.tall c.args.m [] 0 c.args.heights.now (drop c.args.at c.args.text.now)) (length c.args.heights.now) (lists-long c.args.tall c.args.m [] 0 c.args.heights.now (drop c.args.at c.args.text.now)) _ _ e.0 in
+    let w = words-read c.args.tall c.args.m [] c.args.heights.now (drop c.args.at c.args.text.now) e.0 in
     let g = w.long in
     let f = front w.words c.args.n (omega (arith, g)) c.requires.n_bound in
     let s = w.stands in
-    let k = columns-good c.args.n c.args.wide c.args.widths.now (lists_from c.args.tall c.args.m [] 0 c.args.heights.now (drop c.args.at c.args.text.now)) w.words _ w.is in
+    let k = columns-good c.args.n c.args.wide c.args.widths.now _ _ _ w.is in
     rw k (rw (s, f) at c.on_rows.ensures)

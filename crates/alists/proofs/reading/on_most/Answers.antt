@@ -1,7 +1,6 @@
 -- `reading::on_most` meets its contract.
-use lib.ListN.{drop, length-replicate, replicate}
+use lib.ListN.{drop}
 use lib.Seq.{get_or-take}
-use Prim.Native.Nat.{ℕ}
 use Rattle.alists.proofs.Storing.{line_kept, line-lost}
 use Rattle.alists.proofs.Chain.{most-faulty, most-good, tall-over, wide-over}
 use native.Mathlib.Omega.{arith}
@@ -15,16 +14,17 @@ returns-in_default c =
 pub returns-then-m-tall : goal.returns-then-m-tall
 returns-then-m-tall c =
     let l = rw c.in-Next.is at c.read_line-line.ensures.is in
+    let k = line_kept 2 (drop c.args.at c.args.text.now) (omega arith) l.0 in
     let a = get_or-take 2 c.read_line-line.new.table 0 0 (omega arith) in
-    let b = get_or-take 2 c.read_line-line.new.table 1 0 (omega arith) in
-    tall-over c.args.table.now c.args.n c.args.m _ _ (line_kept (replicate 64 0) 2 (drop c.args.at c.args.text.now) _ _ (omega (arith, length-replicate {A = ℕ} 64 0)) l.0) (rw a c.if-m-tall.true)
+    tall-over c.args.table.now c.args.n c.args.m _ _ k (rw a c.if-m-tall.true)
 
 pub returns-then-n-wide : goal.returns-then-n-wide
 returns-then-n-wide c =
     let l = rw c.in-Next.is at c.read_line-line.ensures.is in
+    let k = line_kept 2 (drop c.args.at c.args.text.now) (omega arith) l.0 in
     let a = get_or-take 2 c.read_line-line.new.table 0 0 (omega arith) in
     let b = get_or-take 2 c.read_line-line.new.table 1 0 (omega arith) in
-    wide-over c.args.table.now c.args.n c.args.m _ _ (line_kept (replicate 64 0) 2 (drop c.args.at c.args.text.now) _ _ (omega (arith, length-replicate {A = ℕ} 64 0)) l.0) (rw a c.if-m-tall.false) (rw b c.if-n-wide.true)
+    wide-over c.args.table.now c.args.n c.args.m _ _ k (rw a c.if-m-tall.false) (rw b c.if-n-wide.true)
 
 pub on_column_weights-requires : goal.on_column_weights-requires
 on_column_weights-requires c =
@@ -40,6 +40,7 @@ on_column_weights-requires c =
 pub returns : goal.returns
 returns c =
     let l = rw c.in-Next.is at c.read_line-line.ensures.is in
+    let k = line_kept 2 (drop c.args.at c.args.text.now) (omega arith) l.0 in
     let a = get_or-take 2 c.read_line-line.new.table 0 0 (omega arith) in
     let b = get_or-take 2 c.read_line-line.new.table 1 0 (omega arith) in
-    rw (most-good c.args.n c.args.m _ _ (line_kept (replicate 64 0) 2 (drop c.args.at c.args.text.now) _ _ (omega (arith, length-replicate {A = ℕ} 64 0)) l.0) (rw a c.if-m-tall.false) (rw b c.if-n-wide.false), a, b) c.on_column_weights.ensures
+    rw (most-good c.args.n c.args.m _ _ k (rw a c.if-m-tall.false) (rw b c.if-n-wide.false), a, b) c.on_column_weights.ensures

@@ -1,5 +1,5 @@
 -- `reading::on_row_weights` meets its contract.
-use lib.ListN.{drop, length-replicate, replicate}
+use lib.ListN.{drop, length-replicate}
 use lib.Seq.{length-take-le}
 use mathlib.Core.Path.{◌≡◌, sym, ◌∙◌}
 use Prim.Native.Nat.{ℕ}
@@ -11,7 +11,8 @@ use Rattle.alists.proofs.reading.on_row_weights.Goals as goal
 pub returns-in_default : goal.returns-in_default
 returns-in_default c =
     let l = rw c.in_default.is at c.read_line-line.ensures.is in
-    answer-fault _ c.args.table.now (widths-faulty c.args.n c.args.m c.args.tall c.args.wide c.args.heights.now (line-lost _ c.args.m (drop c.args.at c.args.text.now) l))
+    answer-fault _ c.args.table.now
+    (widths-faulty c.args.n c.args.m c.args.tall c.args.wide c.args.heights.now (line-lost _ c.args.m (drop c.args.at c.args.text.now) l))
 
 pub slice_bounds-weights-end : goal.slice_bounds-weights-end
 slice_bounds-weights-end c =
@@ -26,7 +27,9 @@ slice_bounds-largest_of-end c =
 pub returns-then-largest_of-wide : goal.returns-then-largest_of-wide
 returns-then-largest_of-wide c =
     let l = rw c.in-Next.is at c.read_line-line.ensures.is in
-    answer-fault _ c.args.table.now (widths-unmet c.args.n c.args.m c.args.tall c.args.wide c.args.heights.now _ _ (line_kept (replicate 64 0) c.args.m (drop c.args.at c.args.text.now) _ _ (omega (arith, length-replicate {A = ℕ} 64 0)) l.0) (λ e. c.if-largest_of-wide.true (c.largest_of.ensures ∙ e)))
+    let k = line_kept c.args.m (drop c.args.at c.args.text.now) c.requires.m_bound l.0 in
+    answer-fault _ c.args.table.now
+    (widths-unmet c.args.n c.args.m c.args.tall c.args.wide c.args.heights.now _ _ k (λ e. c.if-largest_of-wide.true (c.largest_of.ensures ∙ e)))
 
 pub slice_bounds-weights-end-2 : goal.slice_bounds-weights-end-2
 slice_bounds-weights-end-2 c =
@@ -56,4 +59,5 @@ pub returns : goal.returns
 returns c =
     let l = rw c.in-Next.is at c.read_line-line.ensures.is in
     let q : c.largest_of.result ≡ c.args.wide = omega arith in
-    rw (widths-met c.args.n c.args.m c.args.tall c.args.wide c.args.heights.now _ _ (line_kept (replicate 64 0) c.args.m (drop c.args.at c.args.text.now) _ _ (omega (arith, length-replicate {A = ℕ} 64 0)) l.0) (sym c.largest_of.ensures ∙ q)) c.on_columns.ensures
+    let k = line_kept c.args.m (drop c.args.at c.args.text.now) c.requires.m_bound l.0 in
+    rw (widths-met c.args.n c.args.m c.args.tall c.args.wide c.args.heights.now _ _ k (sym c.largest_of.ensures ∙ q)) c.on_columns.ensures

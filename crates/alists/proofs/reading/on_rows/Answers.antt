@@ -1,7 +1,7 @@
 -- `reading::on_rows` meets its contract.
-use lib.ListN.{drop, length}
+use lib.ListN.{drop}
 use Rattle.alists.specs.Reading.{lists_from}
-use Rattle.alists.proofs.Chain.{answer-fault, fault-read, lists-long, rows-done, rows-extra, rows-fault, words-read}
+use Rattle.alists.proofs.Chain.{answer-fault, fault-read, rows-done, rows-extra, rows-fault, words-read}
 use native.Mathlib.Omega.{arith}
 use Rattle.alists.proofs.reading.on_rows.Goals as goal
 
@@ -23,16 +23,17 @@ overflow_add-result-in-Bad c =
 pub returns-then-next-text : goal.returns-then-next-text
 returns-then-next-text c =
     let e = rw c.in-Next.is at c.lists_at-lists.ensures.is in
-    let w = words-read (lists_from c.args.most c.args.n c.args.columns.now 0 c.args.weights.now (drop c.args.at c.args.text.now)) (length c.args.weights.now) (lists-long c.args.most c.args.n c.args.columns.now 0 c.args.weights.now (drop c.args.at c.args.text.now)) _ _ e.0 in
+    let w = words-read c.args.most c.args.n c.args.columns.now c.args.weights.now (drop c.args.at c.args.text.now) e.0 in
     answer-fault _ c.args.table.now (rows-extra c.args.n c.args.text.now c.in-Next.next w (omega arith))
 
 pub returns-in-Bad : goal.returns-in-Bad
 returns-in-Bad c =
     let e = rw c.in-Bad.is at c.lists_at-lists.ensures.is in
-    answer-fault _ c.args.table.now (rows-fault c.args.n (lists_from c.args.most c.args.n c.args.columns.now 0 c.args.weights.now (drop c.args.at c.args.text.now)) c.in-Bad.i (fault-read (lists_from c.args.most c.args.n c.args.columns.now 0 c.args.weights.now (drop c.args.at c.args.text.now)) _ c.in-Bad.i e.0))
+    let f = fault-read (lists_from c.args.most c.args.n c.args.columns.now 0 c.args.weights.now (drop c.args.at c.args.text.now)) _ _ e.0 in
+    answer-fault _ c.args.table.now (rows-fault c.args.n _ _ f)
 
 pub returns-else-next-text : goal.returns-else-next-text
 returns-else-next-text c =
     let e = rw c.in-Next.is at c.lists_at-lists.ensures.is in
-    let w = words-read (lists_from c.args.most c.args.n c.args.columns.now 0 c.args.weights.now (drop c.args.at c.args.text.now)) (length c.args.weights.now) (lists-long c.args.most c.args.n c.args.columns.now 0 c.args.weights.now (drop c.args.at c.args.text.now)) _ _ e.0 in
+    let w = words-read c.args.most c.args.n c.args.columns.now c.args.weights.now (drop c.args.at c.args.text.now) e.0 in
     rows-done c.args.n c.args.text.now c.in-Next.next w c.requires.weights_len_bound (omega arith) c.args.table.now

@@ -1,8 +1,6 @@
 -- `reading::on_sizes` meets its contract.
-use lib.ListN.{length-replicate, replicate}
 use lib.Seq.{get_or-take}
 use mathlib.Core.Path.{sym, ◌∙◌}
-use Prim.Native.Nat.{ℕ}
 use Rattle.alists.proofs.Storing.{line_kept, line-lost}
 use Rattle.alists.proofs.NumbersFound.{between}
 use Rattle.alists.proofs.Chain.{size_none, size-none-second, sizes-faulty, sizes-good}
@@ -17,16 +15,19 @@ returns-in_default c =
 pub returns-then-not-in_size : goal.returns-then-not-in_size
 returns-then-not-in_size c =
     let l = rw c.in-Next.is at c.read_line-line.ensures.is in
+    let k = line_kept 2 c.args.text.now (omega arith) l.0 in
     let a = get_or-take 2 c.read_line-line.new.table 0 0 (omega arith) in
-    let b = get_or-take 2 c.read_line-line.new.table 1 0 (omega arith) in
-    size_none c.args.table.now c.args.text.now _ _ (line_kept (replicate 64 0) 2 c.args.text.now _ _ (omega (arith, length-replicate {A = ℕ} 64 0)) l.0) (rw a (sym c.in_size.ensures ∙ c.if-not-in_size.true))
+    size_none c.args.table.now c.args.text.now _ _ k (rw a (sym c.in_size.ensures ∙ c.if-not-in_size.true))
 
 pub returns-then-not-in_size-2 : goal.returns-then-not-in_size-2
 returns-then-not-in_size-2 c =
     let l = rw c.in-Next.is at c.read_line-line.ensures.is in
+    let k = line_kept 2 c.args.text.now (omega arith) l.0 in
     let a = get_or-take 2 c.read_line-line.new.table 0 0 (omega arith) in
     let b = get_or-take 2 c.read_line-line.new.table 1 0 (omega arith) in
-    size-none-second c.args.table.now c.args.text.now _ _ (line_kept (replicate 64 0) 2 c.args.text.now _ _ (omega (arith, length-replicate {A = ℕ} 64 0)) l.0) (rw a (sym c.in_size.ensures ∙ c.if-not-in_size.false)) (rw b (sym c.in_size-2.ensures ∙ c.if-not-in_size-2.true))
+    size-none-second c.args.table.now c.args.text.now _ _ k
+    (rw a (sym c.in_size.ensures ∙ c.if-not-in_size.false))
+    (rw b (sym c.in_size-2.ensures ∙ c.if-not-in_size-2.true))
 
 pub on_most-requires : goal.on_most-requires
 on_most-requires c =
@@ -40,6 +41,9 @@ on_most-requires c =
 pub returns : goal.returns
 returns c =
     let l = rw c.in-Next.is at c.read_line-line.ensures.is in
+    let k = line_kept 2 c.args.text.now (omega arith) l.0 in
     let a = get_or-take 2 c.read_line-line.new.table 0 0 (omega arith) in
     let b = get_or-take 2 c.read_line-line.new.table 1 0 (omega arith) in
-    rw (sizes-good c.args.text.now _ _ (line_kept (replicate 64 0) 2 c.args.text.now _ _ (omega (arith, length-replicate {A = ℕ} 64 0)) l.0) (rw a (sym c.in_size.ensures ∙ c.if-not-in_size.false)) (rw b (sym c.in_size-2.ensures ∙ c.if-not-in_size-2.false)), a, b) c.on_most.ensures
+    let first = sym c.in_size.ensures ∙ c.if-not-in_size.false in
+    let second = sym c.in_size-2.ensures ∙ c.if-not-in_size-2.false in
+    rw (sizes-good c.args.text.now _ _ k (rw a first) (rw b second), a, b) c.on_most.ensures
