@@ -27,7 +27,8 @@ shorter false s h = h
 digits-length : (k n : ℕ) → length (digits k n) ≤ k
 digits-length zero n = omega arith
 digits-length (suc k) n =
-    omega (arith, length-append (cond (ltb n 10) [] (digits k (n / 10))) ((48 + n % 10) ∷ []), shorter (ltb n 10) (digits k (n / 10)) (digits-length k (n / 10)))
+    let high = digits k (n / 10) in
+    omega (arith, length-append (cond (ltb n 10) [] high) ((48 + n % 10) ∷ []), shorter (ltb n 10) high (digits-length k (n / 10)))
 
 -- 20 digits at most
 pub decimal-length : (n : ℕ) → length (decimal n) ≤ 20

@@ -56,7 +56,9 @@ module _ {working : List ℕ} {from : ℕ} {c : Section} {i w : ℕ} (f : StateF
       ∙ ap (λ (t : Bool). cond t (along c (olds working from) i w + along c (olds working from) (i + 2 ^ c.live) w) (along c (olds working from) i w)) (sym b)
 
   pub one-is : {a : ℕ} → c.begins ≡ false → a ≡ along c (olds working from) i w → a ≡ leaving c (olds working from) i w
-  one-is b ea = ea ∙ ap (λ (t : Bool). cond t (along c (olds working from) i w + along c (olds working from) (i + 2 ^ c.live) w) (along c (olds working from) i w)) (sym b)
+  one-is b ea =
+      ea
+      ∙ ap (λ (t : Bool). cond t (along c (olds working from) i w + along c (olds working from) (i + 2 ^ c.live) w) (along c (olds working from) i w)) (sym b)
 
 -- ---- the ways that begin at a state depend on what the branches lead to
 
@@ -73,6 +75,7 @@ leaving-same c old new m h i w hi hw = go c.begins refl
     one x l = shifted-same (bit_of c x) (old (leads_to c x)) (new (leads_to c x)) w (λ v k. h x v l (omega arith))
 
     go : (b : Bool) → c.begins ≡ b
-        → cond b (along c old i w + along c old (i + 2 ^ c.live) w) (along c old i w) ≡ cond b (along c new i w + along c new (i + 2 ^ c.live) w) (along c new i w)
+        → cond b (along c old i w + along c old (i + 2 ^ c.live) w) (along c old i w)
+        ≡ cond b (along c new i w + along c new (i + 2 ^ c.live) w) (along c new i w)
     go true e = ap₂ ◌+◌ (one i (below-low c i hi)) (one (i + 2 ^ c.live) (below-high c i hi e))
     go false e = one i (below-low c i hi)

@@ -26,7 +26,8 @@ pub count-some : (k : ℕ) (P : ℕ → Bool) → 0 < count k P → (i : ℕ) ×
 count-some zero P h = absurd (omega arith)
 count-some (suc k) P h = go (P 0) refl h (count-some k (λ i. P (suc i)))
   where
-    go : (b : Bool) → P 0 ≡ b → 0 < more b (count k (λ i. P (suc i))) → (0 < count k (λ i. P (suc i)) → (i : ℕ) × (i < k) × T (P (suc i))) → (i : ℕ) × (i < suc k) × T (P i)
+    go : (b : Bool) → P 0 ≡ b → 0 < more b (count k (λ i. P (suc i))) → (0 < count k (λ i. P (suc i)) → (i : ℕ) × (i < k) × T (P (suc i)))
+        → (i : ℕ) × (i < suc k) × T (P i)
     go true e l ih = (0, suc-le-suc zero-le, rw e tt)
     go false e l ih = let r = ih l in (suc r.0, suc-le-suc r.1, r.2)
 
@@ -50,7 +51,8 @@ pairs zero P = refl
 pairs (suc m) P =
     let two : suc m * 2 ≡ suc (suc (m * 2)) = omega arith in
     ap (λ (n : ℕ). count n P) two
-    ∙ ap (λ (n : ℕ). more (P 0) (more (P 1) n)) (pairs m (λ x. P (suc (suc x))) ∙ ap₂ ◌+◌ (count_same m _ _ (λ i l. ap P (even i))) (count_same m _ _ (λ i l. ap P (odd i))))
+    ∙ ap (λ (n : ℕ). more (P 0) (more (P 1) n))
+    (pairs m (λ x. P (suc (suc x))) ∙ ap₂ ◌+◌ (count_same m _ _ (λ i l. ap P (even i))) (count_same m _ _ (λ i l. ap P (odd i))))
     ∙ go (P 0) (P 1) (count m (λ x. P (suc x * 2))) (count m (λ x. P (suc x * 2 + 1)))
   where
     even : (i : ℕ) → suc (suc (i * 2)) ≡ suc i * 2
@@ -78,7 +80,10 @@ same_test false false f g = refl
 -- how many numbers have a property is one number
 pub number-once : {P : ℕ → Type 0} {m c d : ℕ} → NumberOf P m c → NumberOf P m d → c ≡ d
 number-once {P} {m} a b =
-    sym a.number ∙ count_same m a.test b.test (λ i l. same_test (a.test i) (b.test i) (λ t. (b.right i l).1 ((a.right i l).0 t)) (λ t. (a.right i l).1 ((b.right i l).0 t))) ∙ b.number
+    sym a.number ∙ count_same m a.test b.test same ∙ b.number
+  where
+    same : (i : ℕ) → i < m → a.test i ≡ b.test i
+    same i l = same_test (a.test i) (b.test i) (λ t. (b.right i l).1 ((a.right i l).0 t)) (λ t. (a.right i l).1 ((b.right i l).0 t))
 
 -- it is above zero where one has it, and zero where none has
 pub number-some : {P : ℕ → Type 0} {m c : ℕ} → NumberOf P m c → 0 < c → (x : ℕ) × (x < m) × P x

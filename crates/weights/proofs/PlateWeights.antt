@@ -41,13 +41,16 @@ module _ (plate : Plate) (given : IsPrepared plate) where
         codeword = (spelled plate given x l).0 (and_left (spells (section_of (rows_of plate)) plate.n 0 0 x) (eqb (ones x) w) t);
         weight = eqb→eq (ones x) w (and_right (spells (section_of (rows_of plate)) plate.n 0 0 x) (eqb (ones x) w) t);
       }),
-      λ p. and-true (spells (section_of (rows_of plate)) plate.n 0 0 x) (eqb (ones x) w) ((spelled plate given x l).1 p.codeword) (subst (λ (v : ℕ). T (eqb (ones x) v)) p.weight (eqb_refl (ones x))),
+      λ p. and-true (spells (section_of (rows_of plate)) plate.n 0 0 x) (eqb (ones x) w) ((spelled plate given x l).1 p.codeword)
+          (subst (λ (v : ℕ). T (eqb (ones x) v)) p.weight (eqb_refl (ones x))),
     );
     number = sym (ways-counted (section_of (rows_of plate)) plate.n (plate-chain plate given) plate.n 0 0 w (omega arith) (start-state plate given));
   }
 
   first_fits : (j : ℕ) → j < length (rows_of plate) → firsts (rows_of plate) j < plate.n
-  first_fits j l = omega (arith, span-le (rows_of plate) (firsts (rows_of plate)) (lasts (rows_of plate)) (plate-spans plate given) j l, plate-fits plate given j l)
+  first_fits j l =
+      let rows = rows_of plate in
+      omega (arith, span-le rows (firsts rows) (lasts rows) (plate-spans plate given) j l, plate-fits plate given j l)
 
   -- they add up to 2 ^ k
   pub ways-add : total 65 (ways (section_of (rows_of plate)) plate.n 0 0) ≡ 2 ^ plate.k
@@ -58,11 +61,14 @@ module _ (plate : Plate) (given : IsPrepared plate) where
   -- none of them overflows
   ways-small : plate.k < 64 → (d t i w : ℕ) → t + d ≡ plate.n → ways (section_of (rows_of plate)) d t i w < 2 ^ 64
   ways-small h d t i w e =
-      let a : ways (section_of (rows_of plate)) d t i w ≤ total (suc (d + w)) (ways (section_of (rows_of plate)) d t i) = total-most (suc (d + w)) (ways (section_of (rows_of plate)) d t i) w (omega arith) in
-      let k : later (section_of (rows_of plate)) d t ≤ 63 = omega (arith, later-most (rows_of plate) (plate-spans plate given) plate.n first_fits d t e, size) in
+      let a : ways (section_of (rows_of plate)) d t i w ≤ total (suc (d + w)) (ways (section_of (rows_of plate)) d t i) =
+      total-most (suc (d + w)) (ways (section_of (rows_of plate)) d t i) w (omega arith) in
+      let k : later (section_of (rows_of plate)) d t ≤ 63 =
+      omega (arith, later-most (rows_of plate) (plate-spans plate given) plate.n first_fits d t e, size) in
       omega (arith, a, ways-total (section_of (rows_of plate)) d t i (suc (d + w)) (omega arith), pow_mono k)
 
-  pub tally-fits : plate.k < 64 → (half : ℕ) → half ≡ 2 ^ widest plate * 65 → (working : List ℕ) → length working ≡ half + half → TallyFits (rows_of plate) plate.n half working
+  pub tally-fits : plate.k < 64 → (half : ℕ) → half ≡ 2 ^ widest plate * 65 → (working : List ℕ) → length working ≡ half + half
+      → TallyFits (rows_of plate) plate.n half working
   tally-fits h half e working l =
       let z = plate-sizes-fit plate given in
       record {

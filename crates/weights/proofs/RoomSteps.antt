@@ -12,7 +12,8 @@ use Rattle.weights.specs.Rooms.{Copied}
 pub all-zero : (room room' : List ℕ) (i : ℕ) → i ≤ length room → length room ≤ i → room' ≡ replicate i 0 ++ drop i room → room' ≡ replicate (length room) 0
 all-zero room room' i h k e =
     let q : i ≡ length room = omega arith in
-    e ∙ ap (λ (n : ℕ). replicate n 0 ++ drop n room) q ∙ ap (λ (t : List ℕ). replicate (length room) 0 ++ t) (drop-length room) ∙ append-nil (replicate (length room) 0)
+    e ∙ ap (λ (n : ℕ). replicate n 0 ++ drop n room) q
+    ∙ ap (λ (t : List ℕ). replicate (length room) 0 ++ t) (drop-length room) ∙ append-nil (replicate (length room) 0)
 
 module _ (working : List ℕ) (from : ℕ) (counts : List ℕ) where
   pub copied_none : Copied working from counts 0 counts

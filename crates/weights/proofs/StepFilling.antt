@@ -43,7 +43,8 @@ module _ (working : List ℕ) (from to : ℕ) (c : Section) (f : StepFits workin
         weight = omega arith;
         small = omega (arith, f.old_room, f.small);
         room = λ x l. omega (arith, f.leads x l, f.old_room, k.size);
-        most = subst (λ (m : ℕ). m < 2 ^ 64) (sym (same-leaving (p / 65) (p % 65) state-there (omega arith))) (f.most (p / 65) (p % 65) state-there (omega arith));
+        most = let same = same-leaving (p / 65) (p % 65) state-there (omega arith) in
+            subst (λ (m : ℕ). m < 2 ^ 64) (sym same) (f.most (p / 65) (p % 65) state-there (omega arith));
       }
 
       pub place-there : to + p < length working'

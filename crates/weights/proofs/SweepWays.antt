@@ -75,7 +75,8 @@ module _ (rows : List ℕ) (n half : ℕ) (working : List ℕ) (f : TallyFits ro
       most = λ i w hi hw. subst (λ (m : ℕ). m < 2 ^ 64) (sym (leaving-ways i w hi hw)) (f.most (suc (n - suc t)) t i w (omega arith));
     }
       where
-        go : (from ≡ 0) ⊎ (from ≡ half) → (from + 2 ^ (section_of rows (suc t)).live * 65 ≤ half - from) ⊎ (half - from + 2 ^ (section_of rows t).live * 65 ≤ from)
+        go : (from ≡ 0) ⊎ (from ≡ half)
+            → (from + 2 ^ (section_of rows (suc t)).live * 65 ≤ half - from) ⊎ (half - from + 2 ^ (section_of rows t).live * 65 ≤ from)
         go (inl q) = inl (omega (arith, q, f.room (suc t) h))
         go (inr q) = inr (omega (arith, q, f.room t (omega arith)))
 

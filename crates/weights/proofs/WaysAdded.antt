@@ -57,7 +57,9 @@ module _ (sections : ℕ → Section) where
 
       go : (b : Bool) → total (suc m) (along (sections t) (ways sections d (suc t)) i) ≡ 2 ^ later sections d (suc t)
           → total (suc m) (along (sections t) (ways sections d (suc t)) (i + 2 ^ (sections t).live)) ≡ 2 ^ later sections d (suc t)
-          → total (suc m) (λ w. cond b (along (sections t) (ways sections d (suc t)) i w + along (sections t) (ways sections d (suc t)) (i + 2 ^ (sections t).live) w) (along (sections t) (ways sections d (suc t)) i w))
+          → total (suc m)
+          (λ w. cond b (along (sections t) (ways sections d (suc t)) i w + along (sections t) (ways sections d (suc t)) (i + 2 ^ (sections t).live) w)
+          (along (sections t) (ways sections d (suc t)) i w))
           ≡ 2 ^ more b (later sections d (suc t))
       go true p q =
           total-add (suc m) (along (sections t) (ways sections d (suc t)) i) (along (sections t) (ways sections d (suc t)) (i + 2 ^ (sections t).live))
@@ -89,13 +91,21 @@ module _ (rows : List ℕ) (s : Spans rows (firsts rows) (lasts rows)) where
           let b = (section-begins rows s t).0 e in
           omega (arith, here-one (length rows) (firsts rows) t b.row (rising-apart (length rows) (firsts rows) s.rising) b.there b.here)
       go false e =
-          omega (arith, here-none (length rows) (firsts rows) t (λ j l q. false≢true (sym e ∙ (section-begins rows s t).1 (record { row = j; there = l; here = q }))))
+          let none = λ (j : ℕ) (l : j < length rows) (q : firsts rows j ≡ t).
+          false≢true (sym e ∙ (section-begins rows s t).1 (record { row = j; there = l; here = q })) in
+          omega (arith, here-none (length rows) (firsts rows) t none)
 
   pub later-before : (d t : ℕ) → before (length rows) (firsts rows) t + later (section_of rows) d t ≡ before (length rows) (firsts rows) (t + d)
   later-before zero t = let z : t ≡ t + 0 = omega arith in omega (arith, ap (before (length rows) (firsts rows)) z)
   later-before (suc d) t =
       let z : suc t + d ≡ t + suc d = omega arith in
-      omega (arith, begins-here t (later (section_of rows) d (suc t)), before-suc (length rows) (firsts rows) t, later-before d (suc t), ap (before (length rows) (firsts rows)) z)
+      omega (
+        arith,
+        begins-here t (later (section_of rows) d (suc t)),
+        before-suc (length rows) (firsts rows) t,
+        later-before d (suc t),
+        ap (before (length rows) (firsts rows)) z,
+      )
 
   module _ (n : ℕ) (fit : (j : ℕ) → j < length rows → firsts rows j < n) where
     before-all : before (length rows) (firsts rows) n ≡ length rows
@@ -108,4 +118,10 @@ module _ (rows : List ℕ) (s : Spans rows (firsts rows) (lasts rows)) where
     pub later-all : later (section_of rows) n 0 ≡ length rows
     later-all =
         let z : 0 + n ≡ n = omega arith in
-        omega (arith, later-before n 0, ap (before (length rows) (firsts rows)) z, before-all, count_none (length rows) (λ j. ltb (firsts rows j) 0) (λ j l q. omega (arith, ltb→lt (firsts rows j) 0 q)))
+        omega (
+          arith,
+          later-before n 0,
+          ap (before (length rows) (firsts rows)) z,
+          before-all,
+          count_none (length rows) (λ j. ltb (firsts rows j) 0) (λ j l q. omega (arith, ltb→lt (firsts rows j) 0 q)),
+        )

@@ -88,8 +88,11 @@ module _ (m : ℕ) (P : ℕ → Bool) where
       zero_more : (n : ℕ) → 0 + n ≡ n
       zero_more n = omega arith
   counted-shift (suc zero) h F e zero =
-      count_none m (λ x. P x && eqb (1 + ones x) 0) (λ x l t. fails (subst T (ap (λ (q : Bool). P x && q) (ne_eqb (1 + ones x) 0 (λ q. omega arith)) ∙ none_both (P x)) t))
+      count_none m (λ x. P x && eqb (1 + ones x) 0) (λ x l t. fails (subst T (none x) t))
     where
+      none : (x : ℕ) → (P x && eqb (1 + ones x) 0) ≡ false
+      none x = ap (λ (q : Bool). P x && q) (ne_eqb (1 + ones x) 0 (λ q. omega arith)) ∙ none_both (P x)
+
       fails : T false → ⊥
       fails t = t
   counted-shift (suc zero) h F e (suc w) = count_same m _ _ (λ x l. ap (λ (q : Bool). P x && q) (one_more (ones x))) ∙ sym (e w)
@@ -110,12 +113,15 @@ module _ (m : ℕ) (P : ℕ → Bool) where
 
 module _ (sections : ℕ → Section) (n : ℕ) (chain : Chain sections n) where
   -- the words that go on with bit b
-  half : (d t i w b : ℕ) → b < 2 → ((v : ℕ) → ways sections d (suc t) (follow (sections t) i b) v ≡ count (2 ^ d) (λ x. spells sections d (suc t) (follow (sections t) i b) x && eqb (ones x) v))
+  half : (d t i w b : ℕ) → b < 2
+      → ((v : ℕ) → ways sections d (suc t) (follow (sections t) i b) v
+      ≡ count (2 ^ d) (λ x. spells sections d (suc t) (follow (sections t) i b) x && eqb (ones x) v))
       → count (2 ^ d) (λ x. spells sections (suc d) t i (x * 2 + b) && eqb (ones (x * 2 + b)) w)
       ≡ by_bit (opens (sections t) i b) b (ways sections d (suc t) (follow (sections t) i b)) w
   half d t i w b h ih =
       count_same (2 ^ d) _ _ (λ x l.
-      ap₂ (λ (r q : ℕ). (opens (sections t) i r && spells sections d (suc t) (follow (sections t) i r) q) && eqb (ones (x * 2 + b)) w) (digits_mod x b h) (digits_div x b h)
+      ap₂ (λ (r q : ℕ). (opens (sections t) i r && spells sections d (suc t) (follow (sections t) i r) q) && eqb (ones (x * 2 + b)) w)
+      (digits_mod x b h) (digits_div x b h)
       ∙ ap (λ (k : ℕ). (opens (sections t) i b && spells sections d (suc t) (follow (sections t) i b) x) && eqb k w) (digits-ones x b h)
       ∙ both-assoc (opens (sections t) i b) (spells sections d (suc t) (follow (sections t) i b) x) (eqb (b + ones x) w))
       ∙ counted-bit (2 ^ d) (λ x. spells sections d (suc t) (follow (sections t) i b) x) (opens (sections t) i b) b h _ ih w
@@ -132,5 +138,7 @@ module _ (sections : ℕ → Section) (n : ℕ) (chain : Chain sections n) where
       let even : (x : ℕ) → x * 2 + 0 ≡ x * 2 = λ x. omega arith in
       leaving-bits (sections t) (chain.fits t k) (ways sections d (suc t)) i w h
       ∙ sym (count-pairs d (λ x. spells sections (suc d) t i x && eqb (ones x) w)
-      ∙ ap₂ ◌+◌ (count_same (2 ^ d) _ _ (λ x l. ap (λ (y : ℕ). spells sections (suc d) t i y && eqb (ones y) w) (sym (even x))) ∙ half d t i w 0 (omega arith) (λ v. ways-counted d (suc t) (follow (sections t) i 0) v (omega arith) (on 0)))
+      ∙ ap₂ ◌+◌
+      (count_same (2 ^ d) _ _ (λ x l. ap (λ (y : ℕ). spells sections (suc d) t i y && eqb (ones y) w) (sym (even x)))
+      ∙ half d t i w 0 (omega arith) (λ v. ways-counted d (suc t) (follow (sections t) i 0) v (omega arith) (on 0)))
       (half d t i w 1 (omega arith) (λ v. ways-counted d (suc t) (follow (sections t) i 1) v (omega arith) (on 1))))

@@ -76,16 +76,20 @@ module _ (c : Section) (f : SectionFits c) (i : ℕ) (h : i < 2 ^ c.live) where
       go (inr (t, q)) = rw (q, t, ne_eqb (bit_of c i) (bit_of c (i + 2 ^ c.live)) (λ z. omega (arith, z, other-bit c i h (f.begun t)))) (tt, refl)
 
 module _ (sections : ℕ → Section) (n : ℕ) (chain : Chain sections n) where
-  spells-way : (ys : List ℤ) (t i x : ℕ) → t + length ys ≡ n → i < 2 ^ (sections t).live → x < 2 ^ length ys → T (spells sections (length ys) t i x) → Way sections ys t i x
+  spells-way : (ys : List ℤ) (t i x : ℕ) → t + length ys ≡ n → i < 2 ^ (sections t).live → x < 2 ^ length ys → T (spells sections (length ys) t i x)
+      → Way sections ys t i x
   spells-way [] t i x e h l s = omega arith
   spells-way (y ∷ ys) t i x e h l s =
       let k : t < n = omega arith in
-      let m = named (sections t) (chain.fits t k) i h (x % 2) (omega arith) (and_left (opens (sections t) i (x % 2)) (spells sections (length ys) (suc t) (follow (sections t) i (x % 2)) (x / 2)) s) in (
+      let opening = opens (sections t) i (x % 2) in
+      let rest = spells sections (length ys) (suc t) (follow (sections t) i (x % 2)) (x / 2) in
+      let m = named (sections t) (chain.fits t k) i h (x % 2) (omega arith) (and_left opening rest s) in (
         branch_by (sections t) i (x % 2),
         m.below,
         m.leaving,
         m.bit_is,
-        spells-way ys (suc t) (follow (sections t) i (x % 2)) (x / 2) (omega arith) (chain.leads t k _ m.below) (omega (arith, pow-suc 2 (length ys))) (and_right (opens (sections t) i (x % 2)) (spells sections (length ys) (suc t) (follow (sections t) i (x % 2)) (x / 2)) s),
+        spells-way ys (suc t) (follow (sections t) i (x % 2)) (x / 2) (omega arith) (chain.leads t k _ m.below)
+            (omega (arith, pow-suc 2 (length ys))) (and_right opening rest s),
       )
 
   way-spells : (ys : List ℤ) (t i x : ℕ) → t + length ys ≡ n → i < 2 ^ (sections t).live → Way sections ys t i x → T (spells sections (length ys) t i x)
@@ -93,7 +97,8 @@ module _ (sections : ℕ → Section) (n : ℕ) (chain : Chain sections n) where
   way-spells (y ∷ ys) t i x e h a =
       let k : t < n = omega arith in
       let m = subst (λ (b : ℕ). T (opens (sections t) i b) × (branch_by (sections t) i b ≡ a.0)) a.3 (names (sections t) (chain.fits t k) i h a.0 a.1 a.2) in
-      and-true (opens (sections t) i (x % 2)) (spells sections (length ys) (suc t) (follow (sections t) i (x % 2)) (x / 2)) m.0 (subst (λ (z : ℕ). T (spells sections (length ys) (suc t) (leads_to (sections t) z) (x / 2))) (sym m.1)
+      and-true (opens (sections t) i (x % 2)) (spells sections (length ys) (suc t) (follow (sections t) i (x % 2)) (x / 2)) m.0
+      (subst (λ (z : ℕ). T (spells sections (length ys) (suc t) (leads_to (sections t) z) (x / 2))) (sym m.1)
       (way-spells ys (suc t) (leads_to (sections t) a.0) (x / 2) (omega arith) (chain.leads t k a.0 a.1) a.4))
 
 module _ (plate : Plate) (given : IsPrepared plate) where
@@ -103,9 +108,10 @@ module _ (plate : Plate) (given : IsPrepared plate) where
   pub spelled : (x : ℕ) → x < 2 ^ plate.n → T (spells (section_of (rows_of plate)) plate.n 0 0 x) ↔ IsSum (rows_of plate) x
   spelled x l = (
     (λ s. way-codeword plate given (replicate plate.n (pos 0)) sized x
-        (spells-way (section_of (rows_of plate)) plate.n (plate-chain plate given) (replicate plate.n (pos 0)) 0 0 x (omega (arith, sized)) (start-state plate given)
-        (subst (λ (m : ℕ). x < 2 ^ m) (sym sized) l) (subst (λ (m : ℕ). T (spells (section_of (rows_of plate)) m 0 0 x)) (sym sized) s))),
+        (spells-way (section_of (rows_of plate)) plate.n (plate-chain plate given) (replicate plate.n (pos 0)) 0 0 x (omega (arith, sized))
+        (start-state plate given) (subst (λ (m : ℕ). x < 2 ^ m) (sym sized) l)
+        (subst (λ (m : ℕ). T (spells (section_of (rows_of plate)) m 0 0 x)) (sym sized) s))),
     λ g. subst (λ (m : ℕ). T (spells (section_of (rows_of plate)) m 0 0 x)) sized
-        (way-spells (section_of (rows_of plate)) plate.n (plate-chain plate given) (replicate plate.n (pos 0)) 0 0 x (omega (arith, sized)) (start-state plate given)
-        (codeword-way plate given (replicate plate.n (pos 0)) sized x g)),
+        (way-spells (section_of (rows_of plate)) plate.n (plate-chain plate given) (replicate plate.n (pos 0)) 0 0 x (omega (arith, sized))
+        (start-state plate given) (codeword-way plate given (replicate plate.n (pos 0)) sized x g)),
   )

@@ -38,7 +38,8 @@ module _ (plate : Plate) (counts working : List ℕ) where
         go i (yes h) = number-once (a.here i h) (b.here i h)
         go i (no h) = a.behind i (omega arith) ∙ sym (b.behind i (omega arith))
 
-    pub count-weights-determined : (r s : Counted) → CountsWeights plate counts working counts' working' r → CountsWeights plate counts working counts'' working'' s
+    pub count-weights-determined : (r s : Counted) → CountsWeights plate counts working counts' working' r
+        → CountsWeights plate counts working counts'' working'' s
         → (r ≡ s) × (counts' ≡ counts'') × (working' ≡ working'')
     count-weights-determined (Refused p) (Refused q) x y =
         (ap Refused (refuses-once (weight_conditions plate counts working) single p q x.0 y.0), x.1 ∙ sym y.1, x.2 ∙ sym y.2)

@@ -38,7 +38,8 @@ module _ (plate : Plate) (counts working counts' working' : List ℕ) where
       go (no d) = absurd (p.0 NotPrepared ((λ given. d (filled-adds given f)), refl))
 
   -- all counts add up to 2 ^ k, unless the call is refused
-  pub counts-add-up : (r : Counted) → CountsWeights plate counts working counts' working' r → ((q : Refusal) → r ≡ Refused q → ⊥) → total 65 (λ w. get_or counts' w 0) ≡ 2 ^ plate.k
+  pub counts-add-up : (r : Counted) → CountsWeights plate counts working counts' working' r → ((q : Refusal) → r ≡ Refused q → ⊥)
+      → total 65 (λ w. get_or counts' w 0) ≡ 2 ^ plate.k
   counts-add-up (Refused q) x n = absurd (n q refl)
   counts-add-up (Least w) x n = adds x.0 x.2
   counts-add-up OnlyZero x n = adds x.0 x.2
@@ -63,7 +64,8 @@ module _ (plate : Plate) (counts working counts' working' : List ℕ) where
       none v a l (no h) = omega arith
 
   -- there is none exactly where k is 0, unless the call is refused
-  pub none-exactly : (r : Counted) → CountsWeights plate counts working counts' working' r → ((q : Refusal) → r ≡ Refused q → ⊥) → (r ≡ OnlyZero) ↔ (plate.k ≡ 0)
+  pub none-exactly : (r : Counted) → CountsWeights plate counts working counts' working' r → ((q : Refusal) → r ≡ Refused q → ⊥)
+      → (r ≡ OnlyZero) ↔ (plate.k ≡ 0)
   none-exactly (Refused q) x n = absurd (n q refl)
   none-exactly (Least w) x n = ((λ e. absurd (apart e)), λ e. absurd (none_above plate e w x.1))
     where

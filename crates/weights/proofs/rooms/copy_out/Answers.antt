@@ -17,7 +17,8 @@ bounds-counts-w c = omega (arith, c.loop-w-test.true, c.requires.0, c.loop-w.inv
 
 pub loop-w-preserved : goal.loop-w-preserved
 loop-w-preserved c =
-    (omega (arith, c.loop-w-test.true), copied_more c.args.working.now c.args.from c.args.counts.now (omega (arith, c.loop-w-test.true, c.requires.0)) c.loop-w.invariant.1)
+    let more = copied_more c.args.working.now c.args.from c.args.counts.now (omega (arith, c.loop-w-test.true, c.requires.0)) c.loop-w.invariant.1 in
+    (omega (arith, c.loop-w-test.true), more)
 
 pub shape_of-counts : goal.shape_of-counts
 shape_of-counts c = c.loop-w.invariant.1.size

@@ -7,12 +7,12 @@ end_of-requires c = c.requires.section
 
 pub returns-then-parity_with-eq0 : goal.returns-then-parity_with-eq0
 returns-then-parity_with-eq0 c =
-    by_zero c.args.working.now c.args.from c.args.section c.args.number c.args.weight c.end_of.result c.parity_with.result c.end_of.ensures c.parity_with.ensures c.if-parity_with-eq0.true
+    by_zero _ _ c.args.section _ _ _ _ c.end_of.ensures c.parity_with.ensures c.if-parity_with-eq0.true
 
 pub returns-then-weight-eq0 : goal.returns-then-weight-eq0
 returns-then-weight-eq0 c =
-    by-none c.args.working.now c.args.from c.args.section c.args.number c.args.weight c.end_of.result c.parity_with.result c.end_of.ensures c.parity_with.ensures c.if-parity_with-eq0.false c.if-weight-eq0.true
+    by-none _ _ c.args.section _ _ _ _ c.end_of.ensures c.parity_with.ensures c.if-parity_with-eq0.false c.if-weight-eq0.true
 
 pub returns : goal.returns
 returns c =
-    by_one c.args.working.now c.args.from c.args.section c.args.number c.args.weight c.end_of.result c.parity_with.result c.end_of.ensures c.parity_with.ensures c.if-parity_with-eq0.false c.if-weight-eq0.false
+    by_one _ _ c.args.section _ _ _ _ c.end_of.ensures c.parity_with.ensures c.if-parity_with-eq0.false c.if-weight-eq0.false

@@ -20,7 +20,8 @@ by_branch-requires c = other_fits c.requires _ c.power.result c.power.ensures re
 
 pub overflow_add-result : goal.overflow_add-result
 overflow_add-result c =
-    record { fits = subst (λ (m : ℕ). m < 2 ^ 64) (sym (both-are c.requires c.if-section.true c.power.ensures refl c.by_branch-first.ensures c.by_branch.ensures)) c.requires.most }
+    let both = both-are c.requires c.if-section.true c.power.ensures refl c.by_branch-first.ensures c.by_branch.ensures in
+    record { fits = subst (λ (m : ℕ). m < 2 ^ 64) (sym both) c.requires.most }
 
 pub returns-then-section : goal.returns-then-section
 returns-then-section c =

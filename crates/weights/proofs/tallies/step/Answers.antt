@@ -19,7 +19,7 @@ loop-p-init c =
 pub by_state-ways-requires : goal.by_state-ways-requires
 by_state-ways-requires c =
     let l = c.loop-p in
-    state-fits c.args.working.now c.args.from c.args.to c.args.section l.invariant.1 l.working l.p l.invariant.2 (omega (arith, l.invariant.0, c.loop-p-test.true))
+    state-fits _ _ _ _ l.invariant.1 _ _ l.invariant.2 (omega (arith, l.invariant.0, c.loop-p-test.true))
 
 pub overflow_add-at : goal.overflow_add-at
 overflow_add-at c =
@@ -34,15 +34,18 @@ offset_bounds-working-at c =
 pub bounds-working-at : goal.bounds-working-at
 bounds-working-at c =
     let l = c.loop-p in
-    place-there c.args.working.now c.args.from c.args.to c.args.section l.invariant.1 l.working l.p l.invariant.2 (omega (arith, l.invariant.0, c.loop-p-test.true))
+    place-there _ _ _ _ l.invariant.1 _ _ l.invariant.2 (omega (arith, l.invariant.0, c.loop-p-test.true))
 
 pub loop-p-smaller : goal.loop-p-smaller
 loop-p-smaller c = omega (arith, c.loop-p-test.true)
 
 pub loop-p-preserved : goal.loop-p-preserved
 loop-p-preserved c =
-    let l = c.loop-p in
-    (l.invariant.0, l.invariant.1, filling-more c.args.working.now c.args.from c.args.to c.args.section l.invariant.1 l.working l.p l.invariant.2 (omega (arith, l.invariant.0, c.loop-p-test.true)) c.by_state-ways.result c.by_state-ways.ensures)
+    let l = c.loop-p in (
+      l.invariant.0,
+      l.invariant.1,
+      filling-more _ _ _ _ l.invariant.1 _ _ l.invariant.2 (omega (arith, l.invariant.0, c.loop-p-test.true)) _ c.by_state-ways.ensures,
+    )
 
 pub shape_of-working : goal.shape_of-working
 shape_of-working c = c.loop-p.invariant.2.size
@@ -50,4 +53,4 @@ shape_of-working c = c.loop-p.invariant.2.size
 pub returns : goal.returns
 returns c =
     let l = c.loop-p in
-    filling-all c.args.working.now c.args.from c.args.to c.args.section l.invariant.1 l.working l.p l.invariant.2 (omega (arith, l.invariant.0, c.loop-p-test.false))
+    filling-all _ _ _ _ l.invariant.1 _ _ l.invariant.2 (omega (arith, l.invariant.0, c.loop-p-test.false))

@@ -6,7 +6,8 @@ use Rattle.weights.proofs.StepFilling.{Filling}
 use Rattle.weights.proofs.tallies.step.Given as goal
 
 abbrev pub invariant-loop-p : goal.invariant-loop-p
-invariant-loop-p l = (l.size ≡ 2 ^ l.section.live * 65) × (f : StepFits l.initial.working l.from l.to l.section) × Filling l.initial.working l.from l.to l.section f.next l.p l.working
+invariant-loop-p l = (l.size ≡ 2 ^ l.section.live * 65)
+    × (f : StepFits l.initial.working l.from l.to l.section) × Filling l.initial.working l.from l.to l.section f.next l.p l.working
 
 abbrev pub decreases-loop-p : goal.decreases-loop-p
 decreases-loop-p l = l.size - l.p

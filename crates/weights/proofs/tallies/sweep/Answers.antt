@@ -17,20 +17,24 @@ pub overflow_sub-to : goal.overflow_sub-to
 overflow_sub-to c =
     let l = c.loop-t in
     let d : l.t ≡ suc (l.t - 1) = omega (arith, c.loop-t-test.true) in
-    from-within c.args.rows.now c.args.n c.args.half c.args.working.now c.requires (l.t - 1) (omega (arith, c.loop-t-test.true, l.invariant.0)) l.working l.from (subst (λ (t : ℕ). Swept c.args.rows.now c.args.n c.args.half t l.working l.from) d l.invariant.1) c.section_of-section.result c.section_of-section.ensures
+    let swept = subst (λ (t : ℕ). Swept c.args.rows.now c.args.n c.args.half t l.working l.from) d l.invariant.1 in
+    from-within _ _ _ _ c.requires (l.t - 1) (omega (arith, c.loop-t-test.true, l.invariant.0)) _ _ swept _ c.section_of-section.ensures
 
 pub step-requires : goal.step-requires
 step-requires c =
     let l = c.loop-t in
     let d : l.t ≡ suc (l.t - 1) = omega (arith, c.loop-t-test.true) in
-    step_fits c.args.rows.now c.args.n c.args.half c.args.working.now c.requires (l.t - 1) (omega (arith, c.loop-t-test.true, l.invariant.0)) l.working l.from (subst (λ (t : ℕ). Swept c.args.rows.now c.args.n c.args.half t l.working l.from) d l.invariant.1) c.section_of-section.result c.section_of-section.ensures
+    let swept = subst (λ (t : ℕ). Swept c.args.rows.now c.args.n c.args.half t l.working l.from) d l.invariant.1 in
+    step_fits _ _ _ _ c.requires (l.t - 1) (omega (arith, c.loop-t-test.true, l.invariant.0)) _ _ swept _ c.section_of-section.ensures
 
 pub loop-t-preserved : goal.loop-t-preserved
 loop-t-preserved c =
     let l = c.loop-t in
     let k = c.loop-t-test.true in
     let d : l.t ≡ suc (l.t - 1) = omega (arith, k) in
-    (omega (arith, l.invariant.0), swept-on c.args.rows.now c.args.n c.args.half c.args.working.now c.requires (l.t - 1) (omega (arith, k, l.invariant.0)) l.working l.from (subst (λ (t : ℕ). Swept c.args.rows.now c.args.n c.args.half t l.working l.from) d l.invariant.1) c.section_of-section.result c.section_of-section.ensures _ c.step.ensures)
+    let swept = subst (λ (t : ℕ). Swept c.args.rows.now c.args.n c.args.half t l.working l.from) d l.invariant.1 in
+    let on = swept-on _ _ _ _ c.requires (l.t - 1) (omega (arith, k, l.invariant.0)) _ _ swept _ c.section_of-section.ensures _ c.step.ensures in
+    (omega (arith, l.invariant.0), on)
 
 pub shape_of-working : goal.shape_of-working
 shape_of-working c = c.loop-t.invariant.1.size ∙ sym c.requires.size

@@ -8,11 +8,11 @@ use Rattle.weights.proofs.tallies.tally.Goals as goal
 
 pub copy_out-requires : goal.copy_out-requires
 copy_out-requires c =
-    (c.requires.in_bounds, start-room c.args.rows.now c.args.n c.args.half c.args.working.now c.requires.tally_fits _ c.sweep-from.result c.sweep-from.ensures (pow_pos _))
+    (c.requires.in_bounds, start-room _ _ _ _ c.requires.tally_fits _ _ c.sweep-from.ensures (pow_pos _))
 
 pub returns : goal.returns
 returns c =
     record {
-      counted = counted c.args.rows.now c.args.n c.args.half c.args.working.now c.requires.tally_fits _ c.sweep-from.result c.sweep-from.ensures (pow_pos _) _ _ c.copy_out.ensures;
+      counted = counted _ _ _ _ c.requires.tally_fits _ _ c.sweep-from.ensures (pow_pos _) _ _ c.copy_out.ensures;
       working_after = c.clear.ensures ∙ ap (λ (m : ℕ). replicate m 0) (c.sweep-from.ensures.size ∙ sym c.requires.tally_fits.size);
     }
