@@ -1,5 +1,5 @@
-/* Answers batches of calls to the library over standard input and output, for a machine that cannot
-   link the library into its own programs (src/bridge.rs says what a batch is). It asks nothing of the
+/* Answers batches of calls to the library over standard input and output, for a library that runs on
+   another machine than the comparison (src/bridge.rs says what a batch is). It asks nothing of the
    C library but read and write. */
 #include "../include/yendrufal.h"
 

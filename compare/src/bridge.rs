@@ -1,4 +1,4 @@
-//! The library in another process, for a machine that cannot link it: `bridge.c` with the library,
+//! The library in another process, which may run on another machine: `bridge.c` with the library,
 //! run by a command of the user's choice, takes calls from its input and gives them back answered.
 //!
 //! A batch is its length in bytes and then calls; each is made of 64-bit numbers: the call, the number
