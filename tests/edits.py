@@ -39,7 +39,7 @@ class Edit:
         return set(self.named) | set(self.also)
 
     def applied(self, texts):
-        """The crate's texts with the replacements made in turn, and the functions in whose bodies they lie (None: in no body)."""
+        """The crate's texts with the replacements made in turn, and the functions in whose bodies or proofs they lie (None: in none)."""
         texts, inside = dict(texts), set()
         for file, old, new in self.changes:
             text = texts.get(file, "")
@@ -69,7 +69,10 @@ def functions_of(file, text):
 
 
 def function_at(file, text, begin, end):
-    """The function in whose body a piece of text lies, or None."""
+    """The function in whose body, or in whose own proof, a piece of text lies, or None."""
+    proof = re.fullmatch(r"proofs/(.+)/(?:Answers|Invariants)\.antt", file)
+    if proof:
+        return proof.group(1)
     if not file.startswith("src/"):
         return None
     return next((name for name, _, body, close in functions_of(file, text) if body <= begin and end <= close), None)
