@@ -18,10 +18,10 @@ not-both true e f = let z : ◌≡◌ {A = ℕ} 0 1 = cc in absurd (omega arith)
 not-both false e f = let z : ◌≡◌ {A = ℕ} 0 1 = cc in absurd (omega arith)
 
 -- a read that gave nothing met the end, or failed
-pub stopped-early : {size : ℕ} {room : List ℕ} (ended : Bool) → Stopped (record { size = size; ended = ended; failed = not ended }) room
-stopped-early ended = record { full = λ e f. not-both ended e f }
+pub stopped-early : {got : Got} {room : List ℕ} → got.failed ≡ not got.ended → Stopped got room
+stopped-early {got} g = record { full = λ e f. not-both got.ended (sym g ∙ e) f }
 
-pub stopped-full : {size : ℕ} {room : List ℕ} → size ≡ length room → Stopped (record { size = size; ended = false; failed = false }) room
+pub stopped-full : {got : Got} {room : List ℕ} → got.size ≡ length room → Stopped got room
 stopped-full h = record { full = λ e f. h }
 
 -- a full room of 32,769 bytes is longer than a sheet may be

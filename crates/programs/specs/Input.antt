@@ -1,6 +1,10 @@
 -- What was read of the input.
-use Rattle.std.specs.Prelude.{length, Bool, false, true, List, [], ◌++◌, ◌≡◌, ◌<◌, ℕ}
+use Rattle.std.specs.Prelude.{length, take, Bool, false, true, List, [], ◌++◌, ◌≡◌, ◌<◌, ◌≤◌, ℕ}
 use Rattle.programs.specs.declared.streams.Got.{Got}
+
+-- so many bytes are the beginning of a room
+abbrev pub IsPrefixLen : ℕ → List ℕ → Type 0
+IsPrefixLen n xs = (n ≤ length xs) × (n ≡ length (take n xs))
 
 -- reading that stopped neither at the end of the input nor because a read failed filled the room
 pub record Stopped (got : Got) (room : List ℕ) : Type 0 where

@@ -8,8 +8,9 @@ ghost use Rattle.programs.specs.Printing.{Before, IsLine, Prints};
 
 use crate::endings::Ending;
 use crate::writer;
-use crate::writer::Sent;
+use crate::writer::{Output, Sent};
 use reports::{Outcome, Report, Stage};
+use std::io::Write;
 
 // Whether a line was taken, whether none was left, the count after that, and the report.
 #[derive(Clone, Copy)]
@@ -28,12 +29,19 @@ struct Printed {
 }
 
 // Hands over the line at the start of the room.
-fn hand_over(sent: Sent, input: &[u8], room: &[u8], size: usize, next: Report) -> Turn
+fn hand_over<W: Write>(
+    output: &mut Output<W>,
+    sent: Sent,
+    input: &[u8],
+    room: &[u8],
+    size: usize,
+    next: Report,
+) -> Turn
     requires line { IsLine input.now sent.lines (take size room.now) }
     requires before { Before input.now (sent.lines + 1) next }
     ensures { Prints input.now sent result }
 {
-    let handed = writer::hand_line(sent, input, room, size);
+    let handed = writer::hand_line(output, sent, input, room, size);
     let after = handed.sent;
     Turn {
         goes_on: handed.taken,
@@ -44,7 +52,8 @@ fn hand_over(sent: Sent, input: &[u8], room: &[u8], size: usize, next: Report) -
 }
 
 // Prints the next line. Nothing follows where none was left, or where it was not taken.
-fn print_line(
+fn print_line<W: Write>(
+    output: &mut Output<W>,
     report: Report,
     sent: Sent,
     input: &[u8],
@@ -60,7 +69,7 @@ fn print_line(
     let outcome = step.outcome;
     let next = step.next;
     match outcome {
-        Outcome::Line(size) => hand_over(sent, input, room, size, next),
+        Outcome::Line(size) => hand_over(output, sent, input, room, size, next),
         Outcome::Nothing => Turn {
             goes_on: false,
             whole: true,
@@ -77,7 +86,8 @@ fn print_line(
 }
 
 // Prints all lines of a report that was just opened.
-fn print_lines(
+fn print_lines<W: Write>(
+    output: &mut Output<W>,
     first: Report,
     input: &[u8],
     metrics: &mut [i32],
@@ -94,6 +104,7 @@ fn print_lines(
     let mut whole = false;
     while goes_on {
         let turn = print_line(
+            &mut *output,
             report,
             sent,
             input,
@@ -124,7 +135,7 @@ fn ending_of(stage: Stage, sent: Sent) -> Ending
 }
 
 // Prints the listing of what was read, of which `ended` says whether it is all of the input. The rooms are enough for every input.
-pub fn print_listing(input: &[u8], ended: bool) -> Ending
+pub fn print_listing<W: Write>(output: &mut Output<W>, input: &[u8], ended: bool) -> Ending
     requires { StandsFor ended input.now }
     ensures { Ends ended input.now result }
 {
@@ -133,7 +144,14 @@ pub fn print_listing(input: &[u8], ended: bool) -> Ending
     let mut room = [0; 256];
     let report = reports::open(input);
     let stage = report.stage;
-    let printed = print_lines(report, input, &mut metrics, &mut decisions, &mut room);
+    let printed = print_lines(
+        output,
+        report,
+        input,
+        &mut metrics,
+        &mut decisions,
+        &mut room,
+    );
     let sent = printed.sent;
     if printed.whole {
         return ending_of(stage, sent);

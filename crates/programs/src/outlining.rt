@@ -3,9 +3,10 @@ ghost use Rattle.std.specs.Prelude.{take};
 ghost use Rattle.programs.specs.Verbs.{IsText, Says, WritesText};
 
 use crate::endings::Ending;
-use crate::writer::Text;
+use crate::writer::{Output, Text};
 use crate::{refusing, writer};
 use listings::Written;
+use std::io::Write;
 
 // The text of an input into the room.
 fn write_text(what: Text, input: &[u8], room: &mut [u8]) -> Written
@@ -18,11 +19,17 @@ fn write_text(what: Text, input: &[u8], room: &mut [u8]) -> Written
 }
 
 // Hands over the text at the start of the room.
-fn hand_over(what: Text, input: &[u8], room: &[u8], size: usize) -> Ending
+fn hand_over<W: Write>(
+    output: &mut Output<W>,
+    what: Text,
+    input: &[u8],
+    room: &[u8],
+    size: usize,
+) -> Ending
     requires { IsText what input.now (take size room.now) }
     ensures { Says what input.now result }
 {
-    let handed = writer::hand_text(writer::none(), what, input, room, size);
+    let handed = writer::hand_text(output, writer::none(), what, input, room, size);
     let sent = handed.sent;
     if handed.taken {
         return Ending::Listed(sent);
@@ -31,13 +38,13 @@ fn hand_over(what: Text, input: &[u8], room: &[u8], size: usize) -> Ending
 }
 
 // Prints the text of an input, or the line of its refusal. The room is enough for every text.
-pub fn print_text(what: Text, input: &[u8]) -> Ending
+pub fn print_text<W: Write>(output: &mut Output<W>, what: Text, input: &[u8]) -> Ending
     ensures { Says what input.now result }
 {
     let mut room = [0; 8192];
     let written = write_text(what, input, &mut room);
     match written {
-        Written::Bytes(size) => hand_over(what, input, &room, size),
-        Written::Refused(refusal) => refusing::print_refused(refusal),
+        Written::Bytes(size) => hand_over(output, what, input, &room, size),
+        Written::Refused(refusal) => refusing::print_refused(output, refusal),
     }
 }

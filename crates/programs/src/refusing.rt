@@ -5,8 +5,10 @@ ghost use Rattle.reports.specs.Report.{line_of_refusal};
 
 use crate::endings::Ending;
 use crate::writer;
+use crate::writer::Output;
 use listings::Written;
 use plates::Refusal;
+use std::io::Write;
 
 // Makes the line of a refusal.
 pub fn make_refused(refusal: Refusal, room: &mut [u8]) -> Written
@@ -19,7 +21,7 @@ pub fn make_refused(refusal: Refusal, room: &mut [u8]) -> Written
 }
 
 // How a run ends that prints the line of a refusal, and nothing more.
-pub fn print_refused(refusal: Refusal) -> Ending
+pub fn print_refused<W: Write>(output: &mut Output<W>, refusal: Refusal) -> Ending
     ensures { RefusedEnding refusal result }
 {
     let mut room = [0; 256];
@@ -27,7 +29,7 @@ pub fn print_refused(refusal: Refusal) -> Ending
     let Written::Bytes(size) = written else {
         return Ending::Unwritten;
     };
-    let handed = writer::hand_refusal(writer::none(), refusal, &room, size);
+    let handed = writer::hand_refusal(output, writer::none(), refusal, &room, size);
     let sent = handed.sent;
     if handed.taken {
         return Ending::Refused(refusal, sent);

@@ -3,9 +3,12 @@ ghost use Rattle.programs.specs.Ending.{IsStatus};
 ghost use Rattle.programs.specs.Input.{StandsFor};
 
 use crate::endings::Ending;
-use crate::writer::Text;
-use crate::{endings, listing, outlining, streams, weighing};
-use libc::STDIN_FILENO;
+use crate::writer::{Output, Text};
+use crate::{endings, listing, outlining, started, streams, weighing};
+use std::env::Env;
+use std::io::{Error, ErrorKind, Read, Write};
+use std::rt::Files;
+use std::{fs, io, str};
 
 // What is asked for, or that it is no verb.
 #[derive(Clone, Copy)]
@@ -50,77 +53,124 @@ fn verb_of(name: &[u8]) -> Verb {
 }
 
 // Prints what a verb says of what was read, of which `ended` says whether it is all of the input.
-fn print_verb(verb: Verb, input: &[u8], ended: bool) -> Ending
+fn print_verb<W: Write>(output: &mut Output<W>, verb: Verb, input: &[u8], ended: bool) -> Ending
     requires { StandsFor ended input.now }
 {
     match verb {
-        Verb::List => listing::print_listing(input, ended),
-        Verb::Sheet => outlining::print_text(Text::Sheet, input),
-        Verb::Dual => outlining::print_text(Text::Dual, input),
-        Verb::Weights => weighing::print_every(input),
+        Verb::List => listing::print_listing(output, input, ended),
+        Verb::Sheet => outlining::print_text(output, Text::Sheet, input),
+        Verb::Dual => outlining::print_text(output, Text::Dual, input),
+        Verb::Weights => weighing::print_every(output, input),
         Verb::Unknown => Ending::Unwritten,
     }
 }
 
-// Runs a verb on what a descriptor gives, as far as one byte beyond the most that a sheet may have.
-fn run_on(verb: Verb, fd: i32, name: &[u8]) -> i32
+// Runs a verb on what a reader gives, as far as one byte beyond the most that a sheet may have.
+fn run_on<R: Read, W: Write + Drop, E: Write>(
+    verb: Verb,
+    from: &mut R,
+    name: &[u8],
+    to: W,
+    errors: &mut E,
+) -> i32
     ensures { IsStatus result }
 {
     let mut input = [0u8; 32769];
-    let got = streams::read_all(fd, &mut input);
+    let got = streams::read_all(from, &mut input);
     if got.failed {
-        return endings::file_fault(b"yendrufal: ", name);
+        return endings::file_fault(errors, b"yendrufal: ", name, got.fault);
     }
     let size = got.size;
-    let ending = print_verb(verb, &input[..size], got.ended);
-    endings::close(ending, b"yendrufal: ", b"yendrufal: standard output")
+    let mut output = Output::new(to);
+    let ending = print_verb(&mut output, verb, &input[..size], got.ended);
+    endings::close(
+        ending,
+        errors,
+        b"yendrufal: ",
+        b"yendrufal: standard output",
+        output.fault(),
+    )
+}
+
+// Opens a file by its name, which std takes as text alone.
+fn open<F: Files>(files: &F, name: &[u8]) -> io::Result<F::File> {
+    match str::from_utf8(name) {
+        Ok(path) => fs::open(files, path),
+        Err(_) => Err(Error::new(ErrorKind::InvalidFilename, "File name is not UTF-8")),
+    }
 }
 
 // Runs a verb on a file, or on standard input where its name is a minus.
-fn run_file(verb: Verb, name: &[u8]) -> i32
+fn run_file<F: Files, R: Read, W: Write + Drop, E: Write>(
+    files: &F,
+    verb: Verb,
+    name: &[u8],
+    from: &mut R,
+    to: W,
+    errors: &mut E,
+) -> i32
     ensures { IsStatus result }
 {
     if same(name, b"-") {
-        return run_on(verb, STDIN_FILENO, b"standard input");
+        return run_on(verb, from, b"standard input", to, errors);
     }
-    let fd = os::open_read(name);
-    if fd < 0 {
-        return endings::file_fault(b"yendrufal: ", name);
+    match open(files, name) {
+        Ok(mut file) => run_on(verb, &mut file, name, to, errors),
+        Err(reason) => endings::file_fault(errors, b"yendrufal: ", name, Some(reason)),
     }
-    run_on(verb, fd, name)
 }
 
 // Runs a verb on the file that the second argument names.
-fn run_verb(verb: Verb) -> i32
+fn run_verb<F: Env + Files, R: Read, W: Write + Drop, E: Write>(
+    rt: &F,
+    verb: Verb,
+    from: &mut R,
+    to: W,
+    errors: &mut E,
+) -> i32
     ensures { IsStatus result }
 {
-    let mut name = io::buffer();
-    let size = os::arg(2, &mut name);
-    if os::errno() != 0 {
-        return endings::fault(b"yendrufal: FILE");
+    let mut name = [0u8; 4096];
+    match rt.arg(2, &mut name) {
+        Ok(size) => run_file(rt, verb, &name[..size], from, to, errors),
+        Err(_) => {
+            let reason = Error::new(ErrorKind::InvalidFilename, "File name too long");
+            endings::fault(errors, b"yendrufal: FILE", Some(reason))
+        }
     }
-    run_file(verb, &name[..size])
 }
 
 // The exit status where the arguments are not a verb and a file.
-fn usage() -> i32
+fn usage<E: Write>(errors: &mut E) -> i32
     ensures { IsStatus result }
 {
-    endings::usage(b"usage: yendrufal list|sheet|dual|weights FILE\n")
+    endings::usage(errors, b"usage: yendrufal list|sheet|dual|weights FILE\n")
+}
+
+// The verb that the first argument names.
+fn verb_given<R: Env>(rt: &R) -> Verb {
+    let mut name = [0u8; 4096];
+    match rt.arg(1, &mut name) {
+        Ok(size) => verb_of(&name[..size]),
+        Err(_) => Verb::Unknown,
+    }
 }
 
 // Runs the verb that the first argument names.
-pub fn run() -> i32
+pub fn run<F: Env + Files, R: Read, W: Write + Drop, E: Write>(
+    rt: &F,
+    from: &mut R,
+    to: W,
+    errors: &mut E,
+) -> i32
     ensures { IsStatus result }
 {
-    if os::arg_count() != 3 {
-        return usage();
+    if !started::is_given(rt, 2) || started::is_given(rt, 3) {
+        return usage(errors);
     }
-    let mut name = io::buffer();
-    let size = os::arg(1, &mut name);
-    let verb = verb_of(&name[..size]);
+    let verb = verb_given(rt);
     if let Verb::Unknown = verb {
-        return usage();
+        return usage(errors);
     }
-    run_verb(verb)
+    run_verb(rt, verb, from, to, errors)
 }

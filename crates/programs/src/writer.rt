@@ -4,14 +4,34 @@ ghost use Rattle.programs.specs.Printing.{Hands, IsLine};
 ghost use Rattle.programs.specs.Verbs.{IsText};
 ghost use Rattle.reports.specs.Report.{line_of_refusal};
 
-use libc::STDOUT_FILENO;
 use plates::Refusal;
+use std::io;
+use std::io::{Error, Write};
 
 // What a text that is handed over whole says of an input: its plate as a sheet, or the dual's.
 #[derive(Clone, Copy)]
 pub enum Text {
     Sheet,
     Dual,
+}
+
+// Standard output, and why it did not take what it was given.
+#[derive(Drop)]
+pub struct Output<W> {
+    to: W,
+    fault: Option<Error>,
+}
+
+impl<W> Output<W> {
+    // Standard output, of which nothing has failed yet.
+    pub fn new(to: W) -> Output<W> {
+        Output { to, fault: None }
+    }
+
+    // Why it did not take the last of what it was given, where that failed.
+    pub fn fault(&self) -> Option<Error> {
+        self.fault
+    }
 }
 
 // How many lines standard output has taken.
@@ -34,8 +54,25 @@ pub fn none() -> Sent
     Sent { lines: 0 }
 }
 
+// Writes all bytes through to the end.
+fn write_through<W: Write>(to: &mut W, bytes: &[u8]) -> io::Result<()> {
+    to.write_all(bytes)?;
+    to.flush()
+}
+
+// Whether standard output took all bytes. Where it did not, why is kept.
+fn takes<W: Write>(output: &mut Output<W>, bytes: &[u8]) -> bool {
+    match write_through(&mut output.to, bytes) {
+        Ok(()) => true,
+        Err(reason) => {
+            output.fault = Some(reason);
+            false
+        }
+    }
+}
+
 // Hands over the line at the start of the room, and counts it where it was taken.
-fn hand(sent: Sent, room: &[u8], size: usize) -> Handed
+fn hand<W: Write>(output: &mut Output<W>, sent: Sent, room: &[u8], size: usize) -> Handed
     ensures { Hands sent result }
 {
     if u64::MAX <= sent.lines {
@@ -44,7 +81,7 @@ fn hand(sent: Sent, room: &[u8], size: usize) -> Handed
     if room.len() < size {
         return Handed { taken: false, sent };
     }
-    if io::write_all(STDOUT_FILENO, &room[..size]) {
+    if takes(output, &room[..size]) {
         let lines = sent.lines + 1;
         return Handed {
             taken: true,
@@ -55,32 +92,56 @@ fn hand(sent: Sent, room: &[u8], size: usize) -> Handed
 }
 
 // Hands over a line of a listing: it asks for the line that the input gives after as many as were taken.
-pub fn hand_line(sent: Sent, input: &[u8], room: &[u8], size: usize) -> Handed
+pub fn hand_line<W: Write>(
+    output: &mut Output<W>,
+    sent: Sent,
+    input: &[u8],
+    room: &[u8],
+    size: usize,
+) -> Handed
     requires { IsLine input.now sent.lines (take size room.now) }
     ensures { Hands sent result }
 {
-    hand(sent, room, size)
+    hand(output, sent, room, size)
 }
 
 // Hands over a line of the weights.
-pub fn hand_weighed(sent: Sent, room: &[u8], size: usize) -> Handed
+pub fn hand_weighed<W: Write>(
+    output: &mut Output<W>,
+    sent: Sent,
+    room: &[u8],
+    size: usize,
+) -> Handed
     ensures { Hands sent result }
 {
-    hand(sent, room, size)
+    hand(output, sent, room, size)
 }
 
 // Hands over a text whole: it asks for what the input is to print.
-pub fn hand_text(sent: Sent, what: Text, input: &[u8], room: &[u8], size: usize) -> Handed
+pub fn hand_text<W: Write>(
+    output: &mut Output<W>,
+    sent: Sent,
+    what: Text,
+    input: &[u8],
+    room: &[u8],
+    size: usize,
+) -> Handed
     requires { IsText what input.now (take size room.now) }
     ensures { Hands sent result }
 {
-    hand(sent, room, size)
+    hand(output, sent, room, size)
 }
 
 // Hands over the line of a refusal.
-pub fn hand_refusal(sent: Sent, refusal: Refusal, room: &[u8], size: usize) -> Handed
+pub fn hand_refusal<W: Write>(
+    output: &mut Output<W>,
+    sent: Sent,
+    refusal: Refusal,
+    room: &[u8],
+    size: usize,
+) -> Handed
     requires { take size room.now ≡ line_of_refusal refusal }
     ensures { Hands sent result }
 {
-    hand(sent, room, size)
+    hand(output, sent, room, size)
 }

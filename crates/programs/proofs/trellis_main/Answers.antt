@@ -8,6 +8,6 @@ use Rattle.programs.proofs.RunEnds.{status-fault}
 use Rattle.programs.proofs.trellis_main.Goals as goal
 
 pub print_listing-ending-requires : goal.print_listing-ending-requires
-print_listing-ending-requires c =
+print_listing-ending-requires g c =
     let read = c.read_all-got in
-    stands-for (read.auto.1.0 ∙ length-replicate {A = ℕ} _ 0) read.ensures.0.1 read.ensures.1 c.if-got.false
+    stands-for (read.auto.room ∙ length-replicate {A = ℕ} _ 0) read.ensures.prefix_len.1 read.ensures.stopped c.if-got.false

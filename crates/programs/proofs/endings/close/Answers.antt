@@ -4,10 +4,10 @@ use Rattle.programs.proofs.RunEnds.{status-listed, status-refused, status-unwrit
 use Rattle.programs.proofs.endings.close.Goals as goal
 
 pub returns-in-Listed : goal.returns-in-Listed
-returns-in-Listed c = search status-listed
+returns-in-Listed g c = search status-listed
 
 pub returns-in-Refused : goal.returns-in-Refused
-returns-in-Refused c = search status-refused
+returns-in-Refused g c = search status-refused
 
 pub returns-in-Unwritten : goal.returns-in-Unwritten
-returns-in-Unwritten c = search status-unwritten
+returns-in-Unwritten g c = search status-unwritten

@@ -4,4 +4,4 @@ use Rattle.programs.proofs.LinesPrinted.{handed-over}
 use Rattle.programs.proofs.listing.hand_over.Goals as goal
 
 pub returns : goal.returns
-returns c = search handed-over
+returns g c = search handed-over

@@ -5,7 +5,7 @@ use Rattle.programs.proofs.LinesPrinted.{cut_short, is-line, none_left, one-line
 use Rattle.programs.proofs.listing.print_line.Goals as goal
 
 pub hand_over-requires : goal.hand_over-requires
-hand_over-requires c =
+hand_over-requires g c =
     let pre = c.requires in
     let line = c.in-Line.is in
     record {
@@ -14,9 +14,9 @@ hand_over-requires c =
     }
 
 pub returns-in-Nothing : goal.returns-in-Nothing
-returns-in-Nothing c =
+returns-in-Nothing g c =
     let pre = c.requires in
     none_left pre.enough pre.before c.next_line-step.ensures _ refl c.in-Nothing.is
 
 pub returns-in-Refused : goal.returns-in-Refused
-returns-in-Refused c = cut_short
+returns-in-Refused g c = cut_short

@@ -8,20 +8,20 @@ use Rattle.programs.specs.Printing.{Going}
 use Rattle.programs.proofs.listing.print_lines.Goals as goal
 
 pub loop-goes_on-init : goal.loop-goes_on-init
-loop-goes_on-init c = (search rules, search rules, search rules, search going-first)
+loop-goes_on-init g c = (search rules, search rules, search rules, search going-first)
 
 pub print_line-turn-requires : goal.print_line-turn-requires
-print_line-turn-requires c =
+print_line-turn-requires g c =
     record {
       enough = search enough-still;
       before = search going_before;
     }
 
 pub loop-goes_on-smaller : goal.loop-goes_on-smaller
-loop-goes_on-smaller c = search turns-fewer
+loop-goes_on-smaller g c = search turns-fewer
 
 pub loop-goes_on-preserved : goal.loop-goes_on-preserved
-loop-goes_on-preserved c = (search rules, search rules, search rules, search going_on)
+loop-goes_on-preserved g c = (search rules, search rules, search rules, search going_on)
 
 pub returns : goal.returns
-returns c = search printed-all
+returns g c = search printed-all

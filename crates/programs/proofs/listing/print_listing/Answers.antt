@@ -4,7 +4,7 @@ use Rattle.programs.proofs.RunEnds.{all-taken, not-all-taken}
 use Rattle.programs.proofs.listing.print_listing.Goals as goal
 
 pub returns-then-printed : goal.returns-then-printed
-returns-then-printed c = search all-taken
+returns-then-printed g c = search all-taken
 
 pub returns : goal.returns
-returns c = not-all-taken
+returns g c = not-all-taken

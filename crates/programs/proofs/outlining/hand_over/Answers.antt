@@ -4,7 +4,7 @@ use Rattle.programs.proofs.TextsSaid.{text-taken, text-untaken}
 use Rattle.programs.proofs.outlining.hand_over.Goals as goal
 
 pub returns-then-handed : goal.returns-then-handed
-returns-then-handed c = search text-taken
+returns-then-handed g c = search text-taken
 
 pub returns : goal.returns
-returns c = search text-untaken
+returns g c = search text-untaken

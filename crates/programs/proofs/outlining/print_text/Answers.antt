@@ -4,7 +4,7 @@ use Rattle.programs.proofs.TextsSaid.{refused-said, text-there}
 use Rattle.programs.proofs.outlining.print_text.Goals as goal
 
 pub hand_over-requires : goal.hand_over-requires
-hand_over-requires c = search text-there
+hand_over-requires g c = search text-there
 
 pub returns-in-Refused : goal.returns-in-Refused
-returns-in-Refused c = search refused-said
+returns-in-Refused g c = search refused-said

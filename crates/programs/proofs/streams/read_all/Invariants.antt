@@ -9,7 +9,7 @@ use Rattle.programs.proofs.Inputs.{stopped-early, stopped-full}
 use Rattle.programs.proofs.streams.read_all.Given as goal
 
 abbrev pub invariant-loop-done : goal.invariant-loop-done
-invariant-loop-done l = (length l.room ≡ length l.initial.room) × (l.done ≤ length l.room)
+invariant-loop-done g l = (length l.room ≡ length l.initial.room) × (l.done ≤ length l.room)
 
 abbrev pub decreases-loop-done : goal.decreases-loop-done
-decreases-loop-done l = length l.initial.room - l.done
+decreases-loop-done g l = length l.initial.room - l.done

@@ -8,6 +8,6 @@ use Rattle.programs.proofs.RunEnds.{status-fault}
 use Rattle.programs.proofs.verbs.run_on.Goals as goal
 
 pub print_verb-ending-requires : goal.print_verb-ending-requires
-print_verb-ending-requires c =
+print_verb-ending-requires g c =
     let read = c.read_all-got in
-    stands-for (read.auto.1.0 ∙ length-replicate {A = ℕ} _ 0) read.ensures.0.1 read.ensures.1 c.if-got.false
+    stands-for (read.auto.room ∙ length-replicate {A = ℕ} _ 0) read.ensures.prefix_len.1 read.ensures.stopped c.if-got.false

@@ -4,4 +4,4 @@ use Rattle.programs.proofs.RunEnds.{status-fault}
 use Rattle.programs.proofs.verbs.usage.Goals as goal
 
 pub returns : goal.returns
-returns c = search status-fault
+returns g c = search status-fault

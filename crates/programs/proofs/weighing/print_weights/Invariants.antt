@@ -6,7 +6,7 @@ use Prim.Native.Nat.{◌-◌}
 use Rattle.programs.proofs.weighing.print_weights.Given as goal
 
 abbrev pub invariant-loop-weight : goal.invariant-loop-weight
-invariant-loop-weight l = length l.room ≡ length l.initial.room
+invariant-loop-weight g l = length l.room ≡ length l.initial.room
 
 abbrev pub decreases-loop-weight : goal.decreases-loop-weight
-decreases-loop-weight l = length l.counts - l.weight
+decreases-loop-weight g l = length l.counts - l.weight

@@ -1,0 +1,9 @@
+// Prints how many codewords of a plate have each weight: of the plate of the sheet that stands on standard input.
+#![tactic(auto)]
+
+use std::process::ExitCode;
+
+fn main(rt: HostRuntime) -> ExitCode {
+    let status = programs::plate_weights_main(&rt, &mut rt.stdin(), rt.stdout(), &mut rt.stderr());
+    ExitCode::from(status as u8)
+}
