@@ -3,11 +3,12 @@
 // begins with 5 the plate has a mask beyond its length, so that it is not prepared.
 #![tactic(auto)]
 
-ghost use Rattle.std.specs.Prelude.{◌≤◌, length};
+ghost use Rattle.std.specs.Prelude.{◌≤◌, length, IfOk};
 
 use judging::{Judged, Judgement};
-use libc::{STDIN_FILENO, STDOUT_FILENO};
 use plates::{Kind, Prepared};
+use std::io;
+use std::io::{Read, Write};
 
 // The plate, in its reply.
 fn even_words() -> Prepared {
@@ -46,32 +47,32 @@ fn tail(text: &[u8], stop: u8) -> &[u8] {
 }
 
 // A number with a tab before it.
-fn field(value: u64) {
-    io::write_all(STDOUT_FILENO, b"\t");
-    io::print_decimal(STDOUT_FILENO, value);
+fn field<W: Write>(to: &mut W, value: u64) -> io::Result<()> {
+    write!(to, "\t{value}")
 }
 
 // Words and two numbers.
-fn show_two(words: &[u8], a: u64, b: u64) {
-    io::write_all(STDOUT_FILENO, words);
-    field(a);
-    field(b);
+fn show_two<W: Write>(to: &mut W, words: &[u8], a: u64, b: u64) -> io::Result<()> {
+    to.write_all(words)?;
+    field(to, a)?;
+    field(to, b)
 }
 
 // Words and a number.
-fn show_one(words: &[u8], a: u64) {
-    io::write_all(STDOUT_FILENO, words);
-    field(a);
+fn show_one<W: Write>(to: &mut W, words: &[u8], a: u64) -> io::Result<()> {
+    to.write_all(words)?;
+    field(to, a)
 }
 
 // The surplus of states at depth 2 and of branches in section 2, the word that tells, or the refusal.
-fn show(judgement: Judgement) {
+fn show<W: Write>(to: &mut W, judgement: Judgement) -> io::Result<()> {
     let verdict = judgement.verdict;
     match verdict {
-        Judged::Right => show_two(b"\tright", judgement.states[2], judgement.branches[2]),
-        Judged::SpelledWrongly(word) => show_one(b"\tspelled wrongly", word),
-        Judged::NotSpelled(word) => show_one(b"\tnot spelled", word),
+        Judged::Right => show_two(to, b"\tright", judgement.states[2], judgement.branches[2]),
+        Judged::SpelledWrongly(word) => show_one(to, b"\tspelled wrongly", word),
+        Judged::NotSpelled(word) => show_one(to, b"\tnot spelled", word),
         Judged::Refused(refusal) => show_two(
+            to,
             b"\trefused",
             plates::refusal_number(refusal),
             plates::refusal_place(refusal) as u64,
@@ -80,70 +81,71 @@ fn show(judgement: Judgement) {
 }
 
 // Judges a listing, with 64 numbers lent.
-fn judge(listing: &[u8]) {
+fn judge<W: Write>(to: &mut W, listing: &[u8]) -> io::Result<()> {
     let prepared = even_words();
     let mut room = [0; 64];
-    show(judging::judge(prepared.plate, listing, &mut room));
+    show(to, judging::judge(prepared.plate, listing, &mut room))
 }
 
 // Judges a listing, with 7 numbers lent.
-fn judge_in_seven(listing: &[u8]) {
+fn judge_in_seven<W: Write>(to: &mut W, listing: &[u8]) -> io::Result<()> {
     let prepared = even_words();
     let mut room = [0; 7];
-    show(judging::judge(prepared.plate, listing, &mut room));
+    show(to, judging::judge(prepared.plate, listing, &mut room))
 }
 
 // Judges a listing against a plate that is not prepared.
-fn judge_unprepared(listing: &[u8]) {
+fn judge_unprepared<W: Write>(to: &mut W, listing: &[u8]) -> io::Result<()> {
     let prepared = even_words();
     let mut plate = prepared.plate;
     plate.mask = 8;
     let mut room = [0; 64];
-    show(judging::judge(plate, listing, &mut room));
+    show(to, judging::judge(plate, listing, &mut room))
 }
 
 // A listing with its line of words: prints its line.
-fn example(words: &[u8], listing: &[u8]) {
+fn example<W: Write>(to: &mut W, words: &[u8], listing: &[u8]) -> io::Result<()> {
     if words.len() == 0 {
-        return;
+        return Ok(());
     }
-    io::write_all(STDOUT_FILENO, words);
+    to.write_all(words)?;
     if words[0] == b'7' {
-        judge_in_seven(listing);
+        judge_in_seven(to, listing)?;
     } else if words[0] == b'5' {
-        judge_unprepared(listing);
+        judge_unprepared(to, listing)?;
     } else {
-        judge(listing);
+        judge(to, listing)?;
     }
-    io::write_all(STDOUT_FILENO, b"\n");
+    to.write_all(b"\n")
 }
 
 // Runs the example at a place of the text, and answers where the next one begins.
-fn run_one(text: &[u8], at: usize) -> usize
+fn run_one<W: Write>(to: &mut W, text: &[u8], at: usize) -> io::Result<usize>
     requires { at ≤ length text.now }
-    ensures { result ≤ length text.now }
+    ensures { IfOk result (λ next. next ≤ length text.now) }
 {
     let first = head(&text[at..], b'#');
-    example(head(first, b'\n'), tail(first, b'\n'));
+    example(to, head(first, b'\n'), tail(first, b'\n'))?;
     let size = first.len();
     if text.len() - at <= size {
-        return text.len();
+        return Ok(text.len());
     }
-    at + size + 1
+    Ok(at + size + 1)
 }
 
 // The examples of a text in turn, a hundred at most.
-fn examples(text: &[u8]) {
+fn examples<W: Write>(to: &mut W, text: &[u8]) -> io::Result<()> {
     let mut at: usize = 0;
     let mut turns: u64 = 100;
     while 0 < turns {
-        at = run_one(text, at);
+        at = run_one(&mut *to, text, at)?;
         turns -= 1;
     }
+    Ok(())
 }
 
-fn main() {
-    let mut text = [0; 4096];
-    let size = io::read_full(STDIN_FILENO, &mut text);
-    examples(&text[..size]);
+fn main(rt: HostRuntime) -> io::Result<()> {
+    let mut text = Vec::new(rt.alloc());
+    rt.stdin().take(4096).read_to_end(&mut text)?;
+    examples(&mut rt.stdout(), &text)
 }

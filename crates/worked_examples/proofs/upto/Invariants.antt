@@ -1,7 +1,5 @@
 -- `upto` meets its contract: the bytes looked at are bytes of the text.
-use borrow.Author.Rules.{rules}
 use lib.ListN.{length}
-use native.Mathlib.Omega.{arith}
 use Prim.Native.Nat.{◌-◌, ◌≤◌}
 use Rattle.worked_examples.proofs.upto.Given as goal
 
