@@ -2,7 +2,7 @@
 use borrow.Author.Tests.{lt-ltb}
 use lib.ListN.{length, length-append, take}
 use mathlib.Core.Bool.{Bool, false, not, true}
-use mathlib.Core.List.{List, [], ◌++◌, append-nil}
+use mathlib.Core.List.{List, ◌++◌, append-nil}
 use mathlib.Core.Path.{◌≡◌, ap, refl, sym, ◌∙◌}
 use native.Mathlib.Omega.{arith}
 use Prim.Native.Nat.{◌<◌, ℕ}

@@ -15,14 +15,12 @@ use Rattle.programs.specs.declared.endings.Ending.{Ending}
 use Rattle.programs.specs.declared.endings.Ending.TheVariants.{Listed, Refused, Unwritten}
 use Rattle.programs.specs.declared.listing.Printed.{Printed}
 use Rattle.programs.specs.declared.writer.Sent.{Sent}
-use Rattle.programs.specs.Ending.{Accepts, Ends, EndsAs, IsStatus, PrintsAll, ending_of, status_of}
+use Rattle.programs.specs.Ending.{Ends, EndsAs, IsStatus, PrintsAll, ending_of, status_of}
 use Rattle.programs.specs.Input.{StandsFor}
 use Rattle.programs.specs.Printing.{AllLines, Going}
 use Rattle.programs.proofs.Inputs.{reads_same}
 use Rattle.reports.proofs.ReportDetermined.{report-determined}
 use Rattle.reports.specs.declared.Report.{Report}
-use Rattle.reports.specs.declared.Stage.{Stage}
-use Rattle.reports.specs.declared.Stage.TheVariants as S
 use Rattle.reports.specs.Report.{Reports, ReportsAs, line_of_refusal}
 use Rattle.reports.specs.Steps.{Opens, OpensAs, OpensSheet, report_by}
 use Rattle.sheets.specs.Sheet.{Contents, Reading, reading, refused, says, start_of}

@@ -2,11 +2,11 @@
 use lib.ListN.{drop, length, length-replicate, replicate, take}
 use lib.Seq.{take-append_seam}
 use mathlib.Core.Bool.{true}
-use mathlib.Core.List.{◌++◌, List, [], ◌∷◌}
+use mathlib.Core.List.{List, [], ◌∷◌}
 use mathlib.Core.Logic.{inl, inr}
 use mathlib.Core.Path.{◌≡◌, ap, refl, subst, sym, ◌∙◌}
 use native.Mathlib.Omega.{arith}
-use Prim.Native.Nat.{◌+◌, ℕ}
+use Prim.Native.Nat.{ℕ}
 use Rattle.listings.specs.declared.Written.{Written}
 use Rattle.listings.specs.declared.Written.TheVariants as W
 use Rattle.listings.specs.Lines.{refused_line}

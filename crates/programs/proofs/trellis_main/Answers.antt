@@ -1,10 +1,8 @@
 -- `trellis_main` meets its contract.
-use borrow.Author.Rules.{rules}
 use lib.ListN.{length-replicate}
 use mathlib.Core.Path.{◌∙◌}
 use Prim.Native.Nat.{ℕ}
 use Rattle.programs.proofs.Inputs.{stands-for}
-use Rattle.programs.proofs.RunEnds.{status-fault}
 use Rattle.programs.proofs.trellis_main.Goals as goal
 
 pub print_listing-ending-requires : goal.print_listing-ending-requires

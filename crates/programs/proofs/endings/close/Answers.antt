@@ -1,5 +1,4 @@
 -- `endings::close` meets its contract.
-use borrow.Author.Rules.{rules}
 use Rattle.programs.proofs.RunEnds.{status-listed, status-refused, status-unwritten}
 use Rattle.programs.proofs.endings.close.Goals as goal
 

@@ -1,5 +1,4 @@
 -- `listing::ending_of` meets its contract.
-use borrow.Author.Rules.{rules}
 use Rattle.programs.proofs.listing.ending_of.Goals as goal
 
 pub returns-in-Refused : goal.returns-in-Refused

@@ -1,5 +1,4 @@
 -- `listing::hand_over` meets its contract.
-use borrow.Author.Rules.{rules}
 use Rattle.programs.proofs.LinesPrinted.{handed-over}
 use Rattle.programs.proofs.listing.hand_over.Goals as goal
 

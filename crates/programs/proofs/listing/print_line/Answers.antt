@@ -1,5 +1,4 @@
 -- `listing::print_line` meets its contract.
-use borrow.Author.Rules.{rules}
 use mathlib.Core.Path.{refl}
 use Rattle.programs.proofs.LinesPrinted.{cut_short, is-line, none_left, one-line-more}
 use Rattle.programs.proofs.listing.print_line.Goals as goal

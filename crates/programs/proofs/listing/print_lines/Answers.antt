@@ -1,10 +1,7 @@
 -- `listing::print_lines` meets its contract.
 use borrow.Author.Rules.{rules}
-use lib.ListN.{length}
-use mathlib.Core.Path.{◌≡◌}
-use Rattle.programs.proofs.LinesPrinted.{enough-still, going_before, going-first, going_on, turns-fewer, turns_left}
+use Rattle.programs.proofs.LinesPrinted.{enough-still, going_before, going-first, going_on, turns-fewer}
 use Rattle.programs.proofs.RunEnds.{printed-all}
-use Rattle.programs.specs.Printing.{Going}
 use Rattle.programs.proofs.listing.print_lines.Goals as goal
 
 pub loop-goes_on-init : goal.loop-goes_on-init

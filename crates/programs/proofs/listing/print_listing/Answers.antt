@@ -1,5 +1,4 @@
 -- `listing::print_listing` meets its contract.
-use borrow.Author.Rules.{rules}
 use Rattle.programs.proofs.RunEnds.{all-taken, not-all-taken}
 use Rattle.programs.proofs.listing.print_listing.Goals as goal
 

@@ -1,5 +1,4 @@
 -- `outlining::hand_over` meets its contract.
-use borrow.Author.Rules.{rules}
 use Rattle.programs.proofs.TextsSaid.{text-taken, text-untaken}
 use Rattle.programs.proofs.outlining.hand_over.Goals as goal
 

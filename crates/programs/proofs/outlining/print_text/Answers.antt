@@ -1,5 +1,4 @@
 -- `outlining::print_text` meets its contract.
-use borrow.Author.Rules.{rules}
 use Rattle.programs.proofs.TextsSaid.{refused-said, text-there}
 use Rattle.programs.proofs.outlining.print_text.Goals as goal
 

@@ -1,5 +1,4 @@
 -- `outlining::write_text` meets its contract.
-use borrow.Author.Rules.{rules}
 use Rattle.programs.proofs.TextsSaid.{dual-text, sheet-text}
 use Rattle.programs.proofs.outlining.write_text.Goals as goal
 

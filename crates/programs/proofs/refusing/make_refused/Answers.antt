@@ -1,5 +1,4 @@
 -- `refusing::make_refused` meets its contract.
-use borrow.Author.Rules.{rules}
 use Rattle.programs.proofs.TextsSaid.{refused-made}
 use Rattle.programs.proofs.refusing.make_refused.Goals as goal
 

@@ -1,5 +1,4 @@
 -- `refusing::print_refused` meets its contract.
-use borrow.Author.Rules.{rules}
 use Rattle.programs.proofs.TextsSaid.{line-there, refusal-taken, refusal-untaken}
 use Rattle.programs.proofs.refusing.print_refused.Goals as goal
 

@@ -1,10 +1,9 @@
 -- `streams::read_all` meets its contract.
-use borrow.Author.Rules.{rules}
 use lib.ListN.{length}
 use lib.Seq.{length-take-le}
-use mathlib.Core.Path.{◌≡◌, refl, sym}
+use mathlib.Core.Path.{refl, sym}
 use native.Mathlib.Omega.{arith}
-use Prim.Native.Nat.{◌-◌, ◌≤◌}
+use Prim.Native.Nat.{◌≤◌}
 use Rattle.programs.proofs.Inputs.{stopped-early, stopped-full}
 use Rattle.programs.proofs.streams.read_all.Goals as goal
 

@@ -1,10 +1,8 @@
 -- `verbs::run_on` meets its contract.
-use borrow.Author.Rules.{rules}
 use lib.ListN.{length-replicate}
 use mathlib.Core.Path.{◌∙◌}
 use Prim.Native.Nat.{ℕ}
 use Rattle.programs.proofs.Inputs.{stands-for}
-use Rattle.programs.proofs.RunEnds.{status-fault}
 use Rattle.programs.proofs.verbs.run_on.Goals as goal
 
 pub print_verb-ending-requires : goal.print_verb-ending-requires

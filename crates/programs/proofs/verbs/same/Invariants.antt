@@ -1,5 +1,4 @@
 -- `verbs::same` meets its contract.
-use borrow.Author.Rules.{rules}
 use lib.ListN.{length}
 use Prim.Native.Nat.{◌-◌, ◌≤◌}
 use Rattle.programs.proofs.verbs.same.Given as goal

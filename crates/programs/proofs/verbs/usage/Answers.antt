@@ -1,5 +1,4 @@
 -- `verbs::usage` meets its contract.
-use borrow.Author.Rules.{rules}
 use Rattle.programs.proofs.RunEnds.{status-fault}
 use Rattle.programs.proofs.verbs.usage.Goals as goal
 

@@ -1,5 +1,4 @@
 -- `weighing::print_weights` meets its contract. The loop's measure is what is left of the counts.
-use borrow.Author.Rules.{rules}
 use lib.ListN.{length}
 use mathlib.Core.Path.{◌≡◌}
 use Prim.Native.Nat.{◌-◌}

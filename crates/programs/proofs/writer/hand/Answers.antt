@@ -1,5 +1,4 @@
 -- `writer::hand` meets its contract.
-use borrow.Author.Rules.{rules}
 use lib.Seq.{length-take-le}
 use mathlib.Core.Path.{sym}
 use Rattle.programs.proofs.LinesPrinted.{not_taken, one-taken}
