@@ -1,4 +1,4 @@
--- A line of a supplier's listing: the word branch, then depth, from_state, bit and to_state.
+-- A line of a supplier's listing: the word branch, then depth, from-state, bit and to-state.
 use Rattle.std.specs.Prelude.{ℕ, ltb, cond, List, [], ◌∷◌}
 use Rattle.words.specs.Letters.{bytes}
 use Rattle.sheets.specs.Blocks.{next_line}
