@@ -81,7 +81,7 @@ fn say_refusal<E: Write>(errors: &mut E, name: &[u8], refusal: Refusal) {
     say(errors, b")\n");
 }
 
-// What failed, as the caller names it, and why. Where the system refused nothing, what was there did not stand for a whole line.
+// What failed, as the caller names it, and why. No reason is known where not all was handed over to begin with.
 fn say_fault<E: Write>(errors: &mut E, what: &[u8], reason: Option<Error>) {
     say(errors, what);
     match reason {

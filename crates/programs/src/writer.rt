@@ -1,5 +1,6 @@
 // Lines handed to standard output. Nothing else writes there. A count of lines is made here alone, so that it counts lines that were taken.
-ghost use Rattle.std.specs.Prelude.{take, ◌≡◌};
+ghost use Rattle.std.specs.Prelude.{take, true, OnOk, ◌≡◌};
+ghost use Rattle.std.specs.Io.KnownBytes.{Appends};
 ghost use Rattle.programs.specs.Printing.{Hands, IsLine};
 ghost use Rattle.programs.specs.Verbs.{IsText};
 ghost use Rattle.reports.specs.Report.{line_of_refusal};
@@ -55,13 +56,17 @@ pub fn none() -> Sent
 }
 
 // Writes all bytes through to the end.
-fn write_through<W: Write>(to: &mut W, bytes: &[u8]) -> io::Result<()> {
+fn write_through<W: Write>(to: &mut W, bytes: &[u8]) -> io::Result<()>
+    ensures { OnOk result (Appends (W.contents to.old) (W.contents to.new) bytes.now) }
+{
     to.write_all(bytes)?;
     to.flush()
 }
 
 // Whether standard output took all bytes. Where it did not, why is kept.
-fn takes<W: Write>(output: &mut Output<W>, bytes: &[u8]) -> bool {
+fn takes<W: Write>(output: &mut Output<W>, bytes: &[u8]) -> bool
+    ensures { result ≡ true → Appends (W.contents output.old.to) (W.contents output.new.to) bytes.now }
+{
     match write_through(&mut output.to, bytes) {
         Ok(()) => true,
         Err(reason) => {
@@ -73,7 +78,8 @@ fn takes<W: Write>(output: &mut Output<W>, bytes: &[u8]) -> bool {
 
 // Hands over the line at the start of the room, and counts it where it was taken.
 fn hand<W: Write>(output: &mut Output<W>, sent: Sent, room: &[u8], size: usize) -> Handed
-    ensures { Hands sent result }
+    ensures counted { Hands sent result }
+    ensures written { result.taken ≡ true → Appends (W.contents output.old.to) (W.contents output.new.to) (take size room.now) }
 {
     if u64::MAX <= sent.lines {
         return Handed { taken: false, sent };
@@ -100,7 +106,8 @@ pub fn hand_line<W: Write>(
     size: usize,
 ) -> Handed
     requires { IsLine input.now sent.lines (take size room.now) }
-    ensures { Hands sent result }
+    ensures counted { Hands sent result }
+    ensures written { result.taken ≡ true → Appends (W.contents output.old.to) (W.contents output.new.to) (take size room.now) }
 {
     hand(output, sent, room, size)
 }
@@ -112,7 +119,8 @@ pub fn hand_weighed<W: Write>(
     room: &[u8],
     size: usize,
 ) -> Handed
-    ensures { Hands sent result }
+    ensures counted { Hands sent result }
+    ensures written { result.taken ≡ true → Appends (W.contents output.old.to) (W.contents output.new.to) (take size room.now) }
 {
     hand(output, sent, room, size)
 }
@@ -127,7 +135,8 @@ pub fn hand_text<W: Write>(
     size: usize,
 ) -> Handed
     requires { IsText what input.now (take size room.now) }
-    ensures { Hands sent result }
+    ensures counted { Hands sent result }
+    ensures written { result.taken ≡ true → Appends (W.contents output.old.to) (W.contents output.new.to) (take size room.now) }
 {
     hand(output, sent, room, size)
 }
@@ -141,7 +150,8 @@ pub fn hand_refusal<W: Write>(
     size: usize,
 ) -> Handed
     requires { take size room.now ≡ line_of_refusal refusal }
-    ensures { Hands sent result }
+    ensures counted { Hands sent result }
+    ensures written { result.taken ≡ true → Appends (W.contents output.old.to) (W.contents output.new.to) (take size room.now) }
 {
     hand(output, sent, room, size)
 }
