@@ -45,7 +45,9 @@ fn put_numbers(words: &mut [u64], n: usize, k: usize, mask: u64)
     words[1] = k as u64;
 }
 
-// The plate of some parts to the start of the run.
+// The plate of some parts to the start of the run. Inlined, so that the stack of the two calls that put a plate holds it once: not as a reply and
+// as what is lent here.
+#[inline(always)]
 pub fn put_plate<'a>(
     words: &mut [u64],
     n: usize,

@@ -175,27 +175,24 @@ fn refused(refusal: Refusal) -> Prepared
     }
 }
 
-// The plate of a matrix that refusals 1 to 3 do not meet, worked out in its own rows and profile.
-fn plate_of_matrix(n: usize, kind: Kind, rows: &[u64], mask: u64) -> Plate
+// The plate of a matrix that refusals 1 to 3 do not meet, worked out in its own rows and profile. It is made where the caller keeps it, since
+// the stack holds once more each plate that a call gives back.
+fn plate_of_matrix(plate: &mut Plate, n: usize, kind: Kind, rows: &[u64], mask: u64)
     requires n_bound { n ≤ 64 }
     requires rows_len_bound { length rows.now ≤ 64 }
     requires by_index { (j : ℕ) → j < length rows.now → get_or rows.now j 0 < 2 ^ n }
-    ensures { PlateOf (InCode kind n rows.now) n mask result }
+    ensures { PlateOf (InCode kind n rows.now) n mask plate.new }
 {
-    let mut plate = Plate {
-        n,
-        k: 0,
-        mask,
-        rows: [0; 64],
-        profile: [0; 65],
-    };
+    plate.n = n;
+    plate.mask = mask;
+    plate.rows = [0; 64];
+    plate.profile = [0; 65];
     let used = matrix::fill(&mut plate.rows, n, kind, rows);
     let k = reduce::reduce(&mut plate.rows, n, used);
     plate.k = k;
     let heads = profile::heads(&plate.rows, k);
     let ends = profile::ends(&plate.rows, k);
     profile::tally(&mut plate.profile, n, heads, ends);
-    plate
 }
 
 // The plate of a matrix's code with a mask, or the first refusal that its length, its rows, the mask or its profile meet.
@@ -216,7 +213,14 @@ pub fn prepare(n: usize, kind: Kind, rows: &[u64], mask: u64) -> Prepared
         return refused(Refusal::RowBeyond(beyond));
     }
     let reach = matrix::reaches(mask, n);
-    let plate = plate_of_matrix(n, kind, rows, mask);
+    let mut plate = Plate {
+        n: 0,
+        k: 0,
+        mask: 0,
+        rows: [0; 64],
+        profile: [0; 65],
+    };
+    plate_of_matrix(&mut plate, n, kind, rows, mask);
     let wide = profile::first_wide(&plate.profile, n);
     if reach == 1 {
         return refused(Refusal::MaskBeyond);

@@ -109,7 +109,9 @@ fn used(count: usize) -> usize
     if 64 < count { 0 } else { count }
 }
 
-// The line of a block or heard line of this counter and `count` samples, after which the next line begins at `next`.
+// The line of a block or heard line of this counter and `count` samples, after which the next line begins at `next`. Compiled by itself, as are the
+// lines of the stages.
+#[inline(never)]
 fn samples_line(
     report: Report,
     next: usize,

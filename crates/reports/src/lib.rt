@@ -100,20 +100,18 @@ fn of_sheet(sheet: Sheet, table: &[u64; 64]) -> Report
     let order = sheet.order;
     let prepared = plates::prepare(sheet.n, kind, &rows[..count], sheet.mask);
     let verdict = prepared.verdict;
-    match verdict {
-        Verdict::Refused(refusal) => refused(refusal),
-        Verdict::Accepted => {
-            let plate = prepared.plate;
-            Report {
-                stage: Stage::PlateLine,
-                plate,
-                order,
-                at: sheet.start,
-                heard: sheet.heard,
-                blocks: sheet.blocks,
-                kept: nothing_kept(),
-            }
-        }
+    if let Verdict::Refused(refusal) = verdict {
+        return refused(refusal);
+    }
+    let plate = prepared.plate;
+    Report {
+        stage: Stage::PlateLine,
+        plate,
+        order,
+        at: sheet.start,
+        heard: sheet.heard,
+        blocks: sheet.blocks,
+        kept: nothing_kept(),
     }
 }
 

@@ -1,4 +1,5 @@
-// The line of each stage of a report, but for its blocks.
+// The line of each stage of a report, but for its blocks. Each is compiled by itself: one that is inlined leaves its reports on its caller's stack
+// beside those of the others, of which a listing needs one at a time.
 ghost use Rattle.plates.specs.Refusals.{field, number, place};
 ghost use Rattle.listings.specs.Writing.{WritesEnd, WritesPlate, WritesProfile, WritesRefused, WritesTally};
 ghost use Rattle.reports.specs.Steps.{Closes, WritesStep, closed, to_blocks, to_end, to_nothing, to_profile};
@@ -22,6 +23,7 @@ pub fn refused_line(before: Report, after: Report, refusal: Refusal, room: &mut 
 }
 
 // The refusal of the input.
+#[inline(never)]
 pub fn refusal_line(report: Report, refusal: Refusal, room: &mut [u8]) -> Step
     ensures { WritesStep (WritesRefused (number refusal) (place refusal) (field refusal) room.old) report (to_nothing report) result room.new }
 {
@@ -30,6 +32,7 @@ pub fn refusal_line(report: Report, refusal: Refusal, room: &mut [u8]) -> Step
 }
 
 // The plate line.
+#[inline(never)]
 pub fn plate_line(report: Report, room: &mut [u8]) -> Step
     ensures { WritesStep (WritesPlate report.plate room.old) report (to_profile report) result room.new }
 {
@@ -39,6 +42,7 @@ pub fn plate_line(report: Report, room: &mut [u8]) -> Step
 }
 
 // The profile line.
+#[inline(never)]
 pub fn profile_line(report: Report, room: &mut [u8]) -> Step
     ensures { WritesStep (WritesProfile report.plate room.old) report (to_blocks report.at report) result room.new }
 {
@@ -48,6 +52,7 @@ pub fn profile_line(report: Report, room: &mut [u8]) -> Step
 }
 
 // The end line.
+#[inline(never)]
 pub fn end_line(report: Report, room: &mut [u8]) -> Step
     ensures { WritesStep (WritesEnd report.blocks room.old) report (to_nothing report) result room.new }
 {
@@ -60,6 +65,7 @@ pub fn end_line(report: Report, room: &mut [u8]) -> Step
 }
 
 // The tally line.
+#[inline(never)]
 fn tally_line(report: Report, room: &mut [u8]) -> Step
     ensures { WritesStep (WritesTally report.kept.tally room.old) report (to_end report) result room.new }
 {

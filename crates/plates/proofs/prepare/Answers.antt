@@ -17,8 +17,8 @@ pub returns-then-beyond-rows : goal.returns-then-beyond-rows
 returns-then-beyond-rows c =
     refuse-beyond (omega arith) (omega arith) (omega arith) c.first_beyond-beyond.ensures c.if-beyond-rows.true c.refused-then-beyond-rows.ensures
 
-pub plate_of_matrix-plate-requires : goal.plate_of_matrix-plate-requires
-plate_of_matrix-plate-requires c =
+pub plate_of_matrix-requires : goal.plate_of_matrix-requires
+plate_of_matrix-requires c =
     record {
       n_bound = omega arith;
       rows_len_bound = omega arith;
@@ -34,10 +34,10 @@ pub returns-then-wide-n : goal.returns-then-wide-n
 returns-then-wide-n c =
     refuse-wide (omega (arith, c.if-n-eq0.false)) (omega (arith, c.if-n-gt64.false)) (omega (arith, c.if-rows-gt64.false))
     (none-beyond c.first_beyond-beyond.ensures c.if-beyond-rows.false) (mask-short c.reaches-reach.ensures c.if-reach-eq1.false)
-    c.plate_of_matrix-plate.ensures c.first_wide-wide.ensures c.if-wide-n.true c.refused-then-wide-n.ensures
+    c.plate_of_matrix.ensures c.first_wide-wide.ensures c.if-wide-n.true c.refused-then-wide-n.ensures
 
 pub returns : goal.returns
 returns c =
     accept (omega (arith, c.if-n-eq0.false)) (omega (arith, c.if-n-gt64.false)) (omega (arith, c.if-rows-gt64.false))
     (none-beyond c.first_beyond-beyond.ensures c.if-beyond-rows.false) (mask-short c.reaches-reach.ensures c.if-reach-eq1.false)
-    c.plate_of_matrix-plate.ensures c.first_wide-wide.ensures c.if-wide-n.false
+    c.plate_of_matrix.ensures c.first_wide-wide.ensures c.if-wide-n.false

@@ -9,6 +9,5 @@ pub returns-in-Refused : goal.returns-in-Refused
 returns-in-Refused c =
     record { prepared = _; prepares = c.prepare-prepared.ensures; is = rw c.in-Refused.is c.refused.ensures }
 
-pub returns-in-Accepted : goal.returns-in-Accepted
-returns-in-Accepted c =
-    record { prepared = _; prepares = c.prepare-prepared.ensures; is = rw (c.in-Accepted.is, c.nothing_kept.ensures) }
+pub returns : goal.returns
+returns c = record { prepared = _; prepares = c.prepare-prepared.ensures; is = rw (c.in_default.is, c.nothing_kept.ensures) }
