@@ -59,9 +59,6 @@ module _ (table : List ℕ) (z : Sizes) (samples metrics : List ℤ) (decisions 
   pub begin-small : t * z.words ≤ 4096
   begin-small = let k : t ≤ 64 = omega (arith, fit.short) in le_trans (mul-le-mul_left t fit.words_small) (mul-le-mul_right 64 k)
 
-  pub part_room : t * z.words + z.words ≤ length decisions
-  part_room = words-end t h
-
   pub from_low : s.from ≤ z.half
   from_low = from-room w.side
 
@@ -75,9 +72,6 @@ module _ (table : List ℕ) (z : Sizes) (samples metrics : List ℤ) (decisions 
   part-wanted : Dec (0 < z.words) → (length part ≡ 0) ⊎ (2 ^ (section_of (take z.k table) t).live ≤ length part * 64)
   part-wanted (yes p) = inr (omega (arith, part-size, fit.words_room p t h))
   part-wanted (no p) = inl (omega (arith, part-size, p))
-
-  next : ℕ
-  next = 2 ^ (section_of (take z.k table) (suc t)).live
 
   behind-size : length (drop (suc t) samples) ≤ 64
   behind-size = omega (arith, length-drop (suc t) samples, rooms.size, fit.short)

@@ -1,7 +1,7 @@
 -- Replies that say whether a fact holds.
-use borrow.Author.Tests.{eqb-false, eqb-true, not-false, not-true}
+use borrow.Author.Tests.{eqb-false, eqb-true}
 use lib.Dec.{eqb}
-use mathlib.Core.Bool.{Bool, false, false≢true, not, true, true≢false}
+use mathlib.Core.Bool.{Bool, false, false≢true, true, true≢false}
 use mathlib.Core.Path.{◌≡◌}
 use Prim.Native.Nat.{ℕ}
 use Rattle.plates.specs.Tested.{Decides}
@@ -19,10 +19,3 @@ alike f g d = record { yes_is = λ e. f (d.yes_is e); no_is = λ e q. d.no_is e 
 -- two numbers compared
 pub equal : (a b : ℕ) → Decides (a ≡ b) (eqb a b)
 equal a b = record { yes_is = eqb-true a b; no_is = eqb-false a b }
-
--- what a reply says where its test was taken, or not
-pub failed : {P : Type 0} {r : Bool} → Decides P r → not r ≡ true → P → ⊥
-failed {r = r} d e = d.no_is (not-true r e)
-
-pub held : {P : Type 0} {r : Bool} → Decides P r → not r ≡ false → P
-held {r = r} d e = d.yes_is (not-false r e)
