@@ -27,17 +27,17 @@ plate_of_matrix-requires c =
 
 pub returns-then-reach-eq1 : goal.returns-then-reach-eq1
 returns-then-reach-eq1 c =
-    refuse-mask (omega (arith, c.if-n-eq0.false)) (omega (arith, c.if-n-gt64.false)) (omega (arith, c.if-rows-gt64.false))
+    refuse-mask (omega arith) (omega arith) (omega arith)
     (none-beyond c.first_beyond-beyond.ensures c.if-beyond-rows.false) c.reaches-reach.ensures c.if-reach-eq1.true c.refused-then-reach-eq1.ensures
 
 pub returns-then-wide-n : goal.returns-then-wide-n
 returns-then-wide-n c =
-    refuse-wide (omega (arith, c.if-n-eq0.false)) (omega (arith, c.if-n-gt64.false)) (omega (arith, c.if-rows-gt64.false))
+    refuse-wide (omega arith) (omega arith) (omega arith)
     (none-beyond c.first_beyond-beyond.ensures c.if-beyond-rows.false) (mask-short c.reaches-reach.ensures c.if-reach-eq1.false)
     c.plate_of_matrix.ensures c.first_wide-wide.ensures c.if-wide-n.true c.refused-then-wide-n.ensures
 
 pub returns : goal.returns
 returns c =
-    accept (omega (arith, c.if-n-eq0.false)) (omega (arith, c.if-n-gt64.false)) (omega (arith, c.if-rows-gt64.false))
+    accept (omega arith) (omega arith) (omega arith)
     (none-beyond c.first_beyond-beyond.ensures c.if-beyond-rows.false) (mask-short c.reaches-reach.ensures c.if-reach-eq1.false)
     c.plate_of_matrix.ensures c.first_wide-wide.ensures c.if-wide-n.false

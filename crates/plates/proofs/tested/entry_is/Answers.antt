@@ -4,7 +4,7 @@ use Rattle.plates.proofs.Deciding.{alike, equal, fails}
 use Rattle.plates.proofs.tested.entry_is.Goals as goal
 
 pub returns-then-live-gt12 : goal.returns-then-live-gt12
-returns-then-live-gt12 c = fails (λ e. omega (arith, e.1, c.if-live-gt12.true))
+returns-then-live-gt12 c = fails (λ e. omega (arith, e.1))
 
 pub returns : goal.returns
-returns c = alike (λ e. (e, omega (arith, c.if-live-gt12.false))) (λ e. e.0) (equal c.args.entry c.args.live)
+returns c = alike (λ e. (e, omega arith)) (λ e. e.0) (equal c.args.entry c.args.live)

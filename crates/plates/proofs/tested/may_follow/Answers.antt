@@ -13,9 +13,9 @@ returns-then-first_one-from c =
 
 pub returns-then-by_last-last-lt64 : goal.returns-then-by_last-last-lt64
 returns-then-by_last-last-lt64 c =
-    fails (ends-together _ _ _ _ c.requires c.ranges.row.fits c.last_one-last.ensures (omega (arith, c.if-by_last-last-lt64.true)))
+    fails (ends-together _ _ _ _ c.requires c.ranges.row.fits c.last_one-last.ensures (omega arith))
 
 pub returns : goal.returns
 returns c =
     holds (follows _ _ _ _ c.requires c.ranges.row.fits c.last_one-last.ensures c.if-n-last.false
-    c.first_one.ensures c.if-first_one-from.false (omega (arith, c.if-by_last-last-lt64.false)))
+    c.first_one.ensures c.if-first_one-from.false (omega arith))
