@@ -60,7 +60,7 @@ static uint64_t ask(uint64_t call, const uint64_t *n, const struct run *r) {
     case 17: return yendrufal_write_weight(n[0], n[1], RUN(0), RUN(1));
     case 18: return yendrufal_write_least(n[0], RUN(0), RUN(1));
     case 19: return yendrufal_write_no_least(RUN(0), RUN(1));
-    case 20: return yendrufal_widest(RUN(0), RUN(1));
+    case 20: return yendrufal_widest_entry(RUN(0), RUN(1));
     case 21: return yendrufal_level(value_of(n[0]), n[1], value_of(n[2]), n[3], RUN(0));
     case 22: return yendrufal_levels(n[0], value_of(n[1]), n[2], RUN(0), n[3], RUN(1), RUN(2));
     case 23: return yendrufal_weights(RUN(0), RUN(1), RUN(2), RUN(3));

@@ -52,7 +52,7 @@ pub fn branch(flat: &[u64], depth: u64, state: u64, bit: u64, rooms: Rooms) -> C
 
 pub fn widest(flat: &[u64], rooms: Rooms) -> Call {
     let runs = vec![lent_plate(flat, rooms), Run::room_words("widest", rooms.single)];
-    Call { name: Name::Widest, numbers: vec![], runs }
+    Call { name: Name::WidestEntry, numbers: vec![], runs }
 }
 
 /// `counts` and `working`: how many cells of each are lent.

@@ -27,7 +27,7 @@ pub enum Name {
     WriteWeight,
     WriteLeast,
     WriteNoLeast,
-    Widest,
+    WidestEntry,
     Level,
     Levels,
     Weights,

@@ -29,7 +29,7 @@ const REPLIES: [(Name, &[u64]); 29] = [
     (Name::WriteWeight, PLAIN_LINE),
     (Name::WriteLeast, PLAIN_LINE),
     (Name::WriteNoLeast, PLAIN_LINE),
-    (Name::Widest, &[0, 5, 101]),
+    (Name::WidestEntry, &[0, 5, 101]),
     (Name::Weights, &[0, 5, 8, 22, 101]),
     (Name::Level, &[0, 24, 25, 101]),
     (Name::Levels, &[0, 1, 6, 24, 25, 101]),

@@ -44,7 +44,7 @@ pub fn answer(call: &mut Call) -> u64 {
         Name::WriteRefused | Name::WriteEnd => write_plain(call),
         Name::WritePlate | Name::WriteProfile | Name::WriteWord => write_of_plate(call),
         Name::Listing => listing(call),
-        Name::Widest | Name::Weights | Name::Level => of_numbers(call),
+        Name::WidestEntry | Name::Weights | Name::Level => of_numbers(call),
         Name::Levels => levels(call),
         Name::FirmnessAll => firmness_all(call),
         Name::ReadAlist => read_alist(call),
@@ -164,9 +164,9 @@ fn of_numbers(call: &mut Call) -> u64 {
     let n = call.numbers.clone();
     let r = &mut call.runs[..];
     match call.name {
-        Name::Widest => {
+        Name::WidestEntry => {
             let ((plate, a), (widest, b)) = (lent!(r[0], words), lent!(r[1], words));
-            unsafe { yendrufal_widest(plate, a, widest, b) }
+            unsafe { yendrufal_widest_entry(plate, a, widest, b) }
         }
         Name::Weights => {
             let ((plate, a), (counts, b)) = (lent!(r[0], words), lent!(r[1], words));

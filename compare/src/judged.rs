@@ -13,8 +13,8 @@ use crate::words::ones_before;
 use crate::worked::Answer;
 use std::collections::HashSet;
 
-const WORKED: &str = include_str!("../judged.listings");
-const WORKED_SAID: &str = include_str!("../judged.verdicts");
+const WORKED: &str = include_str!("../../crates/worked_examples/stdin");
+const WORKED_SAID: &str = include_str!("../../crates/worked_examples/stdout");
 
 /// Lines that are just of their form, or just not.
 const AWKWARD: [&str; 33] = [

@@ -132,7 +132,7 @@ impl Model {
             Name::ReadAlist => alist::answer_read(runs),
             Name::WriteAlist => alist::answer_write(numbers, runs),
             Name::Judge => judge::answer(self, runs),
-            Name::Widest => {
+            Name::WidestEntry => {
                 let widest = self.plate(runs[0].words()).map(|plate| plate.widest() as u64);
                 reply_into(widest, runs[1].words())
             }
