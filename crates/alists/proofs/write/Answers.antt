@@ -25,10 +25,10 @@ returns-then-rows-eq0 c =
 pub returns-then-room-size : goal.returns-then-room-size
 returns-then-room-size c =
     as_line c.args.n c.args.rows.now c.args.room.now c.if-n-eq0.false (omega arith) (omega arith)
-    c.first_beyond-beyond.ensures (omega arith) c.if-rows-eq0.false (put-short c.put_text-size.ensures c.if-room-size.true)
+    c.first_beyond-beyond.ensures (omega arith) (omega arith) (put-short c.put_text-size.ensures c.if-room-size.true)
 
 pub returns : goal.returns
 returns c =
     as_line c.args.n c.args.rows.now c.args.room.now c.if-n-eq0.false (omega arith) (omega arith)
-    c.first_beyond-beyond.ensures (omega arith) c.if-rows-eq0.false
+    c.first_beyond-beyond.ensures (omega arith) (omega arith)
     (put-fits c.put_text-size.ensures c.if-room-size.false c.put_text.ensures)

@@ -41,7 +41,7 @@ pub returns-then-room-need : goal.returns-then-room-need
 returns-then-room-need c =
     let plate = c.args.plate in
     let given = c.is_prepared.ensures.yes_is c.if-not-is_prepared.false in
-    refused-reply plate c.args.text.now c.args.room.now MetricRoom (refused-8 plate c.args.text.now c.args.room.now given (omega (arith, c.count_lines-count.ensures)) c.first_faulty-faulty.result c.first_faulty-faulty.ensures (omega (arith, c.if-faulty-count.false, c.count_lines-count.ensures)) c.first_repeating-repeated.result c.first_repeating-repeated.ensures (omega (arith, c.if-repeated-count.false, c.count_lines-count.ensures)) (omega (arith, c.if-room-need.true, c.count_lines-count.ensures))) c.without_surplus-then-room-need.result c.without_surplus-then-room-need.ensures
+    refused-reply plate c.args.text.now c.args.room.now MetricRoom (refused-8 plate c.args.text.now c.args.room.now given (omega (arith, c.count_lines-count.ensures)) c.first_faulty-faulty.result c.first_faulty-faulty.ensures (omega (arith, c.if-faulty-count.false, c.count_lines-count.ensures)) c.first_repeating-repeated.result c.first_repeating-repeated.ensures (omega (arith, c.count_lines-count.ensures)) (omega (arith, c.if-room-need.true, c.count_lines-count.ensures))) c.without_surplus-then-room-need.result c.without_surplus-then-room-need.ensures
 
 pub slice_bounds-rows-end : goal.slice_bounds-rows-end
 slice_bounds-rows-end c =

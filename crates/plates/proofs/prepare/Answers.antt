@@ -33,11 +33,11 @@ returns-then-reach-eq1 c =
 pub returns-then-wide-n : goal.returns-then-wide-n
 returns-then-wide-n c =
     refuse-wide (omega arith) (omega arith) (omega arith)
-    (none-beyond c.first_beyond-beyond.ensures c.if-beyond-rows.false) (mask-short c.reaches-reach.ensures c.if-reach-eq1.false)
+    (none-beyond c.first_beyond-beyond.ensures c.if-beyond-rows.false) (mask-short c.reaches-reach.ensures (omega arith))
     c.plate_of_matrix.ensures c.first_wide-wide.ensures c.if-wide-n.true c.refused-then-wide-n.ensures
 
 pub returns : goal.returns
 returns c =
     accept (omega arith) (omega arith) (omega arith)
-    (none-beyond c.first_beyond-beyond.ensures c.if-beyond-rows.false) (mask-short c.reaches-reach.ensures c.if-reach-eq1.false)
+    (none-beyond c.first_beyond-beyond.ensures c.if-beyond-rows.false) (mask-short c.reaches-reach.ensures (omega arith))
     c.plate_of_matrix.ensures c.first_wide-wide.ensures c.if-wide-n.false

@@ -10,7 +10,7 @@ use Rattle.weights.proofs.count_weights_parts.Goals.{Else-short}
 ready : (c : Else-short) → let a = c.args in
     Ready (of_parts a.n a.k a.mask a.rows.now a.profile.now) c.half_of-half.result a.counts.now a.working.now
 ready c = made-ready c.parts_prepared.ensures c.if-not-parts_prepared.false c.half_of-half.ensures _ _ c.are_short-short.ensures
-    c.if-k-eq64.false c.if-short.false
+    (omega arith) c.if-short.false
 
 pub returns-then-not-parts_prepared : goal.returns-then-not-parts_prepared
 returns-then-not-parts_prepared c = unprepared c.parts_prepared.ensures _ _ c.if-not-parts_prepared.true
@@ -28,7 +28,7 @@ returns-then-k-eq64 c = whole-space c.parts_prepared.ensures c.if-not-parts_prep
 pub returns-then-short : goal.returns-then-short
 returns-then-short c =
     rooms-refused c.parts_prepared.ensures c.if-not-parts_prepared.false c.half_of-half.ensures _ _ c.are_short-short.ensures
-    c.if-k-eq64.false c.if-short.true
+    (omega arith) c.if-short.true
 
 pub slice_bounds-tally-end : goal.slice_bounds-tally-end
 slice_bounds-tally-end c = rows-count c.parts_prepared.ensures c.if-not-parts_prepared.false

@@ -63,16 +63,16 @@ returns-then-metrics-metric_need c =
     let given = c.parts_prepared.ensures.yes_is c.if-not-parts_prepared.false in
     let e = sizes-are plate given c.sizes_of-sizes.result c.sizes_of-sizes.ensures in
     let h : length c.args.metrics.now < metric_need plate = omega (arith, c.if-metrics-metric_need.true, ap (λ (z : Sizes). z.half) e) in
-    refused-8 plate c.args.samples.now c.args.position c.args.metrics.now c.args.decisions.now given c.if-samples-n.false c.first_over-over.result c.first_over-over.ensures c.if-over-n.false c.if-n-position.false h
+    refused-8 plate c.args.samples.now c.args.position c.args.metrics.now c.args.decisions.now given c.if-samples-n.false c.first_over-over.result c.first_over-over.ensures c.if-over-n.false (omega arith) h
 
 pub returns-then-decisions-decision_need : goal.returns-then-decisions-decision_need
 returns-then-decisions-decision_need c =
     let plate = of_parts c.args.n c.args.k c.args.mask c.args.rows.now c.args.profile.now in
     let given = c.parts_prepared.ensures.yes_is c.if-not-parts_prepared.false in
     let e = sizes-are plate given c.sizes_of-sizes.result c.sizes_of-sizes.ensures in
-    let m : metric_need plate ≤ length c.args.metrics.now = omega (arith, c.if-metrics-metric_need.false, ap (λ (z : Sizes). z.half) e) in
+    let m : metric_need plate ≤ length c.args.metrics.now = omega (arith, ap (λ (z : Sizes). z.half) e) in
     let h : length c.args.decisions.now < decision_need plate = subst (λ (x : ℕ). length c.args.decisions.now < c.args.n * x) (ap (λ (z : Sizes). z.words) e) c.if-decisions-decision_need.true in
-    refused-9 plate c.args.samples.now c.args.position c.args.metrics.now c.args.decisions.now given c.if-samples-n.false c.first_over-over.result c.first_over-over.ensures c.if-over-n.false c.if-n-position.false m h
+    refused-9 plate c.args.samples.now c.args.position c.args.metrics.now c.args.decisions.now given c.if-samples-n.false c.first_over-over.result c.first_over-over.ensures c.if-over-n.false (omega arith) m h
 
 pub reading_at-reading-requires : goal.reading_at-reading-requires
 reading_at-reading-requires c =
