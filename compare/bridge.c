@@ -27,6 +27,15 @@ static int all(long (*step)(int, void *, size_t), int file, char *bytes, size_t 
 
 static long write_some(int file, void *bytes, size_t count) { return write(file, bytes, count); }
 
+/* The value whose bits these are. */
+static float value_of(uint64_t bits) {
+    union {
+        uint32_t bits;
+        float value;
+    } both = {(uint32_t)bits};
+    return both.value;
+}
+
 #define RUN(i) r[i].cells, r[i].count
 
 static uint64_t ask(uint64_t call, const uint64_t *n, const struct run *r) {
@@ -51,6 +60,14 @@ static uint64_t ask(uint64_t call, const uint64_t *n, const struct run *r) {
     case 17: return yendrufal_write_weight(n[0], n[1], RUN(0), RUN(1));
     case 18: return yendrufal_write_least(n[0], RUN(0), RUN(1));
     case 19: return yendrufal_write_no_least(RUN(0), RUN(1));
+    case 20: return yendrufal_widest_entry(RUN(0), RUN(1));
+    case 21: return yendrufal_level(value_of(n[0]), n[1], value_of(n[2]), n[3], RUN(0));
+    case 22: return yendrufal_levels(n[0], value_of(n[1]), n[2], RUN(0), n[3], RUN(1), RUN(2));
+    case 23: return yendrufal_weights(RUN(0), RUN(1), RUN(2), RUN(3));
+    case 24: return yendrufal_firmness_all(RUN(0), RUN(1), RUN(2), RUN(3), RUN(4), RUN(5), RUN(6));
+    case 25: return yendrufal_read_alist(RUN(0), RUN(1), RUN(2), RUN(3));
+    case 26: return yendrufal_write_alist(n[0], RUN(0), RUN(1), RUN(2), RUN(3));
+    case 27: return yendrufal_judge(RUN(0), RUN(1), RUN(2), RUN(3), RUN(4), RUN(5), RUN(6));
     default: return yendrufal_listing(RUN(0), RUN(1), RUN(2), RUN(3), RUN(4));
     }
 }

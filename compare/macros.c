@@ -2,7 +2,7 @@
 #include "yendrufal.h"
 #include <stdio.h>
 
-enum { WIDEST = 12, LONGEST = 64, LINES = 8192 };
+enum { WIDEST = 12, LONGEST = 64, LINES = 8192, BRANCH_LINES = 1024 };
 
 #define TELL(name) printf("%s %zu\n", #name, (size_t)(name));
 
@@ -15,5 +15,13 @@ int main(void) {
     }
     for (int lines = 0; lines < LINES; lines++)
         printf("YENDRUFAL_LISTING %d %zu\n", lines, YENDRUFAL_LISTING(lines));
+#ifdef YENDRUFAL_WEIGHT_WORKING
+    for (int m = 0; m <= WIDEST; m++)
+        printf("YENDRUFAL_WEIGHT_WORKING %d %zu\n", m, YENDRUFAL_WEIGHT_WORKING(m));
+#endif
+#ifdef YENDRUFAL_JUDGING
+    for (int lines = 0; lines <= BRANCH_LINES; lines++)
+        printf("YENDRUFAL_JUDGING %d %zu\n", lines, YENDRUFAL_JUDGING(lines));
+#endif
     return 0;
 }

@@ -5,9 +5,8 @@
  * - A run of numbers crosses as a pointer and the number of its cells. A run that a call may write
  *   overlaps no other run. An empty run may be (NULL, 0): nothing is read or written through its
  *   pointer. No other pointer is NULL.
- * - The reply is YENDRUFAL_DONE, the number of a refusal, or one of the two codes above 99. Numbers that
- *   a call may reply are 1 to 15, 17 to 21 and 23, each under the calls that name it; the others belong to
- *   calls that this header does not have.
+ * - The reply is YENDRUFAL_DONE, the number of a refusal, 1 to 28, each under the calls that name it, or one
+ *   of the two codes above 99.
  * - YENDRUFAL_SHAPE comes before everything else: a run is shorter than its use fixes, or `kind` is
  *   neither G nor H. A run may be longer than its use; the cells beyond are not touched.
  * - Unless the reply is YENDRUFAL_DONE nothing lent changes, but for `place` beside a refusal.
@@ -20,7 +19,8 @@
  *   own. So calls may run at once, in several threads or in an interrupt, where none writes a run that
  *   another is lent; runs that are only read may be shared.
  * - Every call ends, and no function calls itself, so the stack of a call is bounded whatever the input: on
- *   x86-64 under 12 KiB for yendrufal_listing, under 4 KiB for yendrufal_plate_of_sheet and at most 2,048
+ *   x86-64 under 12 KiB for yendrufal_listing, under 5 KiB for yendrufal_read_alist, under 4 KiB for
+ *   yendrufal_plate_of_sheet and yendrufal_judge, under 3 KiB for yendrufal_write_alist and at most 2,048
  *   bytes for every other call, beside what memcpy and memset of the C library take (docs/PERFORMANCE.md
  *   has each call's bytes).
  *
@@ -36,7 +36,7 @@
 
 /* 10000 * major + 100 * minor + patch. The major number changes where a program that links the library has to be compiled
    again. */
-#define YENDRUFAL_VERSION 10000
+#define YENDRUFAL_VERSION 10100
 
 #ifdef __cplusplus
 extern "C" {
@@ -49,9 +49,9 @@ extern "C" {
 #define YENDRUFAL_ROW_BEYOND 3      /* a row has a one at n or beyond; place: the first such row */
 #define YENDRUFAL_TOO_WIDE 4        /* some profile entry exceeds 12; place: the first such depth */
 #define YENDRUFAL_NO_PLATE 5        /* the plate is not one that preparing gives */
-#define YENDRUFAL_SAMPLE_COUNT 6    /* the number of samples is not n, or not that of whole blocks */
+#define YENDRUFAL_SAMPLE_COUNT 6    /* the number of samples is not n, or not that of whole blocks; of levels: values or room */
 #define YENDRUFAL_SAMPLE_RANGE 7    /* a sample outside -2047 to 2047; place: the first such position */
-#define YENDRUFAL_METRIC_ROOM 8     /* metric room too short */
+#define YENDRUFAL_METRIC_ROOM 8     /* metric room too short; of weights: counts or working room */
 #define YENDRUFAL_DECISION_ROOM 9   /* decision room too short */
 #define YENDRUFAL_SHEET_LINE 10     /* sheet line missing or not ended (of a sheet) */
 #define YENDRUFAL_LINE_ROOM 11      /* listing line longer than its room */
@@ -59,19 +59,19 @@ extern "C" {
 #define YENDRUFAL_INFORMATION 13    /* information has a one at k or beyond */
 #define YENDRUFAL_NO_CODEWORD 14    /* word read back is no codeword */
 #define YENDRUFAL_SHEET_LENGTH 15   /* sheet over 32,768 bytes (of a sheet) */
-#define YENDRUFAL_ALIST_FAULT 16    /* fault in an alist text (by no call of this header) */
+#define YENDRUFAL_ALIST_FAULT 16    /* fault in an alist text; place: the first such line, from 1; writing: no rows */
 #define YENDRUFAL_FIRST_FIELD 17    /* first field unknown or out of its turn (of a sheet) */
 #define YENDRUFAL_FIELD_COUNT 18    /* wrong number of fields; the first missing or extra (of a sheet) */
 #define YENDRUFAL_FIELD_VALUE 19    /* bad number, letter or order (of a sheet) */
 #define YENDRUFAL_ROW_FIELD 20      /* row or mask of wrong length or character (of a sheet) */
 #define YENDRUFAL_POSITION 21       /* the position is n or beyond */
-#define YENDRUFAL_WHOLE_SPACE 22    /* k is 64 (by no call of this header) */
+#define YENDRUFAL_WHOLE_SPACE 22    /* k is 64 (of weights) */
 #define YENDRUFAL_MASK_BEYOND 23    /* the mask has a one at n or beyond */
-#define YENDRUFAL_SETTING 24        /* step or top of the levels out of range (by no call of this header) */
-#define YENDRUFAL_NOT_A_NUMBER 25   /* a heard value that is not a number (by no call of this header) */
-#define YENDRUFAL_BRANCH_FAULT 26   /* a bad branch line, or one out of depth order (by no call of this header) */
-#define YENDRUFAL_BRANCH_TWICE 27   /* a branch line that repeats (by no call of this header) */
-#define YENDRUFAL_TOO_MANY_LINES 28 /* more than 1,024 branch lines (by no call of this header) */
+#define YENDRUFAL_SETTING 24        /* step or top of the levels out of range */
+#define YENDRUFAL_NOT_A_NUMBER 25   /* a heard value that is not a number; place: the first such position */
+#define YENDRUFAL_BRANCH_FAULT 26   /* a bad branch line, or one out of depth order; place: the line, from 1 */
+#define YENDRUFAL_BRANCH_TWICE 27   /* a branch line that repeats; place: the line, from 1 */
+#define YENDRUFAL_TOO_MANY_LINES 28 /* more than 1,024 branch lines */
 #define YENDRUFAL_NO_BRANCH 100     /* an ordinary reply: no branch with this bit leaves the state */
 #define YENDRUFAL_SHAPE 101         /* a run is too short for its fixed use, or `kind` is over 1 */
 
@@ -104,7 +104,22 @@ extern "C" {
 #define YENDRUFAL_METRICS_MOST 8192   /* enough for every plate */
 #define YENDRUFAL_DECISIONS_MOST 4096 /* enough for every plate */
 
+/* Cells of weights: the counts, and the working room. */
+#define YENDRUFAL_WEIGHT_COUNTS 65
+#define YENDRUFAL_WEIGHT_WORKING(m) ((size_t)130 << (m))
+#define YENDRUFAL_WEIGHT_WORKING_MOST 532480 /* enough for every plate */
+
+/* The verdicts of yendrufal_judge. */
+#define YENDRUFAL_RIGHT 0
+#define YENDRUFAL_SPELLED_WRONGLY 1
+#define YENDRUFAL_NOT_SPELLED 2
+
+/* The room that judging so many branch lines needs, in cells. Whoever does not count them may take the number of line feeds. */
+#define YENDRUFAL_JUDGING(lines) ((size_t)4 * (size_t)(lines))
+#define YENDRUFAL_JUDGING_MOST 4096 /* enough for 1,024 lines; more are refusal 28 */
+
 /* Rooms for text, in bytes. */
+#define YENDRUFAL_ALIST_MOST 24576 /* enough for the alist text of every matrix */
 #define YENDRUFAL_LINE_MOST 256    /* enough for every listing line */
 #define YENDRUFAL_SHEET_MOST 32768 /* a longer sheet is refusal 15 */
 /* A whole listing, for a sheet with so many block or heard lines: plate, profile, tally and end besides. Whoever does
@@ -125,6 +140,19 @@ uint64_t yendrufal_prepare(uint64_t n, uint64_t kind, const uint64_t *rows, size
 uint64_t yendrufal_plate_of_sheet(const uint8_t *sheet, size_t sheet_length, uint64_t *plate, size_t plate_length,
                                   uint64_t *order, size_t order_length, uint64_t *place, size_t place_length);
 
+/* The alist text of a parity check matrix of n columns and `row_count` rows, at the start of `room`; `written` receives its
+   bytes. One space between two numbers, a line feed after each line, indices ascending. Refusals 1, 2, 3, 16 (no rows), 11,
+   in this order. Fixed: written 1, place 1. */
+uint64_t yendrufal_write_alist(uint64_t n, const uint64_t *rows, size_t row_count, uint8_t *room, size_t room_length,
+                               uint64_t *written, size_t written_length, uint64_t *place, size_t place_length);
+
+/* The parity check matrix of an alist text: `sizes` receives n and the number of rows, `rows` the rows in its first cells
+   and 0 in the others of the first 64: n and so many rows are what yendrufal_prepare takes as YENDRUFAL_KIND_H. Several spaces
+   may stand for one, and the indices of a list in any order. Refusal 16, where `place` receives the first line that is faulty,
+   missing or extra, from 1. Fixed: sizes 2, rows 64, place 1. */
+uint64_t yendrufal_read_alist(const uint8_t *text, size_t text_length, uint64_t *sizes, size_t sizes_length,
+                              uint64_t *rows, size_t rows_length, uint64_t *place, size_t place_length);
+
 /* The state that the branch with this bit leads to from a state of a depth, or YENDRUFAL_NO_BRANCH.
    Refusals 5, 12. Fixed: plate 132, next 1. */
 uint64_t yendrufal_branch(const uint64_t *plate, size_t plate_length, uint64_t depth,
@@ -137,6 +165,28 @@ uint64_t yendrufal_encode(const uint64_t *plate, size_t plate_length, uint64_t i
 /* The information of a codeword. Refusals 5, 14. Fixed: plate 132, information 1. */
 uint64_t yendrufal_read_back(const uint64_t *plate, size_t plate_length, uint64_t word,
                              uint64_t *information, size_t information_length);
+
+/* m of a plate, its largest profile entry, by which rooms are sized. Refusal 5. Fixed: plate 132, widest 1. */
+uint64_t yendrufal_widest_entry(const uint64_t *plate, size_t plate_length, uint64_t *widest, size_t widest_length);
+
+/* How many words of the plate's code have each number of ones, its mask left aside: count w of `counts`, 0 beyond n; and
+   `least`, the smallest weight above 0, or 0 where there is none, k being 0. `counts` has 65 cells or more and `working`
+   YENDRUFAL_WEIGHT_WORKING(m), or the refusal is 8. Afterwards the needed part of `working`, its first cells, is zero.
+   Refusals 5, 22, 8, in this order. Fixed: plate 132, least 1. */
+uint64_t yendrufal_weights(const uint64_t *plate, size_t plate_length, uint64_t *counts, size_t count_length,
+                           uint64_t *working, size_t working_length, uint64_t *least, size_t least_length);
+
+/* The level of one value: the largest of 0 to `top` whose product with `step`, rounded once to float, is at most the
+   value; of a negative value, minus the level of its negation; and 0 where `erased` is not 0, whatever the value. Levels
+   are samples as decoding takes them. `step` has to be finite and above 0, `top` 1 to 127 and their product finite, or
+   the refusal is 24; 25 where the value is heard and not a number. Refusals 24, 25, in this order. Fixed: level 1. */
+uint64_t yendrufal_level(float step, uint64_t top, float value, uint64_t erased, int16_t *level, size_t level_length);
+
+/* The levels of a block of n values, those marked in `erased` (bit i for position i) erased: level i is that of value i.
+   There are n values and n cells of `levels`, or the refusal is 6; the place of 25 is the first heard value that is not
+   a number. Refusals 1, 24, 6, 25, in this order. Fixed: place 1. */
+uint64_t yendrufal_levels(uint64_t n, float step, uint64_t top, const float *values, size_t value_count, uint64_t erased,
+                          int16_t *levels, size_t level_count, uint64_t *place, size_t place_length);
 
 /* The codeword of greatest metric, of equals the earliest; its metric; and the counts of additions
    and of comparisons. Afterwards the needed part of both rooms, their first cells, is zero.
@@ -188,6 +238,14 @@ uint64_t yendrufal_firmness(const uint64_t *plate, size_t plate_length, const in
                             uint64_t *fixed, size_t fixed_length, int32_t *value,
                             size_t value_length, uint64_t *place, size_t place_length);
 
+/* How firmly each position was received: for each position i below n cell i of `fixed` and of `values` receives what
+   yendrufal_firmness gives at i; the cells from n on are not touched. Both rooms are left as by decoding.
+   Refusals 5 to 9. Fixed: plate 132, fixed 64, values 64, place 1. */
+uint64_t yendrufal_firmness_all(const uint64_t *plate, size_t plate_length, const int16_t *samples, size_t sample_count,
+                                int32_t *metrics, size_t metric_count, uint64_t *decisions, size_t decision_count,
+                                uint64_t *fixed, size_t fixed_length, int32_t *values, size_t value_length,
+                                uint64_t *place, size_t place_length);
+
 /* Why a word was not the one that decoding picks. `reason` receives the number of the reason and its
    position, `difference` the difference; what a reason does not have is 0.
      YENDRUFAL_CHOSEN       it was chosen
@@ -201,6 +259,21 @@ uint64_t yendrufal_why_not(const uint64_t *plate, size_t plate_length, const int
                            size_t metric_count, uint64_t *decisions, size_t decision_count,
                            uint64_t *reason, size_t reason_length, int32_t *difference,
                            size_t difference_length, uint64_t *place, size_t place_length);
+
+/* Another firm's trellis judged against a plate. Each line of `text` has a branch, with tabs between its fields: the word branch,
+   depth, state, bit and the state that it leads to. A full path leads from state 0 of depth 0 to state 0 of depth n, and spells
+   a word. `verdict` receives the number of the verdict, and a word, 0 where it has none.
+     YENDRUFAL_RIGHT            the full paths spell exactly the plate's words
+     YENDRUFAL_SPELLED_WRONGLY  the earliest word that tells is one that a full path spells, and none of the plate's
+     YENDRUFAL_NOT_SPELLED      the earliest word that tells is one of the plate's, and no full path spells it
+   Where it is YENDRUFAL_RIGHT, `states` and `branches` receive by how many states of each depth and branches of each section
+   the full paths have more than our trellis, and 0 beyond the plate's length; else all 65 and all 64 are 0. `room` needs four
+   cells a line (YENDRUFAL_JUDGING), which are 0 afterwards. Refusals 5, 28, 26, 27, 8, in this order.
+   Fixed: plate 132, verdict 2, states 65, branches 64, place 1. */
+uint64_t yendrufal_judge(const uint64_t *plate, size_t plate_length, const uint8_t *text, size_t text_length,
+                         uint64_t *room, size_t room_length, uint64_t *verdict, size_t verdict_length, uint64_t *states,
+                         size_t states_length, uint64_t *branches, size_t branches_length, uint64_t *place,
+                         size_t place_length);
 
 /* Listing lines. Each begins at the start of `line`; `written` receives its bytes,
    the line feed included. Refusals 5 (where a plate is taken), 11. Fixed: plate 132, written 1.
@@ -295,12 +368,32 @@ typedef struct yendrufal_reading {
     int32_t value;
 } yendrufal_reading;
 
+/* The same of each position: those from n on are not touched. */
+typedef struct yendrufal_readings {
+    uint64_t fixed[64];
+    int32_t values[64];
+} yendrufal_readings;
+
+/* How many words of a code have each weight, and the smallest weight above 0, or 0 where there is none. */
+typedef struct yendrufal_weighed {
+    uint64_t counts[YENDRUFAL_WEIGHT_COUNTS];
+    uint64_t least;
+} yendrufal_weighed;
+
 /* One of the four reasons, YENDRUFAL_CHOSEN and on, with its position or its difference. */
 typedef struct yendrufal_reason {
     uint64_t number;
     uint64_t position;
     int32_t difference;
 } yendrufal_reason;
+
+/* One of the three verdicts, YENDRUFAL_RIGHT and on, with the word that it shows; and the surplus of a right listing. */
+typedef struct yendrufal_judgement {
+    uint64_t verdict;
+    uint64_t word;
+    uint64_t states[65];
+    uint64_t branches[64];
+} yendrufal_judgement;
 
 static inline yendrufal_reply yendrufal_reply_of(uint64_t number, uint64_t place) {
     yendrufal_reply reply;
@@ -309,7 +402,8 @@ static inline yendrufal_reply yendrufal_reply_of(uint64_t number, uint64_t place
     return reply;
 }
 
-/* m, the largest profile entry. An entry over 12, which no prepared plate has, counts as 12. */
+/* m, the largest profile entry. An entry over 12, which no prepared plate has, counts as 12: yendrufal_plate_widest_entry tests
+   the plate. */
 static inline size_t yendrufal_plate_widest(const yendrufal_plate *plate) {
     size_t widest = 0;
     for (size_t depth = 0; depth <= 64; depth++) {
@@ -358,6 +452,18 @@ static inline yendrufal_reply yendrufal_plate_encode(const yendrufal_plate *plat
 static inline yendrufal_reply yendrufal_plate_read_back(const yendrufal_plate *plate, uint64_t word,
                                                         uint64_t *information) {
     return yendrufal_reply_of(yendrufal_read_back(plate->words, YENDRUFAL_PLATE_WORDS, word, information, 1), 0);
+}
+
+static inline yendrufal_reply yendrufal_plate_widest_entry(const yendrufal_plate *plate, uint64_t *widest) {
+    return yendrufal_reply_of(yendrufal_widest_entry(plate->words, YENDRUFAL_PLATE_WORDS, widest, 1), 0);
+}
+
+/* `working` has YENDRUFAL_WEIGHT_WORKING(m) cells or more. */
+static inline yendrufal_reply yendrufal_plate_weights(const yendrufal_plate *plate, uint64_t *working,
+                                                      size_t working_length, yendrufal_weighed *weighed) {
+    return yendrufal_reply_of(yendrufal_weights(plate->words, YENDRUFAL_PLATE_WORDS, weighed->counts,
+                                                YENDRUFAL_WEIGHT_COUNTS, working, working_length, &weighed->least, 1),
+                              0);
 }
 
 static inline yendrufal_reply yendrufal_plate_decode(const yendrufal_plate *plate, const int16_t *samples,
@@ -429,6 +535,17 @@ static inline yendrufal_reply yendrufal_plate_firmness(const yendrufal_plate *pl
     return yendrufal_reply_of(number, place);
 }
 
+static inline yendrufal_reply yendrufal_plate_firmness_all(const yendrufal_plate *plate, const int16_t *samples,
+                                                           size_t sample_count, const yendrufal_rooms *rooms,
+                                                           yendrufal_readings *readings) {
+    uint64_t place = 0;
+    const uint64_t number =
+        yendrufal_firmness_all(plate->words, YENDRUFAL_PLATE_WORDS, samples, sample_count, rooms->metrics,
+                               rooms->metric_count, rooms->decisions, rooms->decision_count, readings->fixed, 64,
+                               readings->values, 64, &place, 1);
+    return yendrufal_reply_of(number, place);
+}
+
 static inline yendrufal_reply yendrufal_plate_why_not(const yendrufal_plate *plate, const int16_t *samples,
                                                       size_t sample_count, uint64_t word, const yendrufal_rooms *rooms,
                                                       yendrufal_reason *reason) {
@@ -440,6 +557,18 @@ static inline yendrufal_reply yendrufal_plate_why_not(const yendrufal_plate *pla
     if (number == YENDRUFAL_DONE) {
         reason->number = told[0];
         reason->position = told[1];
+    }
+    return yendrufal_reply_of(number, place);
+}
+
+static inline yendrufal_reply yendrufal_plate_judge(const yendrufal_plate *plate, const uint8_t *text, size_t text_length,
+                                                    uint64_t *room, size_t room_length, yendrufal_judgement *judgement) {
+    uint64_t told[2] = {0, 0}, place = 0;
+    const uint64_t number = yendrufal_judge(plate->words, YENDRUFAL_PLATE_WORDS, text, text_length, room, room_length, told,
+                                            2, judgement->states, 65, judgement->branches, 64, &place, 1);
+    if (number == YENDRUFAL_DONE) {
+        judgement->verdict = told[0];
+        judgement->word = told[1];
     }
     return yendrufal_reply_of(number, place);
 }

@@ -16,8 +16,14 @@ use core::fmt;
 pub const METRICS_MOST: usize = 8192;
 /// Decision words that are enough for every plate.
 pub const DECISIONS_MOST: usize = 4096;
+/// Numbers of working room that are enough for the weights of every plate.
+pub const WEIGHT_WORKING_MOST: usize = 532_480;
 /// Bytes that are enough for every listing line.
 pub const LINE_MOST: usize = 256;
+/// Bytes that are enough for the alist text of every matrix.
+pub const ALIST_MOST: usize = 24576;
+/// Numbers that are enough to judge every listing of branches.
+pub const JUDGING_MOST: usize = 4096;
 
 /// The numbers of a plate's run, and where its parts stand.
 const PLATE_WORDS: usize = 132;
@@ -34,12 +40,22 @@ pub mod raw {
             plate_length: usize, place: *mut u64, place_length: usize) -> u64;
         pub fn yendrufal_plate_of_sheet(sheet: *const u8, sheet_length: usize, plate: *mut u64, plate_length: usize,
             order: *mut u64, order_length: usize, place: *mut u64, place_length: usize) -> u64;
+        pub fn yendrufal_write_alist(n: u64, rows: *const u64, row_count: usize, room: *mut u8, room_length: usize,
+            written: *mut u64, written_length: usize, place: *mut u64, place_length: usize) -> u64;
+        pub fn yendrufal_read_alist(text: *const u8, text_length: usize, sizes: *mut u64, sizes_length: usize,
+            rows: *mut u64, rows_length: usize, place: *mut u64, place_length: usize) -> u64;
         pub fn yendrufal_branch(plate: *const u64, plate_length: usize, depth: u64, state: u64, bit: u64, next: *mut u64,
             next_length: usize) -> u64;
         pub fn yendrufal_encode(plate: *const u64, plate_length: usize, information: u64, word: *mut u64,
             word_length: usize) -> u64;
         pub fn yendrufal_read_back(plate: *const u64, plate_length: usize, word: u64, information: *mut u64,
             information_length: usize) -> u64;
+        pub fn yendrufal_widest_entry(plate: *const u64, plate_length: usize, widest: *mut u64, widest_length: usize) -> u64;
+        pub fn yendrufal_weights(plate: *const u64, plate_length: usize, counts: *mut u64, count_length: usize,
+            working: *mut u64, working_length: usize, least: *mut u64, least_length: usize) -> u64;
+        pub fn yendrufal_level(step: f32, top: u64, value: f32, erased: u64, level: *mut i16, level_length: usize) -> u64;
+        pub fn yendrufal_levels(n: u64, step: f32, top: u64, values: *const f32, value_count: usize, erased: u64,
+            levels: *mut i16, level_count: usize, place: *mut u64, place_length: usize) -> u64;
         pub fn yendrufal_decode(plate: *const u64, plate_length: usize, samples: *const i16, sample_count: usize,
             metrics: *mut i32, metric_count: usize, decisions: *mut u64, decision_count: usize, word: *mut u64,
             word_length: usize, metric: *mut i32, metric_length: usize, counts: *mut u64, counts_length: usize,
@@ -58,9 +74,16 @@ pub mod raw {
             position: u64, metrics: *mut i32, metric_count: usize, decisions: *mut u64, decision_count: usize,
             fixed: *mut u64, fixed_length: usize, value: *mut i32, value_length: usize, place: *mut u64,
             place_length: usize) -> u64;
+        pub fn yendrufal_firmness_all(plate: *const u64, plate_length: usize, samples: *const i16, sample_count: usize,
+            metrics: *mut i32, metric_count: usize, decisions: *mut u64, decision_count: usize, fixed: *mut u64,
+            fixed_length: usize, values: *mut i32, value_length: usize, place: *mut u64, place_length: usize) -> u64;
         pub fn yendrufal_why_not(plate: *const u64, plate_length: usize, samples: *const i16, sample_count: usize,
             word: u64, metrics: *mut i32, metric_count: usize, decisions: *mut u64, decision_count: usize,
             reason: *mut u64, reason_length: usize, difference: *mut i32, difference_length: usize, place: *mut u64,
+            place_length: usize) -> u64;
+        pub fn yendrufal_judge(plate: *const u64, plate_length: usize, text: *const u8, text_length: usize,
+            room: *mut u64, room_length: usize, verdict: *mut u64, verdict_length: usize, states: *mut u64,
+            states_length: usize, branches: *mut u64, branches_length: usize, place: *mut u64,
             place_length: usize) -> u64;
         pub fn yendrufal_write_plate(plate: *const u64, plate_length: usize, line: *mut u8, line_length: usize,
             written: *mut u64, written_length: usize) -> u64;
@@ -92,7 +115,7 @@ pub mod raw {
 pub struct Refusal {
     /// Which refusal, from 1 on.
     pub number: u64,
-    /// A row, a depth or a position, by the number; else 0.
+    /// A row, a depth, a position or a line of a text, by the number; else 0.
     pub place: u64,
 }
 
@@ -220,6 +243,33 @@ pub enum Reading {
     Open(i32),
 }
 
+/// What a call says of a reading by its two numbers.
+fn read(fixed: u64, value: i32) -> Reading {
+    if fixed == 1 {
+        Reading::Fixed(value == 1)
+    } else {
+        Reading::Open(value)
+    }
+}
+
+/// How many words of a code have each weight.
+#[derive(Clone, Copy, Debug, PartialEq, Eq)]
+pub struct Weights {
+    /// The number of words with as many ones as the place says.
+    pub counts: [u64; 65],
+    /// The smallest weight above 0, where there is one.
+    pub least: Option<u64>,
+}
+
+/// How single-precision values become levels: a level is as many steps, up to the top level.
+#[derive(Clone, Copy, Debug, PartialEq)]
+pub struct Setting {
+    /// Finite and above 0.
+    pub step: f32,
+    /// 1 to 127.
+    pub top: u64,
+}
+
 /// Why a word was not the one that decoding picks.
 #[derive(Clone, Copy, Debug, PartialEq, Eq)]
 pub enum Reason {
@@ -231,6 +281,62 @@ pub enum Reason {
     ScoresLess(i32),
     /// It scores the same and loses; the first position of difference.
     Ties(u64),
+}
+
+/// What judging another firm's trellis found.
+#[derive(Clone, Copy, Debug, PartialEq, Eq)]
+pub enum Judgement {
+    /// Its full paths spell exactly the plate's words.
+    Right(Surplus),
+    /// The earliest word that tells: a full path spells it, and it is none of the plate's.
+    SpelledWrongly(u64),
+    /// The earliest word that tells: it is one of the plate's, and no full path spells it.
+    NotSpelled(u64),
+}
+
+/// By how much the full paths of a right listing have more than our trellis; 0 beyond the plate's length.
+#[derive(Clone, Copy, Debug, PartialEq, Eq)]
+pub struct Surplus {
+    /// States, by depth.
+    pub states: [u64; 65],
+    /// Branches, by section.
+    pub branches: [u64; 64],
+}
+
+/// A parity check matrix.
+#[derive(Clone, Copy, Debug, PartialEq, Eq)]
+pub struct Matrix {
+    /// The number of columns.
+    pub n: u64,
+    count: usize,
+    table: [u64; 64],
+}
+
+impl Matrix {
+    /// Its rows.
+    pub fn rows(&self) -> &[u64] {
+        &self.table[..self.count]
+    }
+
+    /// The matrix of an alist text. Refusal 16, whose place is a line, from 1.
+    #[rustfmt::skip]
+    pub fn read_alist(text: &[u8]) -> Result<Matrix> {
+        let (mut sizes, mut table, mut place) = ([0; 2], [0; 64], 0);
+        let number = unsafe {
+            raw::yendrufal_read_alist(text.as_ptr(), text.len(), sizes.as_mut_ptr(), 2, table.as_mut_ptr(), 64, &mut place, 1)
+        };
+        replied(number, place, Matrix { n: sizes[0], count: sizes[1] as usize, table })
+    }
+}
+
+/// The alist text of a parity check matrix of n columns at the start of a room; its bytes. Refusals 1, 2, 3, 16, 11.
+#[rustfmt::skip]
+pub fn write_alist(n: u64, rows: &[u64], room: &mut [u8]) -> Result<usize> {
+    let (mut count, mut place) = (0, 0);
+    let number = unsafe {
+        raw::yendrufal_write_alist(n, rows.as_ptr(), rows.len(), room.as_mut_ptr(), room.len(), &mut count, 1, &mut place, 1)
+    };
+    replied(number, place, count as usize)
 }
 
 /// A prepared plate, or any 132 numbers that are handed over as one: each call tests it, and refuses with 5.
@@ -302,6 +408,13 @@ impl Plate {
         self.profile().iter().fold(0, |widest, &entry| widest.max(entry.min(12) as u32))
     }
 
+    /// The same of a plate that is tested. Refusal 5.
+    pub fn widest_entry(&self) -> Result<u64> {
+        let (plate, mut widest) = (self.words.as_ptr(), 0);
+        let number = unsafe { raw::yendrufal_widest_entry(plate, PLATE_WORDS, &mut widest, 1) };
+        replied(number, 0, widest)
+    }
+
     /// The metrics that decoding needs.
     pub fn metrics_needed(&self) -> usize {
         2 << self.widest()
@@ -310,6 +423,23 @@ impl Plate {
     /// The decision words that decoding needs.
     pub fn decisions_needed(&self) -> usize {
         (self.n().min(64) as usize) << self.widest().saturating_sub(6)
+    }
+
+    /// The working room that [`Plate::weights`] needs.
+    pub fn weight_working_needed(&self) -> usize {
+        130 << self.widest()
+    }
+
+    /// How many words of the plate's code have each weight, its mask left aside. What was needed of the working room is zero afterwards.
+    /// Refusals 5, 22, 8.
+    #[rustfmt::skip]
+    pub fn weights(&self, working: &mut [u64]) -> Result<Weights> {
+        let (mut counts, mut least) = ([0; 65], 0);
+        let number = unsafe {
+            raw::yendrufal_weights(self.words.as_ptr(), PLATE_WORDS, counts.as_mut_ptr(), counts.len(), working.as_mut_ptr(),
+                working.len(), &mut least, 1)
+        };
+        replied(number, 0, Weights { counts, least: if least == 0 { None } else { Some(least) } })
     }
 
     /// The state that the branch with this bit leads to, or none. Refusals 5, 12.
@@ -395,7 +525,23 @@ impl Plate {
                 rooms.metrics.as_mut_ptr(), rooms.metrics.len(), rooms.decisions.as_mut_ptr(), rooms.decisions.len(),
                 &mut fixed, 1, &mut value, 1, &mut place, 1)
         };
-        replied(number, place, if fixed == 1 { Reading::Fixed(value == 1) } else { Reading::Open(value) })
+        replied(number, place, read(fixed, value))
+    }
+
+    /// How firmly each position was received; none from n on. Refusals 5 to 9.
+    #[rustfmt::skip]
+    pub fn firmness_all(&self, samples: &[i16], rooms: &mut Rooms) -> Result<[Option<Reading>; 64]> {
+        let (mut fixed, mut values, mut place) = ([0; 64], [0; 64], 0);
+        let number = unsafe {
+            raw::yendrufal_firmness_all(self.words.as_ptr(), PLATE_WORDS, samples.as_ptr(), samples.len(),
+                rooms.metrics.as_mut_ptr(), rooms.metrics.len(), rooms.decisions.as_mut_ptr(), rooms.decisions.len(),
+                fixed.as_mut_ptr(), 64, values.as_mut_ptr(), 64, &mut place, 1)
+        };
+        let mut readings = [None; 64];
+        for position in 0..self.n().min(64) as usize {
+            readings[position] = Some(read(fixed[position], values[position]));
+        }
+        replied(number, place, readings)
     }
 
     /// Why a word was not the one that decoding picks. Refusals 5 to 9.
@@ -414,6 +560,22 @@ impl Plate {
             _ => Reason::Ties(told[1]),
         };
         replied(number, place, reason)
+    }
+
+    /// Another firm's branch lines held against the plate, in a room of four numbers a line. Refusals 5, 28, 26, 27, 8.
+    #[rustfmt::skip]
+    pub fn judge(&self, text: &[u8], room: &mut [u64]) -> Result<Judgement> {
+        let (mut told, mut surplus, mut place) = ([0; 2], Surplus { states: [0; 65], branches: [0; 64] }, 0);
+        let number = unsafe {
+            raw::yendrufal_judge(self.words.as_ptr(), PLATE_WORDS, text.as_ptr(), text.len(), room.as_mut_ptr(), room.len(),
+                told.as_mut_ptr(), 2, surplus.states.as_mut_ptr(), 65, surplus.branches.as_mut_ptr(), 64, &mut place, 1)
+        };
+        let judgement = match told[0] {
+            0 => Judgement::Right(surplus),
+            1 => Judgement::SpelledWrongly(told[1]),
+            _ => Judgement::NotSpelled(told[1]),
+        };
+        replied(number, place, judgement)
     }
 
     /// The line `plate` at the start of a room; its bytes, the line feed included. Refusals 5, 11, as of the next two.
@@ -437,6 +599,24 @@ impl Plate {
             raw::yendrufal_write_word(plate, PLATE_WORDS, word, metric, additions, comparisons, room, size, count, 1)
         })
     }
+}
+
+/// The level of one value, or of an erased one where there is none. Refusals 24, 25.
+pub fn level(setting: Setting, value: Option<f32>) -> Result<i16> {
+    let (Setting { step, top }, mut level) = (setting, 0);
+    let erased = value.is_none() as u64;
+    let number = unsafe { raw::yendrufal_level(step, top, value.unwrap_or(0.0), erased, &mut level, 1) };
+    replied(number, 0, level)
+}
+
+/// The levels of a block of n values, those marked in `erased` (bit i for position i) erased, into a room of as many. Refusals 1, 24, 6, 25.
+#[rustfmt::skip]
+pub fn levels(n: u64, setting: Setting, values: &[f32], erased: u64, room: &mut [i16]) -> Result<()> {
+    let (Setting { step, top }, mut place) = (setting, 0);
+    let number = unsafe {
+        raw::yendrufal_levels(n, step, top, values.as_ptr(), values.len(), erased, room.as_mut_ptr(), room.len(), &mut place, 1)
+    };
+    replied(number, place, ())
 }
 
 fn counted(counts: [u64; 2]) -> Counts {

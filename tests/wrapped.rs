@@ -29,6 +29,8 @@ fn refused<T>(number: u64, place: u64) -> Result<T> {
 fn a_plate_has_its_parts() {
     let plate = paper();
     assert_eq!((plate.n(), plate.k(), plate.mask(), plate.widest()), (8, 4, 0, 3));
+    assert_eq!(plate.widest_entry(), Ok(3));
+    assert_eq!(Plate::from_words([0; 132]).widest_entry(), refused(5, 0));
     assert_eq!(plate.profile(), [0, 1, 2, 3, 2, 3, 2, 1, 0]);
     assert_eq!(plate.rows(), [0x0f, 0x5a, 0x3c, 0xf0]);
     assert_eq!((plate.metrics_needed(), plate.decisions_needed()), (16, 8));
@@ -141,6 +143,16 @@ fn questions_are_answered() {
         assert!(if bit == 0 { margin >= 0 } else { margin <= 0 }, "the margin has the sign of the bit");
     }
     assert_eq!(firm(8), refused(21, 0));
+    let all = with(17, 9, |rooms| plate.firmness_all(&SAMPLES, rooms));
+    let readings = all.0.unwrap();
+    assert!(
+        (0..8).all(|position| readings[position] == firm(position as u64).ok()),
+        "each is what firmness gives"
+    );
+    assert!(readings[8..].iter().all(Option::is_none));
+    assert_eq!((&all.1[..16], all.1[16], &all.2[..8], all.2[8]), (&[0; 16][..], 9, &[0; 8][..], 9));
+    assert_eq!(with(15, 8, |rooms| plate.firmness_all(&SAMPLES, rooms)).0, refused(8, 0));
+    assert_eq!(with(16, 8, |rooms| plate.firmness_all(&[0, 0, 2048, 0, 0, 0, 0, 0], rooms)).0, refused(7, 2));
     let fixed = Plate::prepare(2, Kind::G, &[1], 2).unwrap();
     assert_eq!(with(4, 2, |rooms| fixed.firmness(&[5, 5], 1, rooms)).0, Ok(Reading::Fixed(true)));
     let why = |word| with(16, 8, |rooms| plate.why_not(&SAMPLES, word, rooms)).0;
@@ -149,6 +161,107 @@ fn questions_are_answered() {
     assert_eq!(why(0x00), Ok(Reason::ScoresLess(4)));
     let three = Plate::prepare(3, Kind::G, &[7], 0).unwrap();
     assert_eq!(with(4, 3, |rooms| three.why_not(&[2, -1, -1], 7, rooms)).0, Ok(Reason::Ties(0)));
+}
+
+#[test]
+fn matrices_are_written_and_read() {
+    let mut room = [b'x'; ALIST_MOST];
+    let size = write_alist(8, &ROWS, &mut room).unwrap();
+    assert!(room[..size].starts_with(b"8 4\n3 4\n"));
+    let matrix = Matrix::read_alist(&room[..size]).unwrap();
+    assert_eq!((matrix.n, matrix.rows()), (8, &ROWS[..]));
+    assert_eq!(write_alist(8, &ROWS, &mut room[..size - 1]), refused(11, 0));
+    assert_eq!(write_alist(8, &[1, 256], &mut room), refused(3, 1));
+    assert_eq!(write_alist(8, &[], &mut room), refused(16, 0));
+    assert_eq!(Matrix::read_alist(&room[..size - 1]), refused(16, 16), "the last line is not ended");
+    assert_eq!(Matrix::read_alist(b""), refused(16, 1));
+}
+
+#[test]
+fn a_listing_is_judged() {
+    let plate = Plate::prepare(3, Kind::H, &[7], 0).unwrap();
+    let branch = |numbers: [u64; 4]| {
+        numbers.iter().fold(String::from("branch"), |line, number| format!("{line}\t{number}")) + "\n"
+    };
+    let lines = |list: &[[u64; 4]]| list.iter().map(|&numbers| branch(numbers)).collect::<String>();
+    let ours = [
+        [0, 0, 0, 0],
+        [0, 0, 1, 1],
+        [1, 0, 0, 0],
+        [1, 0, 1, 1],
+        [1, 1, 1, 0],
+        [1, 1, 0, 1],
+        [2, 0, 0, 0],
+        [2, 1, 1, 0],
+    ];
+    let judge = |list: &[[u64; 4]], room| plate.judge(lines(list).as_bytes(), &mut vec![9; room]);
+    assert_eq!(judge(&ours, 32), Ok(Judgement::Right(Surplus { states: [0; 65], branches: [0; 64] })));
+    assert_eq!(judge(&ours, 31), refused(8, 0));
+    assert_eq!(judge(&ours[1..], 32), Ok(Judgement::NotSpelled(0)));
+    assert_eq!(
+        judge(&[[0, 0, 0, 0], [1, 0, 0, 0], [2, 0, 0, 0], [2, 0, 1, 0]], 16),
+        Ok(Judgement::SpelledWrongly(4))
+    );
+    assert_eq!(judge(&[ours[1], ours[1]], 8), refused(27, 2));
+    assert_eq!(judge(&[ours[2], ours[0]], 8), refused(26, 2));
+    assert_eq!(judge(&[ours[0]; 1025], JUDGING_MOST), refused(28, 0));
+    assert_eq!(Plate::from_words([0; 132]).judge(b"", &mut []), refused(5, 0));
+}
+
+#[test]
+fn weights_are_counted() {
+    let plate = paper();
+    let mut counts = [0; 65];
+    (counts[0], counts[4], counts[8]) = (1, 14, 1);
+    assert_eq!(plate.weight_working_needed(), 130 << 3);
+    let mut working = vec![9; plate.weight_working_needed() + 1];
+    assert_eq!(plate.weights(&mut working), Ok(Weights { counts, least: Some(4) }));
+    assert!(working[..130 << 3].iter().all(|&cell| cell == 0) && working[130 << 3] == 9);
+    assert_eq!(plate.weights(&mut working[..(130 << 3) - 1]), refused(8, 0));
+    assert_eq!(Plate::from_words([0; 132]).weights(&mut working), refused(5, 0));
+    let whole: Vec<u64> = (0..64).map(|i| 1 << i).collect();
+    assert_eq!(
+        Plate::prepare(64, Kind::G, &whole, 0).unwrap().weights(&mut []),
+        refused(22, 0),
+        "22 before 8"
+    );
+    counts = [0; 65];
+    counts[0] = 1;
+    let zero = Plate::prepare(8, Kind::G, &[], 0x81).unwrap();
+    assert_eq!(zero.weights(&mut working), Ok(Weights { counts, least: None }));
+}
+
+#[test]
+fn values_become_levels() {
+    let setting = Setting { step: 0.5, top: 127 };
+    assert_eq!(level(setting, Some(1.9)), Ok(3));
+    assert_eq!(level(setting, Some(-1.9)), Ok(-3));
+    assert_eq!(level(setting, Some(f32::NEG_INFINITY)), Ok(-127));
+    assert_eq!(level(setting, None), Ok(0));
+    assert_eq!(level(setting, Some(f32::NAN)), refused(25, 0));
+    for top in [0, 128, 256 + 5, 1 << 63] {
+        assert_eq!(
+            level(Setting { top, ..setting }, Some(f32::NAN)),
+            refused(24, 0),
+            "no top is cut to a permitted one"
+        );
+    }
+    let mut room = [7; 4];
+    let values = [1.9, f32::NAN, -0.5, 1000.0];
+    assert_eq!(levels(4, setting, &values, 0, &mut room), refused(25, 1));
+    assert_eq!(
+        levels(4, Setting { top: 256 + 5, ..setting }, &values[1..], 2, &mut room),
+        refused(24, 0),
+        "24 before 6"
+    );
+    assert_eq!(
+        levels(0, Setting { top: 256 + 5, ..setting }, &values, 2, &mut room),
+        refused(1, 0),
+        "1 before 24"
+    );
+    assert_eq!(levels(4, setting, &values, 2, &mut room[1..]), refused(6, 0));
+    assert_eq!(room, [7; 4], "a refusal changes nothing");
+    assert_eq!((levels(4, setting, &values, 2, &mut room), room), (Ok(()), [3, 0, -1, 127]));
 }
 
 #[test]

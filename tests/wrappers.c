@@ -99,6 +99,31 @@ static void batches(const struct block *b) {
         }
 }
 
+/* All positions of a block: each is as firmness has it, and what stands from n on is old. */
+static void positions(const struct block *b) {
+    const yendrufal_rooms rooms = {metrics[0], b->metrics, decisions[0], b->decisions};
+    yendrufal_readings readings;
+    uint64_t fixed[64], place = 0;
+    int32_t values[64];
+    for (int i = 0; i < 64; i++) readings.fixed[i] = fixed[i] = 7, readings.values[i] = values[i] = 7;
+    fill();
+    const yendrufal_reply reply = yendrufal_plate_firmness_all(b->plate, b->samples, b->count, &rooms, &readings);
+    const uint64_t number =
+        yendrufal_firmness_all(b->plate->words, PLATE, b->samples, b->count, metrics[1], b->metrics, decisions[1],
+                               b->decisions, fixed, 64, values, 64, &place, 1);
+    HOLD(reply.number == number && reply.place == place && memcmp(readings.fixed, fixed, sizeof fixed) == 0 &&
+             memcmp(readings.values, values, sizeof values) == 0,
+         "firmness_all");
+    for (uint64_t i = 0; i < 64; i++) {
+        uint64_t one = 7;
+        int32_t value = 7;
+        if (number == YENDRUFAL_DONE && i < 8)
+            yendrufal_firmness(b->plate->words, PLATE, b->samples, b->count, i, metrics[1], b->metrics, decisions[1],
+                               b->decisions, &one, 1, &value, 1, &place, 1);
+        HOLD(fixed[i] == one && values[i] == value, "a position of firmness_all");
+    }
+}
+
 static void questions(const struct block *b) {
     const yendrufal_rooms rooms = {metrics[0], b->metrics, decisions[0], b->decisions};
     const uint64_t *plate = b->plate->words;
@@ -127,6 +152,49 @@ static void questions(const struct block *b) {
                  reason.difference == difference,
              "why_not");
     }
+}
+
+static void weighings(const yendrufal_plate *plate) {
+    enum { WORKING = 130 << 3 };
+    static uint64_t working[2][WORKING];
+    for (size_t room = WORKING - 1; room <= WORKING; room++) {
+        yendrufal_weighed weighed;
+        uint64_t counts[YENDRUFAL_WEIGHT_COUNTS], least = 7;
+        memset(&weighed, 0, sizeof weighed);
+        memset(counts, 0, sizeof counts);
+        weighed.least = 7;
+        for (int i = 0; i < WORKING; i++) working[0][i] = working[1][i] = 7;
+        const yendrufal_reply reply = yendrufal_plate_weights(plate, working[0], room, &weighed);
+        const uint64_t number =
+            yendrufal_weights(plate->words, PLATE, counts, YENDRUFAL_WEIGHT_COUNTS, working[1], room, &least, 1);
+        fill();
+        HOLD(reply.number == number && reply.place == 0 && weighed.least == least &&
+                 memcmp(weighed.counts, counts, sizeof counts) == 0 && memcmp(working[0], working[1], sizeof working[0]) == 0,
+             "weights");
+    }
+    uint64_t ours = 7, theirs = 7;
+    const yendrufal_reply reply = yendrufal_plate_widest_entry(plate, &ours);
+    const uint64_t number = yendrufal_widest_entry(plate->words, PLATE, &theirs, 1);
+    HOLD(reply.number == number && reply.place == 0 && ours == theirs, "widest_entry");
+}
+
+/* The calls about levels take no plate: a block's levels against those of its values, one by one. */
+static void levels(void) {
+    static const float values[4] = {1.9f, -1.9f, 100.0f, -0.0f};
+    for (uint64_t erased = 0; erased < 16; erased++)
+        for (uint64_t top = 0; top < 1024; top += 63) {
+            int16_t room[4] = {7, 7, 7, 7};
+            uint64_t place = 7;
+            const uint64_t number = yendrufal_levels(4, 0.5f, top, values, 4, erased, room, 4, &place, 1);
+            for (int i = 0; i < 4; i++) {
+                int16_t level = 7;
+                const uint64_t one = yendrufal_level(0.5f, top, values[i], erased >> i & 1, &level, 1);
+                fill();
+                HOLD(number == one && one == (top == 0 || top > 127 ? YENDRUFAL_SETTING : YENDRUFAL_DONE) &&
+                         room[i] == level && place == 0,
+                     "levels");
+            }
+        }
 }
 
 static void codings(const yendrufal_plate *plate) {
@@ -201,10 +269,54 @@ static void sheets(void) {
     }
 }
 
+/* A matrix written as alist text and read again is the same matrix, and a fault is told by its line. */
+static void matrices(uint64_t n, const uint64_t *rows, size_t count) {
+    static uint8_t text[YENDRUFAL_ALIST_MOST + 1];
+    uint64_t size = 7, sizes[2] = {7, 7}, read[65], place = 7;
+    for (int i = 0; i < 65; i++) read[i] = 7;
+    memset(text, 'x', sizeof text);
+    uint64_t number = yendrufal_write_alist(n, rows, count, text, YENDRUFAL_ALIST_MOST, &size, 1, &place, 1);
+    HOLD(number == YENDRUFAL_DONE && place == 0 && size <= YENDRUFAL_ALIST_MOST && text[size] == 'x', "write_alist");
+    number = yendrufal_read_alist(text, size, sizes, 2, read, 65, &place, 1);
+    int same = number == YENDRUFAL_DONE && place == 0 && sizes[0] == n && sizes[1] == count && read[64] == 7;
+    for (size_t i = 0; i < 64; i++) same = same && read[i] == (i < count ? rows[i] : 0);
+    HOLD(same, "read_alist");
+    number = yendrufal_write_alist(n, rows, count, text, size - 1, &size, 1, &place, 1);
+    HOLD(number == YENDRUFAL_LINE_ROOM && place == 0, "write_alist, refused");
+    text[size - 1] = ' ';
+    number = yendrufal_read_alist(text, size, sizes, 2, read, 65, &place, 1);
+    HOLD(number == YENDRUFAL_ALIST_FAULT && place == 4 + n + count && sizes[0] == n && read[0] == rows[0], "read_alist, refused");
+}
+
+/* Listings of branches against a plate of length 3, in rooms of each size. */
+static void listings(const yendrufal_plate *plate) {
+    static const char ours[] = "branch\t0\t0\t0\t0\nbranch\t0\t0\t1\t1\nbranch\t1\t0\t0\t0\nbranch\t1\t0\t1\t1\n"
+                               "branch\t1\t1\t1\t0\nbranch\t1\t1\t0\t1\nbranch\t2\t0\t0\t0\nbranch\t2\t1\t1\t0\n";
+    static const char *const others[] = {ours, "", "branch\t0\t0\t0\t0\nbranch\t1\t0\t0\t0\nbranch\t2\t0\t1\t0\n", "branch\t3\t0\t0\t0\n",
+                                         "branch\t0\t0\t0\t0\nbranch\t0\t0\t0\t1\n"};
+    for (size_t i = 0; i < sizeof others / sizeof others[0]; i++)
+        for (size_t lent = 0; lent <= YENDRUFAL_JUDGING(9); lent++) {
+            const uint8_t *text = (const uint8_t *)others[i];
+            uint64_t room[2][YENDRUFAL_JUDGING(9)], told[2] = {7, 7}, place = 0;
+            yendrufal_judgement judgement[2];
+            memset(room, 7, sizeof room);
+            memset(judgement, 0, sizeof judgement);
+            judgement[0].verdict = judgement[0].word = 7;
+            const yendrufal_reply reply = yendrufal_plate_judge(plate, text, strlen(others[i]), room[0], lent, &judgement[0]);
+            const uint64_t number = yendrufal_judge(plate->words, PLATE, text, strlen(others[i]), room[1], lent, told, 2,
+                                                    judgement[1].states, 65, judgement[1].branches, 64, &place, 1);
+            judgement[1].verdict = told[0];
+            judgement[1].word = told[1];
+            HOLD(reply.number == number && reply.place == place && memcmp(room[0], room[1], sizeof room[0]) == 0 &&
+                     memcmp(&judgement[0], &judgement[1], sizeof judgement[0]) == 0,
+                 "judge");
+        }
+}
+
 int main(void) {
     static const uint64_t rows[4] = {0x0f, 0x5a, 0x3c, 0xf0};
     static const int16_t good[8] = {-3, -2, 4, -1, 5, 6, -1, 7}, far[8] = {0, 0, 0, 2048, 0, 0, 0, 0};
-    yendrufal_plate plates[3];
+    yendrufal_plate plates[3], even;
     for (uint64_t n = 0; n <= 65; n++)
         for (uint64_t kind = 0; kind <= 2; kind++) {
             preparings(n, kind, rows, 4, 0);
@@ -219,6 +331,16 @@ int main(void) {
     fill();
     HOLD(m == YENDRUFAL_METRICS(3) && d == YENDRUFAL_DECISIONS(8, 3) && m <= METRICS && d <= DECISIONS, "needs");
     sheets();
+    static const uint64_t check[1] = {7};
+    uint64_t full[64];
+    for (int i = 0; i < 64; i++) full[i] = ~UINT64_C(0);
+    matrices(8, rows, 4);
+    matrices(64, full, 64);
+    if (yendrufal_plate_prepare(3, YENDRUFAL_KIND_H, check, 1, 0, &even).number != YENDRUFAL_DONE) return 1;
+    listings(&even);
+    listings(&plates[0]);
+    listings(&plates[2]);
+    levels();
     for (int i = 0; i < 3; i++) {
         const struct block blocks[] = {{&plates[i], good, 8, m, d},     {&plates[i], good, 8, METRICS, DECISIONS},
                                        {&plates[i], good, 7, m, d},     {&plates[i], far, 8, m, d},
@@ -227,7 +349,9 @@ int main(void) {
             decodings(&blocks[b]);
             batches(&blocks[b]);
             questions(&blocks[b]);
+            positions(&blocks[b]);
         }
+        weighings(&plates[i]);
         codings(&plates[i]);
         lines(&plates[i]);
     }

@@ -17,9 +17,9 @@ pub fn by_gray_order(plate: &Plate, samples: &[i16]) -> i32 {
     best
 }
 
-/// The same by endings. An ending goes with the beginnings that make up the syndrome of the plate's words with it,
-/// so of each syndrome only the greatest value counts, and one that no beginning makes up is left out.
-pub fn by_endings(plate: &Plate, samples: &[i16]) -> i32 {
+/// For each depth the greatest value of the endings from there on, by their syndromes. An ending goes with the beginnings that make up the
+/// syndrome of the plate's words with it, so of each syndrome only the greatest value counts, and one that no beginning makes up is left out.
+pub fn endings(plate: &Plate, samples: &[i16]) -> Vec<BTreeMap<u64, i32>> {
     let whole = plate.syndrome_of_words();
     let mut before = vec![Basis::new()];
     for &column in &plate.columns {
@@ -27,10 +27,11 @@ pub fn by_endings(plate: &Plate, samples: &[i16]) -> i32 {
         longer.insert(column, 0);
         before.push(longer);
     }
-    let mut endings = BTreeMap::from([(0u64, 0i32)]);
+    let mut by_depth = vec![BTreeMap::new(); plate.n];
+    by_depth.push(BTreeMap::from([(0u64, 0i32)]));
     for t in (0..plate.n).rev() {
         let mut longer = BTreeMap::new();
-        for (syndrome, value) in endings {
+        for (&syndrome, value) in &by_depth[t + 1] {
             let sample = i32::from(samples[t]);
             let with_zero = (syndrome, value + sample);
             let with_one = (syndrome ^ plate.columns[t], value - sample);
@@ -41,9 +42,14 @@ pub fn by_endings(plate: &Plate, samples: &[i16]) -> i32 {
                 }
             }
         }
-        endings = longer;
+        by_depth[t] = longer;
     }
-    endings[&whole]
+    by_depth
+}
+
+/// The same by endings.
+pub fn by_endings(plate: &Plate, samples: &[i16]) -> i32 {
+    endings(plate, samples)[0][&plate.syndrome_of_words()]
 }
 
 /// The best metric for `n` permitted samples.

@@ -15,7 +15,7 @@ pub struct Rooms {
 pub const FIXED: Rooms = Rooms { plate: PLATE_WORDS, single: 1, counts: 2, place: 1 };
 
 /// A plate as it is lent: cut or lengthened to the wanted number of cells.
-fn lent_plate(flat: &[u64], rooms: Rooms) -> Run {
+pub fn lent_plate(flat: &[u64], rooms: Rooms) -> Run {
     let mut words = flat.to_vec();
     words.resize(rooms.plate, 0);
     Run::of_words("plate", &words)
@@ -48,6 +48,22 @@ pub fn plate_of_sheet(sheet: &[u8], rooms: Rooms) -> Call {
 pub fn branch(flat: &[u64], depth: u64, state: u64, bit: u64, rooms: Rooms) -> Call {
     let runs = vec![lent_plate(flat, rooms), Run::room_words("next", rooms.single)];
     Call { name: Name::Branch, numbers: vec![depth, state, bit], runs }
+}
+
+pub fn widest(flat: &[u64], rooms: Rooms) -> Call {
+    let runs = vec![lent_plate(flat, rooms), Run::room_words("widest", rooms.single)];
+    Call { name: Name::WidestEntry, numbers: vec![], runs }
+}
+
+/// `counts` and `working`: how many cells of each are lent.
+pub fn weights(flat: &[u64], counts: usize, working: usize, rooms: Rooms) -> Call {
+    let runs = vec![
+        lent_plate(flat, rooms),
+        Run::room_words("weights", counts),
+        Run::room_words("working", working),
+        Run::room_words("least", rooms.single),
+    ];
+    Call { name: Name::Weights, numbers: vec![], runs }
 }
 
 pub fn encode(flat: &[u64], information: u64, rooms: Rooms) -> Call {
@@ -138,6 +154,26 @@ pub fn firmness(
         Run::room_words("place", rooms.place),
     ];
     Call { name: Name::Firmness, numbers: vec![position], runs }
+}
+
+/// `readings`: how many cells are lent for each half of the readings.
+pub fn firmness_all(
+    flat: &[u64],
+    samples: &[i16],
+    working: (usize, usize),
+    readings: (usize, usize),
+    rooms: Rooms,
+) -> Call {
+    let runs = vec![
+        lent_plate(flat, rooms),
+        Run::of_samples("samples", samples),
+        Run::room_metrics("metrics", working.0),
+        Run::room_words("decisions", working.1),
+        Run::room_words("fixed of all", readings.0),
+        Run::room_metrics("values of all", readings.1),
+        Run::room_words("place", rooms.place),
+    ];
+    Call { name: Name::FirmnessAll, numbers: vec![], runs }
 }
 
 pub fn why_not(

@@ -38,6 +38,7 @@ pub fn append(batch: &mut Vec<u8>, call: &Call, reply: Option<u64>) {
             Cells::Bytes(cells) => put_cells(batch, cells.iter().map(|cell| cell.to_le_bytes())),
             Cells::Samples(cells) => put_cells(batch, cells.iter().map(|cell| cell.to_le_bytes())),
             Cells::Metrics(cells) => put_cells(batch, cells.iter().map(|cell| cell.to_le_bytes())),
+            Cells::Values(cells) => put_cells(batch, cells.iter().map(|cell| cell.to_le_bytes())),
             Cells::Words(cells) => put_cells(batch, cells.iter().map(|cell| cell.to_le_bytes())),
         }
     }
@@ -64,6 +65,9 @@ pub fn answered(call: &mut Call, mut bytes: &[u8]) -> u64 {
             }
             Cells::Metrics(old) => {
                 4 * old.iter_mut().map(|cell| *cell = i32::from_le_bytes(take(&mut cells))).count()
+            }
+            Cells::Values(old) => {
+                4 * old.iter_mut().map(|cell| *cell = u32::from_le_bytes(take(&mut cells))).count()
             }
             Cells::Words(old) => {
                 8 * old.iter_mut().map(|cell| *cell = u64::from_le_bytes(take(&mut cells))).count()

@@ -27,15 +27,24 @@ pub enum Name {
     WriteWeight,
     WriteLeast,
     WriteNoLeast,
+    WidestEntry,
+    Level,
+    Levels,
+    Weights,
+    FirmnessAll,
+    ReadAlist,
+    WriteAlist,
+    Judge,
     Listing,
 }
 
-/// The cells of a run, guards included.
+/// The cells of a run, guards included. Values of single precision are held as their bits, so that every one equals itself.
 #[derive(Clone, PartialEq)]
 pub enum Cells {
     Bytes(Vec<u8>),
     Samples(Vec<i16>),
     Metrics(Vec<i32>),
+    Values(Vec<u32>),
     Words(Vec<u64>),
 }
 
@@ -84,6 +93,10 @@ impl Run {
         Run { name, cells: Cells::Samples(guarded(samples.iter().copied(), 0x5a5a)) }
     }
 
+    pub fn of_values(name: &'static str, values: &[u32]) -> Run {
+        Run { name, cells: Cells::Values(guarded(values.iter().copied(), 0x5a5a_5a5a)) }
+    }
+
     pub fn of_bytes(name: &'static str, bytes: &[u8]) -> Run {
         Run { name, cells: Cells::Bytes(guarded(bytes.iter().copied(), 0x5a)) }
     }
@@ -91,6 +104,11 @@ impl Run {
     /// A room of so many words, full of old values.
     pub fn room_words(name: &'static str, length: usize) -> Run {
         Run { name, cells: Cells::Words(guarded((0..length).map(old), 0x5a5a_5a5a_5a5a_5a5a)) }
+    }
+
+    pub fn room_samples(name: &'static str, length: usize) -> Run {
+        let cells = (0..length).map(|i| (old(i) >> 48) as i16);
+        Run { name, cells: Cells::Samples(guarded(cells, 0x5a5a)) }
     }
 
     pub fn room_metrics(name: &'static str, length: usize) -> Run {
@@ -101,6 +119,18 @@ impl Run {
     pub fn room_bytes(name: &'static str, length: usize) -> Run {
         let cells = (0..length).map(|i| (old(i) >> 56) as u8);
         Run { name, cells: Cells::Bytes(guarded(cells, 0x5a)) }
+    }
+
+    /// How many cells are lent.
+    pub fn length(&self) -> usize {
+        let cells = match &self.cells {
+            Cells::Bytes(cells) => cells.len(),
+            Cells::Samples(cells) => cells.len(),
+            Cells::Metrics(cells) => cells.len(),
+            Cells::Values(cells) => cells.len(),
+            Cells::Words(cells) => cells.len(),
+        };
+        cells - 2 * GUARD
     }
 
     pub fn words(&mut self) -> &mut [u64] {
@@ -124,6 +154,13 @@ impl Run {
         }
     }
 
+    pub fn values(&mut self) -> &mut [u32] {
+        match &mut self.cells {
+            Cells::Values(cells) => inner_mut(cells),
+            _ => unreachable!("{} holds no values", self.name),
+        }
+    }
+
     pub fn bytes(&mut self) -> &mut [u8] {
         match &mut self.cells {
             Cells::Bytes(cells) => inner_mut(cells),
@@ -141,13 +178,14 @@ impl Run {
             (Cells::Bytes(a), Cells::Bytes(b)) => first(a, b),
             (Cells::Samples(a), Cells::Samples(b)) => first(a, b),
             (Cells::Metrics(a), Cells::Metrics(b)) => first(a, b),
+            (Cells::Values(a), Cells::Values(b)) => first(a, b),
             (Cells::Words(a), Cells::Words(b)) => first(a, b),
             _ => unreachable!("runs of two shapes"),
         }
     }
 }
 
-/// A run whole, without its guards; bytes as text.
+/// A run whole, without its guards; bytes as text, values as their bits.
 impl fmt::Display for Run {
     fn fmt(&self, f: &mut fmt::Formatter) -> fmt::Result {
         write!(f, "{} ", self.name)?;
@@ -157,6 +195,7 @@ impl fmt::Display for Run {
             }
             Cells::Samples(cells) => write!(f, "[{}] {:?}", inner(cells).len(), inner(cells)),
             Cells::Metrics(cells) => write!(f, "[{}] {:?}", inner(cells).len(), inner(cells)),
+            Cells::Values(cells) => write!(f, "[{}] {:x?}", inner(cells).len(), inner(cells)),
             Cells::Words(cells) => write!(f, "[{}] {:x?}", inner(cells).len(), inner(cells)),
         }
     }

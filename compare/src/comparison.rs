@@ -26,8 +26,11 @@ struct Waiting {
 pub struct Comparison {
     pub model: Model,
     library: Library,
+    /// Calls that the library at hand does not have: the model alone answers them, and they are not counted.
+    without: Vec<Name>,
     kind: &'static str,
-    agreed: BTreeMap<(&'static str, Name), u64>,
+    /// How many calls agreed, by kind of input, call and reply.
+    agreed: BTreeMap<(&'static str, Name, u64), u64>,
     order: Vec<&'static str>,
     waiting: Vec<Waiting>,
     asked: Vec<u8>,
@@ -47,10 +50,11 @@ fn differ(asked: &Call, expected: (&Call, u64), found: (&Call, u64)) -> ! {
 }
 
 impl Comparison {
-    pub fn new(library: Library) -> Comparison {
+    pub fn new(library: Library, without: Vec<Name>) -> Comparison {
         Comparison {
             model: Model::new(),
             library,
+            without,
             kind: "",
             agreed: BTreeMap::new(),
             order: Vec::new(),
@@ -69,6 +73,11 @@ impl Comparison {
         }
     }
 
+    /// Whether a call is not compared, since the library at hand does not have it.
+    pub fn leaves_out(&self, name: Name) -> bool {
+        self.without.contains(&name)
+    }
+
     /// How many calls were put so far; each agreed, or the program has ended.
     pub fn calls(&self) -> u64 {
         self.agreed.values().sum()
@@ -78,7 +87,10 @@ impl Comparison {
     pub fn agree(&mut self, asked: Call) -> (u64, Call) {
         let mut expected = asked.clone();
         let reply = self.model.answer(&mut expected);
-        *self.agreed.entry((self.kind, asked.name)).or_insert(0) += 1;
+        if self.leaves_out(asked.name) {
+            return (reply, expected);
+        }
+        *self.agreed.entry((self.kind, asked.name, reply)).or_insert(0) += 1;
         match &mut self.library {
             #[cfg(linked)]
             Library::Linked => {
@@ -126,22 +138,38 @@ impl Comparison {
         self.expected.clear();
     }
 
-    /// Prints how many calls agreed, by kind and by call, and in all.
+    /// How many calls there were of each, as said by a key.
+    fn counted<K: Ord>(&self, key: impl Fn(&'static str, Name, u64) -> K) -> BTreeMap<K, u64> {
+        let mut counts = BTreeMap::new();
+        for (&(kind, name, reply), count) in &self.agreed {
+            *counts.entry(key(kind, name, reply)).or_insert(0) += count;
+        }
+        counts
+    }
+
+    /// How many calls had each reply.
+    pub fn replies(&self) -> BTreeMap<(Name, u64), u64> {
+        self.counted(|_, name, reply| (name, reply))
+    }
+
+    /// Prints how many calls agreed: a line for each kind of input, a line for each call with its replies, and the sum.
     pub fn report(&mut self) {
         self.finish();
-        for kind in &self.order {
-            let of_kind = self.agreed.iter().filter(|((k, _), _)| k == kind);
-            let by_call: Vec<String> =
-                of_kind.clone().map(|((_, name), count)| format!("{name:?} {count}")).collect();
-            let sum: u64 = of_kind.map(|(_, count)| count).sum();
-            println!("{kind}: {sum} agree ({})", by_call.join(", "));
+        let (by_kind, by_call, replies) =
+            (self.counted(|kind, _, _| kind), self.counted(|_, name, _| name), self.replies());
+        println!("calls that agree, by kind of input:");
+        for kind in self.order.iter().filter(|kind| by_kind.contains_key(**kind)) {
+            println!("  {kind}: {}", by_kind[kind]);
         }
-        let mut by_call = BTreeMap::new();
-        for ((_, name), count) in &self.agreed {
-            *by_call.entry(name).or_insert(0) += count;
+        println!("by call, and how many had each reply (0: done, 1 to 28: refused, 100: no branch, 101: a run too short):");
+        for (name, count) in by_call {
+            let of_call = replies.iter().filter(|((of, _), _)| *of == name);
+            let had: Vec<String> = of_call.map(|((_, reply), count)| format!("{reply}: {count}")).collect();
+            println!("  {name:?}: {count} ({})", had.join(", "));
         }
-        let by_call: Vec<String> = by_call.iter().map(|(name, count)| format!("{name:?} {count}")).collect();
-        println!("by call: {}", by_call.join(", "));
+        if !self.without.is_empty() {
+            println!("LEFT OUT, not compared: {:?}", self.without);
+        }
         println!("in all: {} calls agree", self.calls());
     }
 }

@@ -1,10 +1,13 @@
 //! Damaged plates: each of the 132 numbers changed in several ways, and every call that takes a plate.
 
 use crate::asked::{self, FIXED};
+use crate::bounds::READINGS;
 use crate::comparison::Comparison;
 use crate::header;
+use crate::judge::{self, SURPLUS};
 use crate::plate::{prepare, prepare_masked, Kind, Plate, PLATE_WORDS};
 use crate::random::{matrix, samples, Random};
+use crate::weights::{effort, working_needed, COUNTS};
 use crate::words::ones_before;
 
 /// The changes made to one number.
@@ -37,6 +40,14 @@ fn every_call(comparison: &mut Comparison, random: &mut Random, sound: &Plate, f
     comparison.agree(asked::word(flat, &block, metrics, decisions, FIXED));
     comparison.agree(asked::firmness(flat, &block, 0, metrics, decisions, FIXED));
     comparison.agree(asked::why_not(flat, &block, 0, metrics, decisions, FIXED));
+    comparison.agree(asked::widest(flat, FIXED));
+    if sound.widest() < 5 && effort(sound) < 12 {
+        comparison.agree(asked::weights(flat, COUNTS, working_needed(sound), FIXED));
+    }
+    if sound.widest() < 8 {
+        comparison.agree(asked::firmness_all(flat, &block, (metrics, decisions), READINGS, FIXED));
+    }
+    comparison.agree(judge::asked(flat, b"branch\t0\t0\t1\t0\n", 4, SURPLUS, FIXED));
     comparison.agree(asked::write_plate(flat, 256, FIXED));
     comparison.agree(asked::write_profile(flat, 256, FIXED));
     comparison.agree(asked::write_word(flat, (1, -1, 1, 0), 256, FIXED));
@@ -53,6 +64,9 @@ fn all_wrong(comparison: &mut Comparison, random: &mut Random, flat: &[u64]) {
     comparison.agree(asked::word(flat, &[200], 0, 0, FIXED));
     comparison.agree(asked::firmness(flat, &[200], 64, 0, 0, FIXED));
     comparison.agree(asked::why_not(flat, &[200], random.next(), 0, 0, FIXED));
+    comparison.agree(asked::weights(flat, 64, 0, FIXED));
+    comparison.agree(asked::firmness_all(flat, &[200], (0, 0), READINGS, FIXED));
+    comparison.agree(judge::asked(flat, random.pick(&[&b"branch"[..], b"x\n\n", b"\n"]), 0, SURPLUS, FIXED));
     comparison.agree(asked::write_plate(flat, 0, FIXED));
 }
 

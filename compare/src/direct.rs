@@ -40,30 +40,33 @@ pub fn answer(call: &mut Call) -> u64 {
         Name::Word => word(call),
         Name::Firmness => firmness(call),
         Name::WhyNot => why_not(call),
-        Name::WriteTally | Name::WriteWeight | Name::WriteLeast | Name::WriteNoLeast => {
-            let ((line, a), (written, b)) = (lent!(r[0], bytes), lent!(r[1], words));
-            match call.name {
-                Name::WriteTally => unsafe {
-                    yendrufal_write_tally(
-                        n[0], n[1], n[2], n[3], n[4], n[5], n[6], n[7], n[8], line, a, written, b,
-                    )
-                },
-                Name::WriteWeight => unsafe { yendrufal_write_weight(n[0], n[1], line, a, written, b) },
-                Name::WriteLeast => unsafe { yendrufal_write_least(n[0], line, a, written, b) },
-                _ => unsafe { yendrufal_write_no_least(line, a, written, b) },
-            }
-        }
-        Name::WriteRefused | Name::WriteEnd => {
-            let ((line, a), (written, b)) = (lent!(r[0], bytes), lent!(r[1], words));
-            match call.name {
-                Name::WriteRefused => unsafe {
-                    yendrufal_write_refused(n[0], n[1], n[2], line, a, written, b)
-                },
-                _ => unsafe { yendrufal_write_end(n[0], line, a, written, b) },
-            }
-        }
+        Name::WriteTally | Name::WriteWeight | Name::WriteLeast | Name::WriteNoLeast => write_plain(call),
+        Name::WriteRefused | Name::WriteEnd => write_plain(call),
         Name::WritePlate | Name::WriteProfile | Name::WriteWord => write_of_plate(call),
         Name::Listing => listing(call),
+        Name::WidestEntry | Name::Weights | Name::Level => of_numbers(call),
+        Name::Levels => levels(call),
+        Name::FirmnessAll => firmness_all(call),
+        Name::ReadAlist => read_alist(call),
+        Name::WriteAlist => write_alist(call),
+        Name::Judge => judge(call),
+    }
+}
+
+/// Lines that take no plate.
+fn write_plain(call: &mut Call) -> u64 {
+    let n = call.numbers.clone();
+    let r = &mut call.runs[..];
+    let ((line, a), (written, b)) = (lent!(r[0], bytes), lent!(r[1], words));
+    match call.name {
+        Name::WriteTally => unsafe {
+            yendrufal_write_tally(n[0], n[1], n[2], n[3], n[4], n[5], n[6], n[7], n[8], line, a, written, b)
+        },
+        Name::WriteWeight => unsafe { yendrufal_write_weight(n[0], n[1], line, a, written, b) },
+        Name::WriteLeast => unsafe { yendrufal_write_least(n[0], line, a, written, b) },
+        Name::WriteNoLeast => unsafe { yendrufal_write_no_least(line, a, written, b) },
+        Name::WriteRefused => unsafe { yendrufal_write_refused(n[0], n[1], n[2], line, a, written, b) },
+        _ => unsafe { yendrufal_write_end(n[0], line, a, written, b) },
     }
 }
 
@@ -154,4 +157,72 @@ fn listing(call: &mut Call) -> u64 {
     let ((decisions, c), (listing, d), (written, e)) =
         (lent!(r[2], words), lent!(r[3], bytes), lent!(r[4], words));
     unsafe { yendrufal_listing(sheet, a, metrics, b, decisions, c, listing, d, written, e) }
+}
+
+/// The widest entry and the weights of a plate, and the level of one value.
+fn of_numbers(call: &mut Call) -> u64 {
+    let n = call.numbers.clone();
+    let r = &mut call.runs[..];
+    match call.name {
+        Name::WidestEntry => {
+            let ((plate, a), (widest, b)) = (lent!(r[0], words), lent!(r[1], words));
+            unsafe { yendrufal_widest_entry(plate, a, widest, b) }
+        }
+        Name::Weights => {
+            let ((plate, a), (counts, b)) = (lent!(r[0], words), lent!(r[1], words));
+            let ((working, c), (least, d)) = (lent!(r[2], words), lent!(r[3], words));
+            unsafe { yendrufal_weights(plate, a, counts, b, working, c, least, d) }
+        }
+        _ => {
+            let (level, a) = lent!(r[0], samples);
+            unsafe { yendrufal_level(float(n[0]), n[1], float(n[2]), n[3], level, a) }
+        }
+    }
+}
+
+/// The value whose bits these are.
+fn float(bits: u64) -> f32 {
+    f32::from_bits(bits as u32)
+}
+
+fn levels(call: &mut Call) -> u64 {
+    let n = call.numbers.clone();
+    let r = &mut call.runs[..];
+    let ((values, a), (levels, b), (place, c)) =
+        (lent!(r[0], values), lent!(r[1], samples), lent!(r[2], words));
+    unsafe { yendrufal_levels(n[0], float(n[1]), n[2], values.cast(), a, n[3], levels, b, place, c) }
+}
+
+fn firmness_all(call: &mut Call) -> u64 {
+    let r = &mut call.runs[..];
+    let ((plate, a), (samples, b)) = (lent!(r[0], words), lent!(r[1], samples));
+    let ((metrics, c), (decisions, d)) = (lent!(r[2], metrics), lent!(r[3], words));
+    let ((fixed, e), (values, f), (place, g)) =
+        (lent!(r[4], words), lent!(r[5], metrics), lent!(r[6], words));
+    unsafe {
+        yendrufal_firmness_all(plate, a, samples, b, metrics, c, decisions, d, fixed, e, values, f, place, g)
+    }
+}
+
+fn read_alist(call: &mut Call) -> u64 {
+    let r = &mut call.runs[..];
+    let ((text, a), (sizes, b)) = (lent!(r[0], bytes), lent!(r[1], words));
+    let ((rows, c), (place, d)) = (lent!(r[2], words), lent!(r[3], words));
+    unsafe { yendrufal_read_alist(text, a, sizes, b, rows, c, place, d) }
+}
+
+fn write_alist(call: &mut Call) -> u64 {
+    let n = call.numbers[0];
+    let r = &mut call.runs[..];
+    let ((rows, a), (room, b)) = (lent!(r[0], words), lent!(r[1], bytes));
+    let ((written, c), (place, d)) = (lent!(r[2], words), lent!(r[3], words));
+    unsafe { yendrufal_write_alist(n, rows, a, room, b, written, c, place, d) }
+}
+
+fn judge(call: &mut Call) -> u64 {
+    let r = &mut call.runs[..];
+    let ((plate, a), (text, b), (room, c)) = (lent!(r[0], words), lent!(r[1], bytes), lent!(r[2], words));
+    let ((verdict, d), (states, e)) = (lent!(r[3], words), lent!(r[4], words));
+    let ((branches, f), (place, g)) = (lent!(r[5], words), lent!(r[6], words));
+    unsafe { yendrufal_judge(plate, a, text, b, room, c, verdict, d, states, e, branches, f, place, g) }
 }

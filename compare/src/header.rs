@@ -33,6 +33,11 @@ pub fn value(name: &str) -> usize {
     *header.values.get(name).unwrap_or_else(|| panic!("the header has no {PREFIX}{name}"))
 }
 
+/// Whether the header has a macro, named without its prefix and followed by its arguments.
+pub fn has(name: &str) -> bool {
+    HEADER.get().expect("the header is loaded").values.contains_key(name)
+}
+
 /// A reply or another number, as calls have them.
 pub fn number(name: &str) -> u64 {
     value(name) as u64

@@ -6,6 +6,8 @@ use crate::brute;
 use crate::coding::{encode, read_back};
 use crate::decoding::{by_forward_pass, counts, decode, of_all_codewords};
 use crate::firmness::{best_by_pass, best_of_all};
+use crate::held;
+use crate::judged;
 use crate::model::Model;
 use crate::plate::{prepare_masked, Kind, Plate};
 use crate::random::{matrix, samples, Random};
@@ -174,9 +176,11 @@ pub fn run(sheets: Option<&Path>) {
     println!("small matrices by the definitions: {} agree", small_matrices(&mut random));
     println!("larger matrices by two ways: {} agree", larger_matrices(&mut random));
     println!("sheets and the sheets turned: {} agree", turned_sheets(&mut random));
+    held::run();
     let mut model = Model::new();
     let mut answer = |mut call| (model.answer(&mut call), call);
     println!("calls of the paper's worked examples: {} agree", worked::examples(&mut answer));
+    println!("examples worked for judging: {} agree", judged::worked(&mut answer));
     if let Some(folder) = sheets {
         println!("outside sheets: {} agree", worked::outside_sheets(folder, &mut answer));
     }

@@ -4,23 +4,13 @@
 use crate::asked::{self, Rooms, FIXED};
 use crate::call::Call;
 use crate::comparison::Comparison;
+use crate::further;
 use crate::header::{listing_room, number, rooms, rooms_most, unasked, value};
 use crate::plate::{prepare, Kind, Plate, Refusal, PLATE_WORDS};
 use crate::rooms::plates;
 
-/// Refusals that no call of the header replies and no listing has, with the paper's numbers.
-const ELSEWHERE: [(&str, u64); 7] = [
-    ("ALIST_FAULT", 16),
-    ("WHOLE_SPACE", 22),
-    ("SETTING", 24),
-    ("NOT_A_NUMBER", 25),
-    ("BRANCH_FAULT", 26),
-    ("BRANCH_TWICE", 27),
-    ("TOO_MANY_LINES", 28),
-];
-
 /// Both sides reply the number that the header gives this name; gives back the call as it was left.
-fn replies(comparison: &mut Comparison, name: &str, call: Call) -> Call {
+pub fn replies(comparison: &mut Comparison, name: &str, call: Call) -> Call {
     let shown = call.to_string();
     let (reply, left) = comparison.agree(call);
     assert_eq!(reply, number(name), "YENDRUFAL_{name} is due for {shown}");
@@ -170,7 +160,6 @@ fn numbers(comparison: &mut Comparison) {
         let call = asked::why_not(&even, &[-1, -1, -1], word, metrics, decisions, FIXED);
         assert_eq!(replies(comparison, "DONE", call).runs[4].words()[0], number(name), "{name}");
     }
-    ELSEWHERE.iter().for_each(|&(name, due)| assert_eq!(number(name), due, "{name}"));
 }
 
 pub fn run(comparison: &mut Comparison) {
@@ -187,5 +176,6 @@ pub fn run(comparison: &mut Comparison) {
     refused_sheets(comparison);
     orders(comparison);
     numbers(comparison);
+    further::run(comparison);
     assert_eq!(unasked(), Vec::<String>::new(), "macros of the header that nothing is held to");
 }

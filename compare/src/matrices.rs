@@ -2,12 +2,14 @@
 
 use crate::asked::{self, FIXED};
 use crate::batch;
+use crate::bounds::READINGS;
 use crate::call::Call;
 use crate::coding::encode;
 use crate::comparison::Comparison;
 use crate::header;
 use crate::plate::{check_columns, profile, Kind, Plate};
 use crate::random::{matrix, samples, spoiled, Matrix, Random};
+use crate::weights::{effort, working_needed, COUNTS};
 use crate::words::ones_before;
 
 /// The largest profile entry of a matrix that is in order, refused or not.
@@ -72,6 +74,25 @@ fn blocks(comparison: &mut Comparison, random: &mut Random, plate: &Plate, flat:
         comparison.agree(asked::why_not(flat, &block, word, metrics + more, decisions + more, FIXED));
         let position = random.below(plate.n) as u64;
         comparison.agree(asked::firmness(flat, &block, position, metrics + more, decisions + more, FIXED));
+        if plate.widest() < 8 || random.one_in(8) {
+            let working = (metrics + more, decisions + more);
+            comparison.agree(asked::firmness_all(flat, &block, working, READINGS, FIXED));
+        }
+    }
+}
+
+/// The widest entry; the weights, where the words of the code or of its dual are few.
+fn sizes(comparison: &mut Comparison, random: &mut Random, plate: &Plate, flat: &[u64]) {
+    comparison.agree(asked::widest(flat, FIXED));
+    let few = match effort(plate) {
+        0..=12 => plate.widest() < 8 || random.one_in(4),
+        13..=18 => random.one_in(8),
+        _ => false,
+    };
+    if few {
+        let (counts, working) =
+            (COUNTS + random.pick(&[0, 0, 3]), working_needed(plate) + random.pick(&[0, 0, 5]));
+        comparison.agree(asked::weights(flat, counts, working, FIXED));
     }
 }
 
@@ -82,6 +103,7 @@ fn questions(comparison: &mut Comparison, random: &mut Random, flat: &[u64]) {
     codings(comparison, random, &plate, flat);
     blocks(comparison, random, &plate, flat);
     batch::some(comparison, random, &plate, flat);
+    sizes(comparison, random, &plate, flat);
     comparison.agree(asked::write_plate(flat, 256, FIXED));
     comparison.agree(asked::write_profile(flat, 256, FIXED));
     let values =

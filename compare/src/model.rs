@@ -1,16 +1,21 @@
 //! The model behind the C interface: each call answered from the paper's rules, with every lent cell.
 
+use crate::alist;
 use crate::alone;
 use crate::asking;
 use crate::batch;
 use crate::call::{Call, Name, Run};
 use crate::coding::{encode, read_back};
 use crate::decoding;
-use crate::firmness::{self, Reading};
+use crate::firmness;
+use crate::judge;
+use crate::level;
 use crate::listing::{end_line, numbers_line, plate_line, profile_line, refused_line, word_line};
 use crate::plate::{prepare_masked, Kind, Plate, Refusal, PLATE_WORDS};
+use crate::shapes::misshapen;
 use crate::sheet;
 use crate::trellis::branch;
+use crate::weights;
 use std::rc::Rc;
 
 pub const DONE: u64 = 0;
@@ -77,6 +82,9 @@ impl Model {
         if misshapen(call) {
             return SHAPE;
         }
+        if let Some(reply) = self.answer_request(call) {
+            return reply;
+        }
         let numbers = call.numbers.clone();
         match (call.name, &mut call.runs[..]) {
             (Name::Prepare, [rows, plate, place]) => answer_prepare(&numbers, rows, plate, place),
@@ -92,7 +100,7 @@ impl Model {
             (Name::DecodeBlocks, runs) => batch::answer(self, runs),
             (Name::Metric, runs) => self.answer_metric(runs),
             (Name::Word, runs) => self.answer_word(runs),
-            (Name::Firmness, runs) => self.answer_firmness(numbers[0], runs),
+            (Name::Firmness, runs) => firmness::answer_one(self, numbers[0], runs),
             (Name::WhyNot, runs) => self.answer_why_not(numbers[0], runs),
             (Name::WriteRefused, [line, written]) => {
                 let refusal = Refusal { number: numbers[0], place: numbers[1], field: numbers[2] };
@@ -111,6 +119,25 @@ impl Model {
             }
             _ => unreachable!("a call with other runs than its own"),
         }
+    }
+
+    /// The reply to a call of a later request, of those that have a file of their own.
+    fn answer_request(&mut self, call: &mut Call) -> Option<u64> {
+        let (numbers, runs) = (&call.numbers, &mut call.runs[..]);
+        Some(match call.name {
+            Name::FirmnessAll => firmness::answer_all(self, runs),
+            Name::Weights => weights::answer(self, runs),
+            Name::Level => level::answer_one(numbers, runs),
+            Name::Levels => level::answer_block(numbers, runs),
+            Name::ReadAlist => alist::answer_read(runs),
+            Name::WriteAlist => alist::answer_write(numbers, runs),
+            Name::Judge => judge::answer(self, runs),
+            Name::WidestEntry => {
+                let widest = self.plate(runs[0].words()).map(|plate| plate.widest() as u64);
+                reply_into(widest, runs[1].words())
+            }
+            _ => return None,
+        })
     }
 
     fn answer_branch(&mut self, numbers: &[u64], plate: &mut Run, next: &mut Run) -> u64 {
@@ -206,45 +233,6 @@ impl Model {
         place.words()[0] = 0;
         DONE
     }
-
-    fn answer_firmness(&mut self, position: u64, runs: &mut [Run]) -> u64 {
-        let [plate, samples, metrics, decisions, fixed, value, place] = runs else {
-            unreachable!("firmness has seven runs")
-        };
-        let samples = samples.samples();
-        let accepted = self.plate(plate.words()).and_then(|plate| {
-            let rooms = (metrics.metrics().len(), decisions.words().len());
-            firmness::refused(&plate, samples, position, rooms.0, rooms.1)?;
-            Ok(plate)
-        });
-        let plate = match accepted {
-            Ok(plate) => plate,
-            Err(refusal) => return refused_at(refusal, place),
-        };
-        let reading = firmness::firmness(&plate, samples, position as usize);
-        clear_rooms(&plate, metrics.metrics(), decisions.words());
-        (fixed.words()[0], value.metrics()[0]) = match reading {
-            Reading::Fixed(digit) => (1, digit as i32),
-            Reading::Open(margin) => (0, margin),
-        };
-        place.words()[0] = 0;
-        DONE
-    }
-}
-
-/// Whether a run is shorter than its use fixes, or a matrix is of neither kind.
-fn misshapen(call: &mut Call) -> bool {
-    let kind_unknown = call.name == Name::Prepare && call.numbers[1] > 1;
-    kind_unknown
-        || call.runs.iter_mut().any(|run| match run.name {
-            "plate" => run.words().len() < PLATE_WORDS,
-            "counts" | "reason" | "line and field" => run.words().len() < 2,
-            "metric" | "value" | "difference" => run.metrics().is_empty(),
-            "next" | "word" | "order" | "fixed" | "information" | "written" | "place" => {
-                run.words().is_empty()
-            }
-            _ => false,
-        })
 }
 
 fn answer_prepare(numbers: &[u64], rows: &mut Run, plate: &mut Run, place: &mut Run) -> u64 {

@@ -41,7 +41,7 @@ pub struct Sheet {
 }
 
 /// A number of one to `digits` digits without a leading zero.
-fn number(field: &str, digits: usize) -> Option<i32> {
+pub fn number(field: &str, digits: usize) -> Option<i32> {
     let form = (1..=digits).contains(&field.len()) && field.bytes().all(|b| b.is_ascii_digit());
     let plain = field == "0" || !field.starts_with('0');
     if form && plain {

@@ -1,6 +1,6 @@
 //! Random, damaged and awkward sheets.
 
-use crate::asked::{self, FIXED};
+use crate::asked::{self, Rooms, FIXED};
 use crate::comparison::Comparison;
 use crate::header::{listing_room, rooms_most};
 use crate::model::{DONE, LINE_MOST};
@@ -134,7 +134,10 @@ fn list_in_rooms(comparison: &mut Comparison, sheet: &[u8], lines: usize) {
         (8192, 4095, 0),
         (9000, 5000, room + 1),
     ] {
-        comparison.agree(asked::listing(sheet, metrics, decisions, room, FIXED));
+        for single in 0..3 {
+            let rooms = Rooms { single, ..FIXED };
+            comparison.agree(asked::listing(sheet, metrics, decisions, room, rooms));
+        }
     }
 }
 

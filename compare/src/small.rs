@@ -2,9 +2,11 @@
 //! n is up to 3, else one, each in its turn.
 
 use crate::asked::{self, FIXED};
+use crate::bounds::READINGS;
 use crate::comparison::Comparison;
 use crate::header;
 use crate::plate::Plate;
+use crate::weights::{working_needed, COUNTS};
 use std::collections::HashSet;
 
 /// All lists of `count` digits below `base`.
@@ -40,9 +42,12 @@ fn all_questions(comparison: &mut Comparison, plate: &Plate, flat: &[u64]) {
     for word in 0..2 << n {
         comparison.agree(asked::read_back(flat, word, FIXED));
     }
+    comparison.agree(asked::widest(flat, FIXED));
+    comparison.agree(asked::weights(flat, COUNTS, working_needed(plate), FIXED));
     let (metrics, decisions) = header::rooms(plate);
     for samples in all_samples(plate.n) {
         comparison.agree(asked::decode(flat, &samples, metrics, decisions, FIXED));
+        comparison.agree(asked::firmness_all(flat, &samples, (metrics, decisions), READINGS, FIXED));
         comparison.agree(asked::metric(flat, &samples, metrics, FIXED));
         comparison.agree(asked::word(flat, &samples, metrics, decisions, FIXED));
         for position in 0..=n {

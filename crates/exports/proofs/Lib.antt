@@ -6,6 +6,13 @@ pub mod FirmnessCrossed
 pub mod PartsCrossed
 pub mod BatchCrossed
 pub mod SheetCrossed
+pub mod MatrixCrossed
+pub mod VerdictCrossed
 pub mod ReadingCells
 pub mod ReasonCrossed
 pub mod CallsDetermined
+pub mod MatrixDetermined
+pub mod VerdictDetermined
+pub mod WeightsCrossed
+pub mod LevelsCrossed
+pub mod PositionsCrossed

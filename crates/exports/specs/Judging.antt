@@ -42,6 +42,11 @@ pub record ReadingPut (reading : Reading) (fixed : List ℕ) (values : List ℤ)
   pub fixed_is : fixed' ≡ set fixed 0 (fixed_cell reading)
   pub value_is : values' ≡ set values 0 (value reading)
 
+-- a reading stands in its cells at a place
+pub record ReadingPutAt (reading : Reading) (place : ℕ) (fixed : List ℕ) (values : List ℤ) (fixed' : List ℕ) (values' : List ℤ) : Type 0 where
+  pub fixed_is : fixed' ≡ set fixed place (fixed_cell reading)
+  pub value_is : values' ≡ set values place (value reading)
+
 -- firmness: whether the reading is fixed, its value, and place 0; or the place of the refusal alone
 abbrev pub judged_as : FirmnessCells → List ℤ → List ℕ → Flagged → Crossing FirmnessCells
 judged_as lent metrics decisions (Found flag) = record {

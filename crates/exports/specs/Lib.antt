@@ -8,3 +8,8 @@ pub mod Explaining
 pub mod Batches
 pub mod Sheeting
 pub mod Summaries
+pub mod Matrices
+pub mod Verdicts
+pub mod Weighing
+pub mod Sampling
+pub mod Reading

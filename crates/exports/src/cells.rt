@@ -1,9 +1,9 @@
 // What crosses the interface besides a plate: kinds, places, lengths of lines, answers.
-ghost use Rattle.std.specs.Prelude.{◌≡◌, ◌≤◌, length};
+ghost use Rattle.std.specs.Prelude.{◌≡◌, ◌<◌, ◌≤◌, length};
 ghost use Rattle.exports.specs.Batches.{BatchTested};
 ghost use Rattle.exports.specs.Calls.{RefusedAt};
 ghost use Rattle.exports.specs.Crossing.{AnswerPut, LengthPut, counts_put};
-ghost use Rattle.exports.specs.Judging.{FirmnessTested, FixedFits, ReadingPut};
+ghost use Rattle.exports.specs.Judging.{FirmnessTested, FixedFits, ReadingPut, ReadingPutAt};
 ghost use Rattle.exports.specs.Parting.{MeasurePut, PartTested, SelectionPut};
 ghost use Rattle.exports.specs.Promises.{ShapeTested, kind_of};
 
@@ -150,6 +150,25 @@ pub fn put_reading(flag: Flag, fixed: &mut [u64], value: &mut [i32])
         Reading::Open(margin) => {
             fixed[0] = 0;
             value[0] = margin;
+        }
+    }
+}
+
+// The same into the cells at a place.
+pub fn put_reading_at(flag: Flag, place: usize, fixed: &mut [u64], value: &mut [i32])
+    requires { (place < length fixed.old) × (place < length value.old) × FixedFits flag.reading }
+    ensures { ReadingPutAt flag.reading place fixed.old value.old fixed.new value.new }
+{
+    let reading = flag.reading;
+    match reading {
+        Reading::Fixed(bit) => {
+            let shown = bit as i32;
+            fixed[place] = 1;
+            value[place] = shown;
+        }
+        Reading::Open(margin) => {
+            fixed[place] = 0;
+            value[place] = margin;
         }
     }
 }

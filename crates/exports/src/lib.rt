@@ -11,10 +11,16 @@ use trellises::Next;
 
 mod cells;
 mod flat;
+mod matrices;
+mod reading;
 mod reasons;
 mod receiving;
+mod sampling;
 mod sheeting;
 mod summaries;
+mod tables;
+mod verdicts;
+mod weighing;
 
 // The reply where a run is too short for its fixed use, or the kind is neither G nor H.
 const MISSHAPEN: u64 = 101;

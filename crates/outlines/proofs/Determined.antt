@@ -21,7 +21,7 @@ one-opened which (refused q) a b x y = x ∙ sym y
 one-opened which (says sheet) a b x y =
     prepare-determined sheet.n (kind_as which sheet.kind) sheet.rows (mask_as which sheet.mask) a b x y
 
-once : {refusal : Refusal} {holds : Type 0} (p q : Refusal) → holds × (p ≡ refusal) → holds × (q ≡ refusal) → p ≡ q
+pub once : {refusal : Refusal} {holds : Type 0} (p q : Refusal) → holds × (p ≡ refusal) → holds × (q ≡ refusal) → p ≡ q
 once p q x y = x.1 ∙ sym y.1
 
 pub by-determined : (v : Verdict) (text room : List ℕ) {r s : Written} {a b : List ℕ} → WritesBy v text room r a → WritesBy v text room s b → Same r s a b

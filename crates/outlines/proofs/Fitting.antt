@@ -52,24 +52,33 @@ unfolding sheet_text
 sheet-length kind n word rows h k =
     simp length-append (omega (arith, k, cover-length kind n h, mask-length n word h, rows-length n rows h))
 
--- ---- a sheet put at the start of a room
+-- ---- a text put at the start of a room
 
-module _ (kind : Kind) (n word : ℕ) (rows : List ℕ) (h : n ≤ 64) (k : length rows ≤ 64) where
-  fits : 0 + length (sheet_text kind n word rows) < 18446744073709551616
-  fits = omega (arith, sheet-length kind n word rows h k)
+module _ (text : List ℕ) (short : length text ≤ 8192) where
+  fits : 0 + length text < 18446744073709551616
+  fits = omega (arith, short)
 
-  pub sheet-written : {room room' scratch scratch' : List ℕ} {size r : ℕ} → Puts scratch 0 (sheet_text kind n word rows) scratch' size → size ≤ length room
-      → Puts room 0 (sheet_text kind n word rows) room' r → WritesLine (sheet_text kind n word rows) room (Bytes size) room'
-  sheet-written {room} {size = size} m l p =
-      let text = sheet_text kind n word rows in
+  -- that was measured before
+  pub text-written : {room room' scratch scratch' : List ℕ} {size r : ℕ} → Puts scratch 0 text scratch' size → size ≤ length room
+      → Puts room 0 text room' r → WritesLine text room (Bytes size) room'
+  text-written {room} {size = size} m l p =
       let e : size ≡ length text = m.next fits ∙ omega arith in
       let z : 0 + length text ≡ length text = omega arith in
       let s : sets room 0 text ≡ text ++ drop (0 + length text) room = sets-eq text room 0 (omega (arith, e, l)) in
       rw (e, p.stands fits, s, z) (fits-room text room (omega (arith, e, l)))
 
+  pub text-too-long : {room scratch scratch' : List ℕ} {size : ℕ} → Puts scratch 0 text scratch' size → length room < size
+      → WritesLine text room (Refused R.LineRoom) room
+  text-too-long {room} m l = too_long text room (omega (arith, m.next fits, l))
+
+module _ (kind : Kind) (n word : ℕ) (rows : List ℕ) (h : n ≤ 64) (k : length rows ≤ 64) where
+  pub sheet-written : {room room' scratch scratch' : List ℕ} {size r : ℕ} → Puts scratch 0 (sheet_text kind n word rows) scratch' size → size ≤ length room
+      → Puts room 0 (sheet_text kind n word rows) room' r → WritesLine (sheet_text kind n word rows) room (Bytes size) room'
+  sheet-written = text-written (sheet_text kind n word rows) (sheet-length kind n word rows h k)
+
   pub sheet-too-long : {room scratch scratch' : List ℕ} {size : ℕ} → Puts scratch 0 (sheet_text kind n word rows) scratch' size → length room < size
       → WritesLine (sheet_text kind n word rows) room (Refused R.LineRoom) room
-  sheet-too-long {room} m l = too_long (sheet_text kind n word rows) room (omega (arith, m.next fits, l))
+  sheet-too-long = text-too-long (sheet_text kind n word rows) (sheet-length kind n word rows h k)
 
 -- ---- the rows of a prepared plate
 

@@ -27,7 +27,7 @@ pub prepared-as : {n mask mask' : ℕ} {kind kind' : Kind} {rows : List ℕ} {r 
     → Prepares n kind' rows mask' r
 prepared-as e f p = rw (← e, ← f) p
 
-no-sheet : {A : Type 0} {q : Refusal} {sheet : Sheet} → Read sheet ≡ Refused q → A
+pub no-sheet : {A : Type 0} {q : Refusal} {sheet : Sheet} → Read sheet ≡ Refused q → A
 no-sheet e = let z : ◌≡◌ {A = ℕ} 0 1 = cc in absurd (omega arith)
 
 module _ {input table : List ℕ} {reply : SheetReply} (s : ReadsSheet input zeros reply table) where

@@ -21,7 +21,7 @@ use Rattle.words.specs.Sum.{IsSum}
 use Rattle.words.specs.Word.{bit}
 
 -- the sum of two words of n positions has n
-xor_below : (n a b : ℕ) → a < 2 ^ n → b < 2 ^ n → bit_xor a b < 2 ^ n
+pub xor_below : (n a b : ℕ) → a < 2 ^ n → b < 2 ^ n → bit_xor a b < 2 ^ n
 xor_below n a b h k = below-bits n (bit_xor a b) (λ i l. bit-xor i a b ∙ ap₂ differ (bits_below n a h i l) (bits_below n b k i l))
 
 module _ (plate : Plate) (p : IsPrepared plate) where

@@ -3,3 +3,8 @@ pub mod Putting
 pub mod Opening
 pub mod Outline
 pub mod Words
+pub mod Comparing
+pub mod Searching
+pub mod AlistText
+pub mod WeightLines
+pub mod WeightOrder

@@ -62,7 +62,7 @@ fn refused(refusal: Refusal) -> Prepared
 }
 
 // What preparing replies to a sheet, whose rows stand at the start of the table.
-fn prepared_of(which: Which, sheet: Sheet, table: &[u64; 64]) -> Prepared
+pub fn prepared_of(which: Which, sheet: Sheet, table: &[u64; 64]) -> Prepared
     requires { sheet.rows ≤ length table.now }
     ensures { Prepares sheet.n (kind_as which sheet.kind) (take sheet.rows table.now) (mask_as which sheet.mask) result }
 {

@@ -24,7 +24,7 @@ fn put_byte(room: &mut [u8], at: usize, byte: u8) -> usize
 }
 
 // Some bytes.
-fn put(room: &mut [u8], at: usize, text: &[u8]) -> usize
+pub fn put(room: &mut [u8], at: usize, text: &[u8]) -> usize
     ensures { Puts room.old at text.now room.new result }
 {
     let mut next = at;
@@ -64,7 +64,7 @@ fn bit_character(word: u64, position: usize) -> u8
 }
 
 // The first n positions of a word, position 0 at the left.
-fn put_positions(room: &mut [u8], at: usize, word: u64, n: usize) -> usize
+pub fn put_positions(room: &mut [u8], at: usize, word: u64, n: usize) -> usize
     ensures { Puts room.old at (positions word 0 n) room.new result }
 {
     let mut next = at;

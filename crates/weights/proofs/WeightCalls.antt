@@ -26,7 +26,7 @@ use Rattle.weights.proofs.PlateWeights.{codeword-below, tally-fits, ways-number,
 use Rattle.weights.specs.declared.Counted.TheVariants.{Least, OnlyZero, Refused}
 use Rattle.weights.specs.Rooms.{FirstAbove, TestsRooms}
 use Rattle.weights.specs.Tallying.{Counted, TallyFits}
-use Rattle.weights.specs.Weights.{CountsWeights, Filled, LeastWeight, NumberOfWeight, OfWeight, weight_conditions, working_need}
+use Rattle.weights.specs.Weights.{CountsWeights, Filled, LeastWeight, NumberOfWeight, OfWeight, TellsNeed, weight_conditions, working_need}
 use Rattle.words.proofs.Ends.{some-pos}
 use Rattle.words.proofs.Sums.{in_row}
 use Rattle.words.specs.Ends.{firsts}
@@ -151,6 +151,9 @@ pub record Ready (plate : Plate) (half : ℕ) (counts working : List ℕ) : Type
   pub working_there : half + half ≤ length working
 
 module _ {plate : Plate} {p : Bool} (t : Tests plate p) where
+  pub need-none : p ≡ false → TellsNeed plate 0
+  need-none e = record { prepared_is = λ g. absurd (t.no_is e g); other_is = λ n. refl }
+
   pub unprepared : (counts working : List ℕ) → p ≡ false → CountsWeights plate counts working counts working (Refused NotPrepared)
   unprepared counts working e = refused-5 plate counts working (t.no_is e)
 
@@ -181,6 +184,9 @@ module _ {plate : Plate} {p : Bool} (t : Tests plate p) where
       pub need-fits : Fits w64 (half + half)
       need-fits = record { fits = omega (arith, widest-half, (plate-sizes-fit plate given).half_small) }
 
+      pub need-told : TellsNeed plate (half + half)
+      need-told = record { prepared_is = λ g. need-is; other_is = λ n. absurd (n given) }
+
       -- the rooms that were tested
       module _ (counts working : List ℕ) {short : Bool} (rooms : TestsRooms (length counts) (length working) (half + half) short)
           (not_whole : plate.k ≡ 64 → ⊥) where
@@ -195,6 +201,21 @@ module _ {plate : Plate} {p : Bool} (t : Tests plate p) where
           counts_there = (rooms.no_is e).0;
           working_there = (rooms.no_is e).1;
         }
+
+-- of a plate by value, whose profile was widened
+module _ {plate : Plate} {p : Bool} {profile : List ℕ} (t : Tests plate p) (e : p ≡ true) (w : profile ≡ plate.profile) where
+  pub long-by : plate.n < length profile
+  long-by = rw w (profile-long t e)
+
+  pub entries_by : ProfileFits profile plate.n
+  entries_by = rw w (entries-small t e)
+
+  module _ {half : ℕ} (h : half ≡ 2 ^ widest_entry profile plate.n * 65) where
+    pub need-fits-by : Fits w64 (half + half)
+    need-fits-by = need-fits t e (rw w at h)
+
+    pub need-told-by : TellsNeed plate (half + half)
+    need-told-by = need-told t e (rw w at h)
 
 module _ {plate : Plate} {half : ℕ} {counts working : List ℕ} (ready : Ready plate half counts working) where
   abbrev lent : List ℕ

@@ -4,15 +4,16 @@ use lib.ListN.{get_or, take}
 use lib.Seq.{ext_get_or}
 use mathlib.Core.List.{List}
 use mathlib.Core.Path.{ap, refl, sym, ◌∙◌, ◌≡◌}
-use native.Mathlib.Decide.{dec_lt}
+use native.Mathlib.Decide.{dec_lt, ℕ_discrete}
 use native.Mathlib.Omega.{arith}
 use Prim.Native.Nat.{◌<◌, ℕ}
 use Rattle.plates.proofs.Refusing.{Single, never_both, refuses-once}
 use Rattle.plates.specs.declared.Plate.{Plate}
+use Rattle.plates.specs.Prepare.{IsPrepared}
 use Rattle.weights.proofs.CountPairs.{number-once}
 use Rattle.weights.specs.declared.Counted.{Counted}
 use Rattle.weights.specs.declared.Counted.TheVariants.{Least, OnlyZero, Refused}
-use Rattle.weights.specs.Weights.{CountsWeights, Filled, LeastWeight, weight_conditions}
+use Rattle.weights.specs.Weights.{CountsWeights, Filled, LeastWeight, TellsNeed, weight_conditions}
 use Rattle.words.specs.Sum.{sum_of}
 
 -- where k is 0 the zero word is the only codeword, and no weight is above zero
@@ -25,6 +26,16 @@ none_above plate e w l = omega (arith, l.above, sym l.has.weight ∙ ap ones zer
 -- there is one smallest weight above zero
 pub least-once : (plate : Plate) (v w : ℕ) → LeastWeight plate v → LeastWeight plate w → v ≡ w
 least-once plate v w a b = omega (arith, a.smallest b.word w b.has b.above, b.smallest a.word v a.has a.above)
+
+-- a plate has one need
+pub working-need-determined : (plate : Plate) {r s : ℕ} → TellsNeed plate r → TellsNeed plate s → r ≡ s
+working-need-determined plate {r} {s} a b = go (ℕ_discrete r s)
+  where
+    go : Dec (r ≡ s) → r ≡ s
+    go (yes e) = e
+    go (no d) =
+        let n : IsPrepared plate → ⊥ = λ g. d (a.prepared_is g ∙ sym (b.prepared_is g)) in
+        absurd (d (a.other_is n ∙ sym (b.other_is n)))
 
 module _ (plate : Plate) (counts working : List ℕ) where
   single : Single (weight_conditions plate counts working)

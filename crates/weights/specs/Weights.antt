@@ -5,7 +5,7 @@ use Rattle.decoding.specs.Decode.{widest}
 use Rattle.plates.specs.declared.Plate.{Plate}
 use Rattle.plates.specs.declared.Refusal.{Refusal}
 use Rattle.plates.specs.declared.Refusal.TheVariants.{MetricRoom, WholeSpace}
-use Rattle.plates.specs.Prepare.{not_prepared, rows_of}
+use Rattle.plates.specs.Prepare.{IsPrepared, not_prepared, rows_of}
 use Rattle.plates.specs.Refusals.{Passes, Refuses}
 use Rattle.weights.specs.declared.Counted.{Counted}
 use Rattle.weights.specs.declared.Counted.TheVariants.{Least, OnlyZero, Refused}
@@ -33,6 +33,11 @@ pub record LeastWeight (plate : Plate) (w : ℕ) : Type 0 where
 -- how many numbers of working room are needed
 abbrev pub working_need : Plate → ℕ
 working_need plate = 130 * 2 ^ widest plate
+
+-- what `working_need` replies: so many for a prepared plate, and 0 for any other
+pub record TellsNeed (plate : Plate) (r : ℕ) : Type 0 where
+  pub prepared_is : IsPrepared plate → r ≡ working_need plate
+  pub other_is : (IsPrepared plate → ⊥) → r ≡ 0
 
 -- 22: k is 64
 abbrev pub whole_space : Plate → Refusal → Type 0

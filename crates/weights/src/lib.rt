@@ -2,7 +2,7 @@
 #![tactic(auto)]
 
 ghost use Rattle.plates.specs.Prepare.{of_parts};
-ghost use Rattle.weights.specs.Weights.{CountsWeights};
+ghost use Rattle.weights.specs.Weights.{CountsWeights, TellsNeed};
 
 use crate::rooms::{are_short, find_least, half_of};
 use crate::tallies::tally;
@@ -67,4 +67,17 @@ pub fn count_weights(plate: Plate, counts: &mut [u64], working: &mut [u64]) -> C
         counts,
         working,
     )
+}
+
+// How many numbers of working room the counting of a plate needs, and 0 for a plate that is not prepared.
+pub fn working_need(plate: Plate) -> usize
+    ensures { TellsNeed plate result }
+{
+    if !plates::is_prepared(plate) {
+        return 0;
+    }
+    let entries = plate.profile;
+    let profile = plates::widened(entries);
+    let half = half_of(plate.n, &profile);
+    half + half
 }
