@@ -1,6 +1,7 @@
 // Judging a supplier's trellis: whether the full paths of a listing of branches spell exactly a plate's words.
 #![tactic(auto)]
 
+ghost use Rattle.plates.specs.Prepare.{of_parts};
 ghost use Rattle.judging.specs.Judging.{Judges};
 
 use crate::lines::{count_lines, first_faulty, first_repeating};
@@ -39,10 +40,33 @@ pub struct Judgement {
 pub fn judge(plate: Plate, text: &[u8], room: &mut [u64]) -> Judgement
     ensures { Judges plate text.now room.old room.new result }
 {
-    if !plates::is_prepared(plate) {
+    let profile = plates::widened(plate.profile);
+    judge_parts(
+        plate.n,
+        plate.k,
+        plate.mask,
+        &plate.rows,
+        &profile,
+        text,
+        room,
+    )
+}
+
+// The same against the plate of some parts.
+pub fn judge_parts<'a>(
+    n: usize,
+    k: usize,
+    mask: u64,
+    rows: &'a [u64],
+    profile: &'a [u64],
+    text: &[u8],
+    room: &mut [u64],
+) -> Judgement
+    ensures { Judges (of_parts n k mask rows.now profile.now) text.now room.old room.new result }
+{
+    if !plates::parts_prepared(n, k, mask, rows, profile) {
         return without_surplus(Judged::Refused(Refusal::NotPrepared));
     }
-    let n = plate.n;
     let count = count_lines(text, n);
     if 1024 < count {
         return without_surplus(Judged::Refused(Refusal::TooManyLines));
@@ -60,7 +84,5 @@ pub fn judge(plate: Plate, text: &[u8], room: &mut [u64]) -> Judgement
     if room.len() < need {
         return without_surplus(Judged::Refused(Refusal::MetricRoom));
     }
-    let k = plate.k;
-    let rows = plate.rows;
-    judged(&rows[..k], plate.mask, n, text, count, &mut room[..need])
+    judged(&rows[..k], mask, n, text, count, &mut room[..need])
 }
