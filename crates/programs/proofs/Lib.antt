@@ -3,3 +3,4 @@ pub mod LinesPrinted
 pub mod RunEnds
 pub mod HandedOver
 pub mod TextsSaid
+pub mod SameSaid

@@ -2,3 +2,4 @@ pub mod Input
 pub mod Printing
 pub mod Ending
 pub mod Verbs
+pub mod Same

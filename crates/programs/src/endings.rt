@@ -31,6 +31,7 @@ fn say_place<E: Write>(errors: &mut E, number: u64, place: u64, field: u64) {
         3 => say_number(errors, b"row ", place),
         4 => say_number(errors, b"depth ", place),
         10 => say_number(errors, b"line ", place),
+        16 => say_alist_place(errors, place),
         17 => say_field(errors, place, field),
         18 => say_field(errors, place, field),
         19 => say_field(errors, place, field),
@@ -38,6 +39,15 @@ fn say_place<E: Write>(errors: &mut E, number: u64, place: u64, field: u64) {
         _ => return,
     }
     say(errors, b": ");
+}
+
+// A line of an alist text, or that there was no row to write.
+fn say_alist_place<E: Write>(errors: &mut E, line: u64) {
+    if line == 0 {
+        say(errors, b"no parity checks");
+        return;
+    }
+    say_number(errors, b"line ", line);
 }
 
 // A line and a field of it.
@@ -59,6 +69,7 @@ fn say_words<E: Write>(errors: &mut E, number: u64) {
         ),
         10 => say(errors, b"line missing or not ended"),
         15 => say(errors, b"input over 32,768 bytes"),
+        16 => say(errors, b"alist fault"),
         17 => say(errors, b"first field unknown or out of its turn"),
         18 => say(errors, b"wrong number of fields"),
         19 => say(errors, b"bad number, letter or order"),

@@ -5,6 +5,7 @@
 
 ghost use Rattle.programs.specs.Ending.{IsStatus};
 
+mod comparing;
 mod endings;
 mod listing;
 mod outlining;

@@ -1,10 +1,11 @@
-// The verbs of yendrufal: `yendrufal VERB FILE`. A verb is a case of `Verb`, its name in `verb_of`, and what it prints in `print_verb`.
+// The verbs of yendrufal: `yendrufal VERB FILE`. A verb is a case of `Verb`, its name in `verb_of`, and what it prints in `print_verb`; the verb of two files,
+// same, is `comparing`.
 ghost use Rattle.programs.specs.Ending.{IsStatus};
 ghost use Rattle.programs.specs.Input.{StandsFor};
 
 use crate::endings::Ending;
 use crate::writer::{Output, Text};
-use crate::{endings, listing, outlining, started, streams, weighing};
+use crate::{comparing, endings, listing, outlining, started, streams, weighing};
 use std::env::Env;
 use std::io::{Error, ErrorKind, Read, Write};
 use std::rt::Files;
@@ -17,11 +18,13 @@ enum Verb {
     Sheet,
     Dual,
     Weights,
+    Alist,
+    FromAlist,
     Unknown,
 }
 
 // Whether two texts are the same.
-fn same(text: &[u8], other: &[u8]) -> bool {
+pub fn same(text: &[u8], other: &[u8]) -> bool {
     if text.len() != other.len() {
         return false;
     }
@@ -49,6 +52,12 @@ fn verb_of(name: &[u8]) -> Verb {
     if same(name, b"weights") {
         return Verb::Weights;
     }
+    if same(name, b"alist") {
+        return Verb::Alist;
+    }
+    if same(name, b"from-alist") {
+        return Verb::FromAlist;
+    }
     Verb::Unknown
 }
 
@@ -61,11 +70,13 @@ fn print_verb<W: Write>(output: &mut Output<W>, verb: Verb, input: &[u8], ended:
         Verb::Sheet => outlining::print_text(output, Text::Sheet, input),
         Verb::Dual => outlining::print_text(output, Text::Dual, input),
         Verb::Weights => weighing::print_every(output, input),
+        Verb::Alist => outlining::print_text(output, Text::Alist, input),
+        Verb::FromAlist => outlining::print_text(output, Text::FromAlist, input),
         Verb::Unknown => Ending::Unwritten,
     }
 }
 
-// Runs a verb on what a reader gives, as far as one byte beyond the most that a sheet may have.
+// Runs a verb on what a reader gives, as far as one byte beyond the most that a sheet or an alist text may have.
 fn run_on<R: Read, W: Write + Drop, E: Write>(
     verb: Verb,
     from: &mut R,
@@ -93,7 +104,7 @@ fn run_on<R: Read, W: Write + Drop, E: Write>(
 }
 
 // Opens a file by its name, which std takes as text alone.
-fn open<F: Files>(files: &F, name: &[u8]) -> io::Result<F::File> {
+pub fn open<F: Files>(files: &F, name: &[u8]) -> io::Result<F::File> {
     match str::from_utf8(name) {
         Ok(path) => fs::open(files, path),
         Err(_) => Err(Error::new(ErrorKind::InvalidFilename, "File name is not UTF-8")),
@@ -140,11 +151,14 @@ fn run_verb<F: Env + Files, R: Read, W: Write + Drop, E: Write>(
     }
 }
 
-// The exit status where the arguments are not a verb and a file.
-fn usage<E: Write>(errors: &mut E) -> i32
+// The exit status where the arguments are not a verb and its files.
+pub fn usage<E: Write>(errors: &mut E) -> i32
     ensures { IsStatus result }
 {
-    endings::usage(errors, b"usage: yendrufal list|sheet|dual|weights FILE\n")
+    endings::usage(
+        errors,
+        b"usage: yendrufal list|sheet|dual|weights|alist|from-alist FILE\n       yendrufal same FILE FILE\n",
+    )
 }
 
 // The verb that the first argument names.
@@ -156,6 +170,46 @@ fn verb_given<R: Env>(rt: &R) -> Verb {
     }
 }
 
+// Whether the first argument names the verb of two files.
+fn same_given<R: Env>(rt: &R) -> bool {
+    let mut name = [0u8; 4096];
+    match rt.arg(1, &mut name) {
+        Ok(size) => same(&name[..size], b"same"),
+        Err(_) => false,
+    }
+}
+
+// Runs the verb that the first argument names, where two files follow it.
+fn run_two<F: Env + Files, R: Read, W: Write + Drop, E: Write>(
+    rt: &F,
+    from: &mut R,
+    to: W,
+    errors: &mut E,
+) -> i32
+    ensures { IsStatus result }
+{
+    if same_given(rt) {
+        return comparing::run(rt, from, to, errors);
+    }
+    usage(errors)
+}
+
+// Runs the verb that the first argument names, where a file follows it.
+fn run_one<F: Env + Files, R: Read, W: Write + Drop, E: Write>(
+    rt: &F,
+    from: &mut R,
+    to: W,
+    errors: &mut E,
+) -> i32
+    ensures { IsStatus result }
+{
+    let verb = verb_given(rt);
+    if let Verb::Unknown = verb {
+        return usage(errors);
+    }
+    run_verb(rt, verb, from, to, errors)
+}
+
 // Runs the verb that the first argument names.
 pub fn run<F: Env + Files, R: Read, W: Write + Drop, E: Write>(
     rt: &F,
@@ -165,12 +219,11 @@ pub fn run<F: Env + Files, R: Read, W: Write + Drop, E: Write>(
 ) -> i32
     ensures { IsStatus result }
 {
-    if !started::is_given(rt, 2) || started::is_given(rt, 3) {
+    if !started::is_given(rt, 2) || started::is_given(rt, 4) {
         return usage(errors);
     }
-    let verb = verb_given(rt);
-    if let Verb::Unknown = verb {
-        return usage(errors);
+    if started::is_given(rt, 3) {
+        return run_two(rt, from, to, errors);
     }
-    run_verb(rt, verb, from, to, errors)
+    run_one(rt, from, to, errors)
 }

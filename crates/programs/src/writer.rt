@@ -2,6 +2,7 @@
 ghost use Rattle.std.specs.Prelude.{take, true, OnOk, ◌≡◌};
 ghost use Rattle.std.specs.Io.KnownBytes.{Appends};
 ghost use Rattle.programs.specs.Printing.{Hands, IsLine};
+ghost use Rattle.programs.specs.Same.{IsTold};
 ghost use Rattle.programs.specs.Verbs.{IsText};
 ghost use Rattle.reports.specs.Report.{line_of_refusal};
 
@@ -9,11 +10,13 @@ use plates::Refusal;
 use std::io;
 use std::io::{Error, Write};
 
-// What a text that is handed over whole says of an input: its plate as a sheet, or the dual's.
+// What a text that is handed over whole says of an input: its plate as a sheet, or the dual's; its parity checks as alist text; an alist text as a sheet.
 #[derive(Clone, Copy)]
 pub enum Text {
     Sheet,
     Dual,
+    Alist,
+    FromAlist,
 }
 
 // Standard output, and why it did not take what it was given.
@@ -135,6 +138,23 @@ pub fn hand_text<W: Write>(
     size: usize,
 ) -> Handed
     requires { IsText what input.now (take size room.now) }
+    ensures counted { Hands sent result }
+    ensures written { result.taken ≡ true → Appends (W.contents output.old.to) (W.contents output.new.to) (take size room.now) }
+{
+    hand(output, sent, room, size)
+}
+
+// Hands over a line about two inputs: it asks for what is told of them.
+pub fn hand_told<W: Write>(
+    output: &mut Output<W>,
+    sent: Sent,
+    same: bool,
+    first: &[u8],
+    second: &[u8],
+    room: &[u8],
+    size: usize,
+) -> Handed
+    requires { IsTold same first.now second.now (take size room.now) }
     ensures counted { Hands sent result }
     ensures written { result.taken ≡ true → Appends (W.contents output.old.to) (W.contents output.new.to) (take size room.now) }
 {
