@@ -4,3 +4,4 @@ pub mod RunEnds
 pub mod HandedOver
 pub mod TextsSaid
 pub mod SameSaid
+pub mod WeightsSaid

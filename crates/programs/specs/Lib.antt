@@ -3,3 +3,4 @@ pub mod Printing
 pub mod Ending
 pub mod Verbs
 pub mod Same
+pub mod Weighing

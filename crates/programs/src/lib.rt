@@ -13,6 +13,7 @@ mod refusing;
 mod started;
 mod streams;
 mod verbs;
+mod weighed;
 mod weighing;
 mod writer;
 

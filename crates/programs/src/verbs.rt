@@ -5,7 +5,7 @@ ghost use Rattle.programs.specs.Input.{StandsFor};
 
 use crate::endings::Ending;
 use crate::writer::{Output, Text};
-use crate::{comparing, endings, listing, outlining, started, streams, weighing};
+use crate::{comparing, endings, listing, outlining, started, streams, weighed};
 use std::env::Env;
 use std::io::{Error, ErrorKind, Read, Write};
 use std::rt::Files;
@@ -69,7 +69,7 @@ fn print_verb<W: Write>(output: &mut Output<W>, verb: Verb, input: &[u8], ended:
         Verb::List => listing::print_listing(output, input, ended),
         Verb::Sheet => outlining::print_text(output, Text::Sheet, input),
         Verb::Dual => outlining::print_text(output, Text::Dual, input),
-        Verb::Weights => weighing::print_every(output, input),
+        Verb::Weights => weighed::print_every(output, input),
         Verb::Alist => outlining::print_text(output, Text::Alist, input),
         Verb::FromAlist => outlining::print_text(output, Text::FromAlist, input),
         Verb::Unknown => Ending::Unwritten,

@@ -1,6 +1,7 @@
 // Lines handed to standard output. Nothing else writes there. A count of lines is made here alone, so that it counts lines that were taken.
 ghost use Rattle.std.specs.Prelude.{take, true, OnOk, ◌≡◌};
 ghost use Rattle.std.specs.Io.KnownBytes.{Appends};
+ghost use Rattle.outlines.specs.WeightLines.{PrintsWeights};
 ghost use Rattle.programs.specs.Printing.{Hands, IsLine};
 ghost use Rattle.programs.specs.Same.{IsTold};
 ghost use Rattle.programs.specs.Verbs.{IsText};
@@ -122,6 +123,21 @@ pub fn hand_weighed<W: Write>(
     room: &[u8],
     size: usize,
 ) -> Handed
+    ensures counted { Hands sent result }
+    ensures written { result.taken ≡ true → Appends (W.contents output.old.to) (W.contents output.new.to) (take size room.now) }
+{
+    hand(output, sent, room, size)
+}
+
+// Hands over the weights of an input's plate whole: it asks for the text that the input is to print.
+pub fn hand_weights<W: Write>(
+    output: &mut Output<W>,
+    sent: Sent,
+    input: &[u8],
+    room: &[u8],
+    size: usize,
+) -> Handed
+    requires { PrintsWeights input.now (take size room.now) }
     ensures counted { Hands sent result }
     ensures written { result.taken ≡ true → Appends (W.contents output.old.to) (W.contents output.new.to) (take size room.now) }
 {
