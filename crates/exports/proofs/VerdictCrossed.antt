@@ -7,7 +7,7 @@ use Prim.Native.Nat.{ℕ}
 use Rattle.exports.specs.Calls.{Crossing, RefusedAt, done}
 use Rattle.exports.specs.Flat.{plate_of}
 use Rattle.exports.specs.Verdicts.{CallsJudge, JudgementPut, VerdictCells, VerdictReply, VerdictShape}
-use Rattle.exports.specs.Verdicts.{VerdictTo, verdict_as, verdict_cells, verdict_of, verdict_told}
+use Rattle.exports.specs.Verdicts.{VerdictTo, verdict_as, verdict_cells, judged_verdict, verdict_told}
 use Rattle.plates.specs.declared.Refusal.{Refusal}
 use Rattle.plates.specs.declared.Verdict.TheVariants.{Accepted, Refused}
 
@@ -19,7 +19,7 @@ module _ (text : List ℕ) (lent : VerdictCells) (x : VerdictReply) (words : Lis
   crossed e = record { by_shape = inr (shape, record { reply = x; promised = judges; crosses = e }) }
 
   -- the judgement is in its cells
-  pub judge-told : {verdict' states' branches' : List ℕ} → verdict_of x.reply.verdict ≡ Accepted
+  pub judge-told : {verdict' states' branches' : List ℕ} → judged_verdict x.reply.verdict ≡ Accepted
       → JudgementPut x.reply lent.verdict lent.states lent.branches verdict' states' branches'
       → CallsJudge words text lent done (verdict_cells x.room verdict' states' branches' (set lent.at 0 0))
   judge-told {verdict'} e laid =
@@ -32,7 +32,7 @@ module _ (text : List ℕ) (lent : VerdictCells) (x : VerdictReply) (words : Lis
       ∙ sym (ap (verdict_as lent x.room x.reply) e))
 
   -- the place is in its cell
-  pub judge-refused : {q : Refusal} {r : ℕ} {at' : List ℕ} → verdict_of x.reply.verdict ≡ Refused q → RefusedAt q lent.at r at'
+  pub judge-refused : {q : Refusal} {r : ℕ} {at' : List ℕ} → judged_verdict x.reply.verdict ≡ Refused q → RefusedAt q lent.at r at'
       → CallsJudge words text lent r (verdict_cells x.room lent.verdict lent.states lent.branches at')
   judge-refused e f =
       crossed

@@ -31,11 +31,11 @@ verdict_number (J.NotSpelled w) = 2
 verdict_number (J.Refused q) = 0
 
 -- whether it judged, or is a refusal
-abbrev pub verdict_of : Judged → Verdict
-verdict_of J.Right = Accepted
-verdict_of (J.SpelledWrongly w) = Accepted
-verdict_of (J.NotSpelled w) = Accepted
-verdict_of (J.Refused q) = Refused q
+abbrev pub judged_verdict : Judged → Verdict
+judged_verdict J.Right = Accepted
+judged_verdict (J.SpelledWrongly w) = Accepted
+judged_verdict (J.NotSpelled w) = Accepted
+judged_verdict (J.Refused q) = Refused q
 
 -- the number and the word that is shown stand in the first two cells
 abbrev pub verdict_put : List ℕ → Judged → List ℕ
@@ -63,7 +63,7 @@ verdict_as lent room j (Refused q) =
     record { code = number q; cells = verdict_cells room lent.verdict lent.states lent.branches (set lent.at 0 (place q)) }
 
 abbrev pub verdict_told : VerdictCells → VerdictReply → Crossing VerdictCells
-verdict_told lent x = verdict_as lent x.room x.reply (verdict_of x.reply.verdict)
+verdict_told lent x = verdict_as lent x.room x.reply (judged_verdict x.reply.verdict)
 
 -- how long the plate's run, the cells of the verdict, of the surplus and that of the place must be
 abbrev pub VerdictShape : ℕ → ℕ → ℕ → ℕ → ℕ → Type 0

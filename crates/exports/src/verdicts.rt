@@ -1,6 +1,6 @@
 // A listing of branches judged against a plate, over the C interface.
 ghost use Rattle.std.specs.Prelude.{◌≡◌, ◌≤◌, length};
-ghost use Rattle.exports.specs.Verdicts.{CallsJudge, JudgementPut, VerdictTested, verdict_cells, verdict_number, verdict_of};
+ghost use Rattle.exports.specs.Verdicts.{CallsJudge, JudgementPut, VerdictTested, verdict_cells, verdict_number, judged_verdict};
 ghost use Rattle.judging.specs.Judging.{shown};
 
 use crate::tables::put_table;
@@ -53,7 +53,7 @@ fn word_of(verdict: Judged) -> u64
 
 // Whether the listing was judged, or why not.
 fn refused_by(verdict: Judged) -> Verdict
-    ensures { result ≡ verdict_of verdict }
+    ensures { result ≡ judged_verdict verdict }
 {
     match verdict {
         Judged::Right => Verdict::Accepted,

@@ -30,8 +30,8 @@ use Rattle.programs.specs.declared.writer.Sent.{Sent}
 use Rattle.outlines.specs.declared.opening.Which.TheVariants.{Own}
 use Rattle.programs.specs.Ending.{IsStatus, status_of}
 use Rattle.programs.specs.Printing.{Hands}
-use Rattle.programs.specs.Same.{IsAccepted, IsTold, SaysSame, is_same, outcome_status, told_status}
-use Rattle.programs.specs.Verbs.{PlateRefused, RefusedEnding}
+use Rattle.programs.specs.Same.{IsAccepted, IsTold, PlateRefused, SaysSame, is_same, outcome_status, told_status}
+use Rattle.programs.specs.Verbs.{RefusedEnding}
 use Rattle.programs.proofs.TextsSaid.{line-there, one_line}
 
 -- ---- what the reply says of the line

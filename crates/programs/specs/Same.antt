@@ -3,6 +3,7 @@ use Rattle.std.specs.Prelude.{pos, ℤ, Bool, false, true, List, ◌≡◌, ℕ}
 use Rattle.outlines.specs.Comparing.{PrintsTold}
 use Rattle.outlines.specs.declared.comparing.Told.{Told}
 use Rattle.outlines.specs.declared.comparing.Told.TheVariants.{First, Lengths, Mirrored, Same, Second}
+use Rattle.outlines.specs.declared.opening.Which.{Which}
 use Rattle.outlines.specs.declared.opening.Which.TheVariants.{Own}
 use Rattle.outlines.specs.Opening.{Opened}
 use Rattle.plates.specs.declared.Prepared.{Prepared}
@@ -11,7 +12,7 @@ use Rattle.plates.specs.declared.Verdict.TheVariants as J
 use Rattle.programs.specs.declared.comparing.Outcome.{Outcome}
 use Rattle.programs.specs.declared.comparing.Outcome.TheVariants as O
 use Rattle.programs.specs.Ending.{status_of}
-use Rattle.programs.specs.Verbs.{PlateRefused, RefusedEnding}
+use Rattle.programs.specs.Verbs.{RefusedEnding}
 
 -- whether same is told
 abbrev pub is_same : Told → Bool
@@ -26,6 +27,12 @@ pub record IsTold (same : Bool) (first second text : List ℕ) : Type 0 where
   pub told : Told
   pub prints : PrintsTold first second text told
   pub is : same ≡ is_same told
+
+-- the input or its matrix, or that of its dual, is refused
+pub record PlateRefused (which : Which) (input : List ℕ) (q : Refusal) : Type 0 where
+  pub prepared : Prepared
+  pub opened : Opened which input prepared
+  pub refused : prepared.verdict ≡ J.Refused q
 
 -- an input that is not refused
 pub record IsAccepted (input : List ℕ) : Type 0 where

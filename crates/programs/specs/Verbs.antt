@@ -1,7 +1,6 @@
 -- What the verbs of yendrufal print that hand over one text, and how they end.
 use Rattle.std.specs.Prelude.{List, ◌≡◌, ℕ}
 use Rattle.listings.specs.declared.Written.{Written}
-use Rattle.outlines.specs.AlistText.{LacksAlist, PrintsAlist, PrintsFromAlist, WritesAlistOf, WritesFromAlist, matrix_in, not_given}
 use Rattle.outlines.specs.declared.opening.Which.{Which}
 use Rattle.outlines.specs.declared.opening.Which.TheVariants as W
 use Rattle.outlines.specs.Opening.{Opened}
@@ -13,43 +12,26 @@ use Rattle.plates.specs.declared.Verdict.TheVariants as J
 use Rattle.programs.specs.declared.endings.Ending.{Ending}
 use Rattle.programs.specs.declared.endings.Ending.TheVariants.{Listed, Refused, Unwritten}
 use Rattle.programs.specs.declared.writer.Text.{Text}
-use Rattle.programs.specs.declared.writer.Text.TheVariants.{Alist, Dual, FromAlist, Sheet}
+use Rattle.programs.specs.declared.writer.Text.TheVariants.{Dual, Sheet}
+
+-- whose plate a text is of
+abbrev pub which_of : Text → Which
+which_of Sheet = W.Own
+which_of Dual = W.Dual
 
 -- the text that an input is to print
-abbrev pub IsTextAs : Text → List ℕ → List ℕ → Type 0
-IsTextAs Sheet = PrintsSheet W.Own
-IsTextAs Dual = PrintsSheet W.Dual
-IsTextAs Alist = PrintsAlist
-IsTextAs FromAlist = PrintsFromAlist
-
 pub record IsText (what : Text) (input text : List ℕ) : Type 0 where
-  pub is : IsTextAs what input text
+  pub is : PrintsSheet (which_of what) input text
 
 -- the promise of the call that writes it
-abbrev pub WritesTextAs : Text → List ℕ → List ℕ → Written → List ℕ → Type 0
-WritesTextAs Sheet = WritesPlateSheet W.Own
-WritesTextAs Dual = WritesPlateSheet W.Dual
-WritesTextAs Alist = WritesAlistOf
-WritesTextAs FromAlist = WritesFromAlist
-
 pub record WritesText (what : Text) (input room : List ℕ) (r : Written) (room' : List ℕ) : Type 0 where
-  pub is : WritesTextAs what input room r room'
+  pub is : WritesPlateSheet (which_of what) input room r room'
 
--- the input or its matrix, or that of its dual, is refused
-pub record PlateRefused (which : Which) (input : List ℕ) (q : Refusal) : Type 0 where
-  pub prepared : Prepared
-  pub opened : Opened which input prepared
-  pub refused : prepared.verdict ≡ J.Refused q
-
--- why there is no such text
-abbrev pub IsRefusedAs : Text → List ℕ → Refusal → Type 0
-IsRefusedAs Sheet input q = PlateRefused W.Own input q
-IsRefusedAs Dual input q = PlateRefused W.Dual input q
-IsRefusedAs Alist input q = LacksAlist input q
-IsRefusedAs FromAlist input q = matrix_in input ≡ not_given q
-
+-- the input or its matrix is refused
 pub record IsRefused (what : Text) (input : List ℕ) (q : Refusal) : Type 0 where
-  pub is : IsRefusedAs what input q
+  pub prepared : Prepared
+  pub opened : Opened (which_of what) input prepared
+  pub refused : prepared.verdict ≡ J.Refused q
 
 -- all of the text was taken at once; or the line of the input's refusal was; or not all was taken
 abbrev pub SaysAs : Text → List ℕ → Ending → Type 0

@@ -5,6 +5,7 @@
 
 ghost use Rattle.programs.specs.Ending.{IsStatus};
 
+mod checks;
 mod comparing;
 mod endings;
 mod listing;

@@ -15,8 +15,6 @@ fn write_text(what: Text, input: &[u8], room: &mut [u8]) -> Written
     match what {
         Text::Sheet => outlines::write_sheet(input, room),
         Text::Dual => outlines::write_dual(input, room),
-        Text::Alist => outlines::checks::write_alist(input, room),
-        Text::FromAlist => outlines::checks::write_from_alist(input, room),
     }
 }
 
@@ -43,7 +41,7 @@ fn hand_over<W: Write>(
 pub fn print_text<W: Write>(output: &mut Output<W>, what: Text, input: &[u8]) -> Ending
     ensures { Says what input.now result }
 {
-    let mut room = [0; 32768];
+    let mut room = [0; 8192];
     let written = write_text(what, input, &mut room);
     match written {
         Written::Bytes(size) => hand_over(output, what, input, &room, size),

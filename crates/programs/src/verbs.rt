@@ -4,8 +4,8 @@ ghost use Rattle.programs.specs.Ending.{IsStatus};
 ghost use Rattle.programs.specs.Input.{StandsFor};
 
 use crate::endings::Ending;
-use crate::writer::{Output, Text};
-use crate::{comparing, endings, listing, outlining, started, streams, weighed};
+use crate::writer::{Checks, Output, Text};
+use crate::{checks, comparing, endings, listing, outlining, started, streams, weighed};
 use std::env::Env;
 use std::io::{Error, ErrorKind, Read, Write};
 use std::rt::Files;
@@ -70,8 +70,8 @@ fn print_verb<W: Write>(output: &mut Output<W>, verb: Verb, input: &[u8], ended:
         Verb::Sheet => outlining::print_text(output, Text::Sheet, input),
         Verb::Dual => outlining::print_text(output, Text::Dual, input),
         Verb::Weights => weighed::print_every(output, input),
-        Verb::Alist => outlining::print_text(output, Text::Alist, input),
-        Verb::FromAlist => outlining::print_text(output, Text::FromAlist, input),
+        Verb::Alist => checks::print_checks(output, Checks::Alist, input),
+        Verb::FromAlist => checks::print_checks(output, Checks::FromAlist, input),
         Verb::Unknown => Ending::Unwritten,
     }
 }

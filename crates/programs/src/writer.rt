@@ -2,6 +2,7 @@
 ghost use Rattle.std.specs.Prelude.{take, true, OnOk, ◌≡◌};
 ghost use Rattle.std.specs.Io.KnownBytes.{Appends};
 ghost use Rattle.outlines.specs.WeightLines.{PrintsWeights};
+ghost use Rattle.programs.specs.Checks.{IsChecks};
 ghost use Rattle.programs.specs.Printing.{Hands, IsLine};
 ghost use Rattle.programs.specs.Same.{IsTold};
 ghost use Rattle.programs.specs.Verbs.{IsText};
@@ -11,11 +12,16 @@ use plates::Refusal;
 use std::io;
 use std::io::{Error, Write};
 
-// What a text that is handed over whole says of an input: its plate as a sheet, or the dual's; its parity checks as alist text; an alist text as a sheet.
+// What a text that is handed over whole says of an input: its plate as a sheet, or the dual's.
 #[derive(Clone, Copy)]
 pub enum Text {
     Sheet,
     Dual,
+}
+
+// What a text of parity checks says of an input: its plate's checks as alist text, or an alist text's as a sheet.
+#[derive(Clone, Copy)]
+pub enum Checks {
     Alist,
     FromAlist,
 }
@@ -154,6 +160,22 @@ pub fn hand_text<W: Write>(
     size: usize,
 ) -> Handed
     requires { IsText what input.now (take size room.now) }
+    ensures counted { Hands sent result }
+    ensures written { result.taken ≡ true → Appends (W.contents output.old.to) (W.contents output.new.to) (take size room.now) }
+{
+    hand(output, sent, room, size)
+}
+
+// Hands over a text of parity checks whole: it asks for what the input is to print.
+pub fn hand_checks<W: Write>(
+    output: &mut Output<W>,
+    sent: Sent,
+    what: Checks,
+    input: &[u8],
+    room: &[u8],
+    size: usize,
+) -> Handed
+    requires { IsChecks what input.now (take size room.now) }
     ensures counted { Hands sent result }
     ensures written { result.taken ≡ true → Appends (W.contents output.old.to) (W.contents output.new.to) (take size room.now) }
 {

@@ -1,5 +1,5 @@
 -- `outlining::write_text` meets its contract.
-use Rattle.programs.proofs.TextsSaid.{alist-text, dual-text, from-alist-text, sheet-text}
+use Rattle.programs.proofs.TextsSaid.{dual-text, sheet-text}
 use Rattle.programs.proofs.outlining.write_text.Goals as goal
 
 pub returns-in-Sheet : goal.returns-in-Sheet
@@ -7,9 +7,3 @@ returns-in-Sheet c = search sheet-text
 
 pub returns-in-Dual : goal.returns-in-Dual
 returns-in-Dual c = search dual-text
-
-pub returns-in-Alist : goal.returns-in-Alist
-returns-in-Alist c = search alist-text
-
-pub returns-in-FromAlist : goal.returns-in-FromAlist
-returns-in-FromAlist c = search from-alist-text
