@@ -2,7 +2,8 @@
 import pathlib
 import re
 
-FUNCTION = re.compile(r"^(?:pub )?(?:extern \"C\" )?fn (\w+)")
+FUNCTION = re.compile(r"^( *)(?:pub )?(?:extern \"C\" )?fn (\w+)")
+METHODS = re.compile(r"^impl(?:<.*?>)? (?:.* for )?(\w+)")
 
 
 class BadEdit(Exception):
@@ -52,17 +53,21 @@ class Edit:
 
 
 def functions_of(file, text):
-    """The functions of a file of src/: name as under proofs/, where its text begins, where its body begins and ends."""
+    """The functions of a file of src/: name as under proofs/ (a method's has its type before it), where its text begins, where its body begins and ends."""
     module = pathlib.Path(file).stem
     module = "" if module in ("lib", "main") else module + "/"
-    at, name, begin, body = 0, None, 0, None
+    at, name, begin, body, owner, margin = 0, None, 0, None, "", ""
     for line in text.split("\n"):
+        if not line.startswith((" ", "}")) and line:
+            methods = METHODS.match(line)
+            owner = methods.group(1) + "/" if methods else ""
         head = FUNCTION.match(line)
         if head:
-            name, begin, body = module + head.group(1), at, None
-        if name and body is None and (line == "{" or (line.endswith("{") and not line.startswith(" "))):
+            margin = head.group(1)
+            name, begin, body = module + (owner if margin else "") + head.group(2), at, None
+        if name and body is None and (line == margin + "{" or (line.endswith("{") and not line.startswith(margin + " "))):
             body = at + len(line)
-        elif name and body is not None and line == "}":
+        elif name and body is not None and line == margin + "}":
             yield name, begin, body, at
             name = None
         at += len(line) + 1
