@@ -8,3 +8,4 @@ pub mod Steps
 pub mod Choice
 pub mod Pigeonhole
 pub mod Masks
+pub mod Reversing

@@ -5,3 +5,4 @@ pub mod Span
 pub mod Ends
 pub mod Choice
 pub mod Letters
+pub mod Reversed
