@@ -14,7 +14,7 @@ use Rattle.plates.proofs.TableFilled.{units-words}
 use Rattle.plates.specs.declared.Kind.{Kind}
 use Rattle.plates.specs.declared.Kind.TheVariants.{H}
 use Rattle.plates.specs.Filling.{Filled, Holds, Passing, PassingOne, unit}
-use Rattle.plates.specs.Working.{FirstWhere, Gained, GainedRow, Odd, Table}
+use Rattle.plates.specs.Working.{FirstAt, Gained, GainedRow, NoneIn, Odd, Table}
 use Rattle.words.proofs.Parity.{parity-comm, parity-xor, parity-zero}
 use Rattle.words.proofs.Span.{lt-tri}
 use Rattle.words.proofs.Sums.{in_row, in-xor}
@@ -23,15 +23,15 @@ use Rattle.words.specs.Parity.{parity}
 use Rattle.words.specs.Sum.{IsSum}
 
 -- no row is odd: all sums pass
-pub check-none : {t : List ℕ} {n check r : ℕ} → Table t n n → FirstWhere t (Odd check) 0 n r → n ≤ r → PassingOne t t n check
-check-none {t} {n} {check} {r} s f h = record { table = s; words = λ w. ((λ g. (g, parity-all check t (λ j l. even j (dec_lt j n)) w g)), λ p. p.0) }
+pub check-none : {t : List ℕ} {n check : ℕ} → Table t n n → NoneIn t (Odd check) 0 n → PassingOne t t n check
+check-none {t} {n} {check} s f = record { table = s; words = λ w. ((λ g. (g, parity-all check t (λ j l. even j (dec_lt j n)) w g)), λ p. p.0) }
   where
     even : (j : ℕ) → Dec (j < n) → parity check (get_or t j 0) ≡ 0
-    even j (yes l) = not-odd (f.none j zero-le (omega arith))
+    even j (yes l) = not-odd (f j zero-le l)
     even j (no l) = ap (parity check) (s.unused j (omega arith)) ∙ parity-zero check
 
 -- row p is odd, the later odd rows gain it, and it is put to zero
-module _ {t u v : List ℕ} {n check p : ℕ} (s : Table t n n) (f : FirstWhere t (Odd check) 0 n p) (h : p < n)
+module _ {t u v : List ℕ} {n check p : ℕ} (s : Table t n n) (f : FirstAt t (Odd check) 0 n p)
     (g : Gained t u (Odd check) (p + 1) n p) (e : v ≡ set u p 0) where
   -- a row is even and stays, or is odd and gains row p: so it is with row p itself
   abbrev Row : ℕ → Type 0
@@ -41,7 +41,7 @@ module _ {t u v : List ℕ} {n check p : ℕ} (s : Table t n n) (f : FirstWhere 
   other m d = ap (λ (x : List ℕ). get_or x m 0) e ∙ get_or-set_other u p m 0 0 d
 
   row-p : Row p
-  row-p = inr ((f.here h).odd, ap (λ (x : List ℕ). get_or x p 0) e ∙ get_or-set_same u p 0 0 (omega (arith, g.size, s.size, s.few)) ∙ sym (xor_self (get_or t p 0)))
+  row-p = inr (f.here.odd, ap (λ (x : List ℕ). get_or x p 0) e ∙ get_or-set_same u p 0 0 (omega (arith, g.size, s.size, s.few)) ∙ sym (xor_self (get_or t p 0)))
 
   row : (m : ℕ) → Row m
   row m = go (lt-tri m p) (dec_lt m n)
@@ -65,7 +65,7 @@ module _ {t u v : List ℕ} {n check p : ℕ} (s : Table t n n) (f : FirstWhere 
   even m (inl q) = ap (parity check) q.1 ∙ q.0
   even m (inr q) =
       ap (parity check) q.1 ∙ parity-comm check (bit_xor (get_or t m 0) (get_or t p 0)) ∙ parity-xor (get_or t m 0) (get_or t p 0) check
-      ∙ ap₂ differ (parity-comm (get_or t m 0) check ∙ q.0) (parity-comm (get_or t p 0) check ∙ (f.here h).odd)
+      ∙ ap₂ differ (parity-comm (get_or t m 0) check ∙ q.0) (parity-comm (get_or t p 0) check ∙ f.here.odd)
 
   back : (m : ℕ) → Row m → IsSum v (get_or t m 0) ⊎ IsSum v (bit_xor (get_or t p 0) (get_or t m 0))
   back m (inl q) = inl (subst (IsSum v) q.1 (in_row v m))
@@ -84,7 +84,7 @@ module _ {t u v : List ℕ} {n check p : ℕ} (s : Table t n n) (f : FirstWhere 
       narrow = λ m. narrow m (row m);
       unused = λ m l. other m (λ z. omega arith) ∙ g.others m (inr l) ∙ s.unused m l;
     };
-    words = one-check check t v (get_or t p 0) (in_row t p) (f.here h).odd (λ m l. from m (row m)) (λ m l. even m (row m)) (λ m l. back m (row m));
+    words = one-check check t v (get_or t p 0) (in_row t p) f.here.odd (λ m l. from m (row m)) (λ m l. even m (row m)) (λ m l. back m (row m));
   }
 
 -- ---- one check after the other

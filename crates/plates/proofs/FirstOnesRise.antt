@@ -11,7 +11,7 @@ use native.Mathlib.Omega.{arith}
 use Prim.Native.Nat.{◌+◌, ◌<◌, ◌^◌, zero-le, ℕ, ◌≤◌}
 use Rattle.plates.proofs.Gaining.{narrow-same, not-odd, same_of, same_refl, same-trans}
 use Rattle.plates.specs.Reducing.{BasisFrom, Echelon, EchelonFrom}
-use Rattle.plates.specs.Working.{FirstWhere, Gained, GainedRow, Odd, SameSums, Table}
+use Rattle.plates.specs.Working.{FirstAt, Gained, GainedRow, NoneIn, Odd, SameSums, Table}
 use Rattle.words.proofs.Ends.{first-at}
 use Rattle.words.proofs.Parity.{parity-power}
 use Rattle.words.proofs.Rows.{same-swap, swap-i, swap-other, swap-rows}
@@ -38,8 +38,8 @@ one_more w c h e q l = go (ℕ_discrete q c)
     go (no d) = h q (omega arith)
 
 -- no row has a one in the column
-pub column-none : {t : List ℕ} {used k c m r : ℕ} → m ≡ 2 ^ c → Echelon t used k c → FirstWhere t (Odd m) k used r → used ≤ r → EchelonFrom t t used k (c + 1)
-column-none {t} {used} {k} {c} {m} e s f h = record {
+pub column-none : {t : List ℕ} {used k c m : ℕ} → m ≡ 2 ^ c → Echelon t used k c → NoneIn t (Odd m) k used → EchelonFrom t t used k (c + 1)
+column-none {t} {used} {k} {c} {m} e s f = record {
   same = same_refl;
   shape = record {
     table = s.table;
@@ -52,23 +52,23 @@ column-none {t} {used} {k} {c} {m} e s f h = record {
 }
   where
     at : (i : ℕ) → k ≤ i → Dec (i < used) → bit (get_or t i 0) c ≡ 0
-    at i l (yes g) = none-there c e (f.none i l (omega arith))
+    at i l (yes g) = none-there c e (f i l g)
     at i l (no g) = ap (λ (x : ℕ). bit x c) (s.table.unused i (omega arith)) ∙ bit-zero c
 
 -- row p has one: it becomes row k, and the later rows lose theirs
-module _ {t v : List ℕ} {used k c m p : ℕ} (e : m ≡ 2 ^ c) (s : Echelon t used k c) (f : FirstWhere t (Odd m) k used p) (h : p < used)
+module _ {t v : List ℕ} {used k c m p : ℕ} (e : m ≡ 2 ^ c) (s : Echelon t used k c) (f : FirstAt t (Odd m) k used p)
     (ev : v ≡ swap_rows t k p) where
   in-k : k < length t
-  in-k = omega (arith, f.past, s.table.size, s.table.few)
+  in-k = omega (arith, f.past, f.within, s.table.size, s.table.few)
 
   in_p : p < length t
-  in_p = omega (arith, s.table.size, s.table.few)
+  in_p = omega (arith, f.within, s.table.size, s.table.few)
 
   swapped-size : length v ≡ 64
   swapped-size = ap length ev ∙ length-set (set t k (get_or t p 0)) p (get_or t k 0) ∙ length-set t k (get_or t p 0) ∙ s.table.size
 
   pub pivot-ready : (k < used) × ((used ≤ 64) × (length v ≡ 64))
-  pivot-ready = (omega (arith, f.past), (s.table.few, swapped-size))
+  pivot-ready = (omega (arith, f.past, f.within), (s.table.few, swapped-size))
 
   swapped-k : get_or v k 0 ≡ get_or t p 0
   swapped-k = ap (λ (x : List ℕ). get_or x k 0) ev ∙ swap-i t k p in-k in_p
@@ -86,13 +86,13 @@ module _ {t v : List ℕ} {used k c m p : ℕ} (e : m ≡ 2 ^ c) (s : Echelon t 
     same = same-trans (subst (SameSums t) (sym ev) (same_of (same-swap t k p in-k in_p))) g.same
 
     old : (i : ℕ) → i < k → get_or u i 0 ≡ get_or t i 0
-    old i l = g.others i (inl (omega arith)) ∙ swapped_other i (λ q. omega arith) (λ q. omega (arith, f.past))
+    old i l = g.others i (inl (omega arith)) ∙ swapped_other i (λ q. omega arith) (λ q. omega (arith, f.past, f.within))
 
     narrow : (j : ℕ) → get_or u j 0 < 2 ^ 64
     narrow = narrow-same 64 s.table.narrow same
 
     new-first : First (get_or u k 0) c
-    new-first = subst (λ (x : ℕ). First x c) (sym (g.others k (inl (omega arith)) ∙ swapped-k)) (record { one = one_there c e (f.here h); zeros = λ q b. s.rest p q f.past b })
+    new-first = subst (λ (x : ℕ). First x c) (sym (g.others k (inl (omega arith)) ∙ swapped-k)) (record { one = one_there c e f.here; zeros = λ q b. s.rest p q f.past b })
 
     first-k : firsts u k ≡ c
     first-k = first-at (narrow k) new-first
@@ -108,7 +108,7 @@ module _ {t v : List ℕ} {used k c m p : ℕ} (e : m ≡ 2 ^ c) (s : Echelon t 
             one_more (get_or u i 0) c
             (λ q b. ap (λ (x : ℕ). bit x q) w.1 ∙ bit-xor q (get_or v i 0) (get_or v k 0) ∙ ap₂ differ (low q b) (swapped-rest k (omega arith) q b))
             (ap (λ (x : ℕ). bit x c) w.1 ∙ bit-xor c (get_or v i 0) (get_or v k 0)
-            ∙ ap₂ differ (one_there c e w.0) (ap (λ (x : ℕ). bit x c) swapped-k ∙ one_there c e (f.here h)))
+            ∙ ap₂ differ (one_there c e w.0) (ap (λ (x : ℕ). bit x c) swapped-k ∙ one_there c e f.here))
         go (inr w) = one_more (get_or u i 0) c (λ q b. ap (λ (x : ℕ). bit x q) w.1 ∙ low q b) (ap (λ (x : ℕ). bit x c) w.1 ∙ none-there c e w.0)
     at i l (no d) = λ q b.
         ap (λ (x : ℕ). bit x q) (g.others i (inr (omega arith)) ∙ swapped_other i (λ z. omega arith) (λ z. omega arith) ∙ s.table.unused i (omega arith)) ∙ bit-zero q
@@ -122,9 +122,9 @@ module _ {t v : List ℕ} {used k c m p : ℕ} (e : m ≡ 2 ^ c) (s : Echelon t 
           short = s.table.short;
           few = s.table.few;
           narrow = narrow;
-          unused = λ i l. g.others i (inr l) ∙ swapped_other i (λ z. omega (arith, f.past)) (λ z. omega arith) ∙ s.table.unused i l;
+          unused = λ i l. g.others i (inr l) ∙ swapped_other i (λ z. omega (arith, f.past, f.within)) (λ z. omega arith) ∙ s.table.unused i l;
         };
-        few = omega (arith, f.past);
+        few = omega (arith, f.past, f.within);
         begins = λ i l. begins i (ℕ_discrete i k) l;
         before = λ i l. before i (ℕ_discrete i k) l;
         rising = λ i j a b. rising i j a (ℕ_discrete j k) b;

@@ -9,6 +9,9 @@ use native.Mathlib.Decide.{dec_lt, ℕ_discrete}
 use native.Mathlib.Omega.{arith}
 use Prim.Native.Nat.{◌+◌, ◌<◌, ◌^◌, suc, zero, ℕ, ◌≤◌}
 use Rattle.plates.specs.Working.{Gained, GainedRow, Odd, SameSums, Tells, gain_row}
+use Rattle.plates.specs.Tested.{Decides}
+use mir.Val.{bool_byte}
+use mathlib.Core.Bool.{Bool, false, true}
 use Rattle.words.proofs.Rows.{same_code}
 use Rattle.words.proofs.Sums.{all-zero, in_row}
 use Rattle.words.proofs.Word.{below-bits, bits_below, digit}
@@ -111,13 +114,10 @@ pub odd-tells : {check w d : ℕ} → d ≡ parity check w → Tells (Odd check 
 odd-tells {check} {w} {d} e =
     record { digit = digit d (omega arith); yes_is = λ q. record { odd = sym e ∙ q }; no_is = λ q o. omega (arith, o.odd) }
 
--- a digit that is not 1 tells no
-pub tells-not : {P : Type 0} {d : ℕ} → Tells P d → (d ≡ 1 → ⊥) → P → ⊥
-tells-not {P} {d} t n = go t.digit
-  where
-    go : (d ≡ 0) ⊎ (d ≡ 1) → P → ⊥
-    go (inl e) = t.no_is e
-    go (inr e) = absurd (n e)
+-- so does a test, taken as a digit
+pub test-tells : {P : Type 0} (b : Bool) → Decides P b → Tells P (bool_byte b)
+test-tells true d = record { digit = inr refl; yes_is = λ e. d.yes_is refl; no_is = λ e. absurd (omega arith) }
+test-tells false d = record { digit = inl refl; yes_is = λ e. absurd (omega arith); no_is = λ e. d.no_is refl }
 
 -- a parity that is not odd is even
 pub not-odd : {check w : ℕ} → (Odd check w → ⊥) → parity check w ≡ 0

@@ -2,14 +2,14 @@
 use lib.ListN.{get_or, length}
 use mathlib.Core.List.{List}
 use mathlib.Core.Logic.{inl, inr, ◌⊎◌}
-use mathlib.Core.Path.{ap, refl, subst, sym, ◌∙◌, ◌≡◌}
+use mathlib.Core.Path.{ap, subst, sym, ◌∙◌, ◌≡◌}
 use native.Mathlib.Decide.{dec_lt, ℕ_discrete}
 use native.Mathlib.Nat.{eq-zero-or-pos}
 use native.Mathlib.Omega.{arith}
 use Prim.Native.Nat.{◌+◌, ◌-◌, ◌<◌, ◌^◌, zero-le, ℕ, ◌≤◌}
 use Rattle.plates.proofs.Gaining.{KeptOrGained, gained-cases, narrow-same, same_refl, same-trans}
 use Rattle.plates.specs.Reducing.{Basis, Parted, PartedFrom}
-use Rattle.plates.specs.Working.{EndsAt, Gained, GainedRow, LastWhere, Tells}
+use Rattle.plates.specs.Working.{EndsAt, Gained, GainedRow, LastAt, NoneIn}
 use Rattle.words.proofs.Ends.{first-at, last-is, some-pos}
 use Rattle.words.proofs.Span.{last-unique, lt-tri, zero_one}
 use Rattle.words.proofs.Steps.{keeps-first, last-falls}
@@ -60,16 +60,16 @@ module _ {t u : List ℕ} {P : ℕ → Type 0} {a b p k : ℕ} (s : Basis t k) (
 ends_there : {t : List ℕ} {k c : ℕ} → Basis t k → (i : ℕ) → i < k → lasts t i ≡ c → EndsAt c (get_or t i 0)
 ends_there {t} s i h e = subst (Last (get_or t i 0)) e (last_of s i h)
 
-pub part_none : {t : List ℕ} {k c r : ℕ} → Basis t k → Parted t k (c + 1) → LastWhere t (EndsAt c) k r → k ≤ r → PartedFrom t t k c
-part_none {t} {k} {c} {r} s q f h = record { same = same_refl; basis = s; parted = λ i j l m e. go i j l m (q i j l m e) (ℕ_discrete (lasts t i) c) }
+pub part_none : {t : List ℕ} {k c : ℕ} → Basis t k → Parted t k (c + 1) → NoneIn t (EndsAt c) 0 k → PartedFrom t t k c
+part_none {t} {k} {c} s q f = record { same = same_refl; basis = s; parted = λ i j l m e. go i j l m (q i j l m e) (ℕ_discrete (lasts t i) c) }
   where
     go : (i j : ℕ) → i < j → j < k → lasts t i < c + 1 → Dec (lasts t i ≡ c) → lasts t i < c
-    go i j l m b (yes e) = absurd (f.none (omega (arith, f.within)) i (omega arith) (ends_there s i (omega arith) e))
+    go i j l m b (yes e) = absurd (f i zero-le (omega arith) (ends_there s i (omega arith) e))
     go i j l m b (no d) = omega arith
 
-module _ {t u : List ℕ} {k c p : ℕ} (s : Basis t k) (q : Parted t k (c + 1)) (f : LastWhere t (EndsAt c) k p) (h : p < k) (g : Gained t u (EndsAt c) 0 p p) where
+module _ {t u : List ℕ} {k c p : ℕ} (s : Basis t k) (q : Parted t k (c + 1)) (f : LastAt t (EndsAt c) k p) (g : Gained t u (EndsAt c) 0 p p) where
   after : Basis u k
-  after = basis-kept s h (omega arith) g
+  after = basis-kept s f.within (omega arith) g
 
   -- a row ends before c, or where it did; and only row p ends at c
   abbrev Row : ℕ → Type 0
@@ -79,13 +79,13 @@ module _ {t u : List ℕ} {k c p : ℕ} (s : Basis t k) (q : Parted t k (c + 1))
   row i l = go (lt-tri i p)
     where
       before : i < p → GainedRow (EndsAt c) (get_or t i 0) (get_or t p 0) (get_or u i 0) → Row i
-      before b (inl w) = inl (last-falls (get_or t i 0) (get_or t p 0) c (lasts u i) w.0 (f.here h) (subst (λ (x : ℕ). Last x (lasts u i)) w.1 (last_of after i l)))
+      before b (inl w) = inl (last-falls (get_or t i 0) (get_or t p 0) c (lasts u i) w.0 f.here (subst (λ (x : ℕ). Last x (lasts u i)) w.1 (last_of after i l)))
       before b (inr w) = inr (ap last w.1, λ e. absurd (w.0 (ends_there s i l e)))
 
       go : (i < p) ⊎ ((i ≡ p) ⊎ (p < i)) → Row i
       go (inl b) = before b (g.rows i zero-le b)
       go (inr (inl e)) = inr (ap last (g.others i (inr (omega arith))), λ z. e)
-      go (inr (inr b)) = inr (ap last (g.others i (inr (omega arith))), λ e. absurd (f.after i b l (ends_there s i l e)))
+      go (inr (inr b)) = inr (ap last (g.others i (inr (omega arith))), λ e. absurd (f.after i (omega arith) l (ends_there s i l e)))
 
   pub part-found : PartedFrom t u k c
   part-found = record { same = g.same; basis = after; parted = λ i j l m e. go i j l m e (row i (omega arith)) (row j m) }
@@ -124,12 +124,12 @@ parts-end h p = record { same = p.same; basis = p.basis; parted = λ i j l m e. 
 
 -- ---- what `last_one` tells
 
-pub ends-yes : {w r c : ℕ} → c < 64 → LastOne w r → r ≡ c → Tells (EndsAt c w) 1
-ends-yes {w} {r} {c} h f e = record { digit = inr refl; yes_is = λ z. go (eq-zero-or-pos w); no_is = λ z. absurd (omega arith) }
+pub ends-yes : {w r c : ℕ} → c < 64 → LastOne w r → r ≡ c → EndsAt c w
+ends-yes {w} {r} {c} h f e = go (eq-zero-or-pos w)
   where
     go : (w ≡ 0) ⊎ (0 < w) → Last w c
     go (inl z) = absurd (omega (arith, f.none z))
     go (inr z) = subst (Last w) e (f.some z)
 
-pub ends-no : {w r c : ℕ} → LastOne w r → (r ≡ c → ⊥) → Tells (EndsAt c w) 0
-ends-no {w} {r} {c} f n = record { digit = inl refl; yes_is = λ z. absurd (omega arith); no_is = λ z l. n (last-unique (f.some (some-pos w c l.one)) l) }
+pub ends-no : {w r c : ℕ} → LastOne w r → EndsAt c w → r ≡ c
+ends-no {w} {r} {c} f l = (last-unique (f.some (some-pos w c l.one)) l)

@@ -1,4 +1,5 @@
 -- Determined: two replies that meet the promise of `prepare`, or of `is_prepared`, are equal.
+use Rattle.std.proofs.Common.{Result, Ok, Err}
 use lib.ListN.{get_or, length}
 use lib.Seq.{ext_get_or}
 use mathlib.Core.Bool.{Bool, false, true}
@@ -17,8 +18,6 @@ use Rattle.plates.specs.declared.Plate.{Plate}
 use Rattle.plates.specs.declared.Prepared.{Prepared}
 use Rattle.plates.specs.declared.Refusal.{Refusal}
 use Rattle.plates.specs.declared.Refusal.TheVariants.{RowBeyond, TooWide}
-use Rattle.plates.specs.declared.Verdict.{Verdict}
-use Rattle.plates.specs.declared.Verdict.TheVariants.{Accepted, Refused}
 use Rattle.plates.specs.Prepare.{PlateOf, Prepares, PreparesAs, RowOver, Tests, Wide, prepare_conditions, rows_of}
 use Rattle.plates.specs.Profile.{live_at}
 use Rattle.words.proofs.Span.{lt-tri}
@@ -83,16 +82,16 @@ prepare-single n kind rows mask = (alike, (alike, (row-over-once n rows, (alike,
     alike p q x y = x.1 ∙ sym y.1
 
 module _ (n : ℕ) (kind : Kind) (rows : List ℕ) (mask : ℕ) where
-  same-reply : (a b : Plate) (v w : Verdict)
+  same-reply : (a b : Plate) (v w : Result (Unit {0}) Refusal)
       → PreparesAs (prepare_conditions n kind rows mask) (InCode kind n rows) n mask a v
       → PreparesAs (prepare_conditions n kind rows mask) (InCode kind n rows) n mask b w
       → ◌≡◌ {A = Prepared} (record { verdict = v; plate = a }) (record { verdict = w; plate = b })
-  same-reply a b Accepted Accepted x y =
-      ap (λ (p : Plate). record { verdict = Accepted; plate = p }) (plate-determined (InCode kind n rows) n mask a b x.1 y.1)
-  same-reply a b Accepted (Refused q) x y = absurd (never_both (prepare_conditions n kind rows mask) x.0 q y.0)
-  same-reply a b (Refused p) Accepted x y = absurd (never_both (prepare_conditions n kind rows mask) y.0 p x.0)
-  same-reply a b (Refused p) (Refused q) x y =
-      ap₂ (λ (r : Refusal) (z : Plate). record { verdict = Refused r; plate = z })
+  same-reply a b (Ok _) (Ok _) x y =
+      ap (λ (p : Plate). record { verdict = Ok tt; plate = p }) (plate-determined (InCode kind n rows) n mask a b x.1 y.1)
+  same-reply a b (Ok _) (Err q) x y = absurd (never_both (prepare_conditions n kind rows mask) x.0 q y.0)
+  same-reply a b (Err p) (Ok _) x y = absurd (never_both (prepare_conditions n kind rows mask) y.0 p x.0)
+  same-reply a b (Err p) (Err q) x y =
+      ap₂ (λ (r : Refusal) (z : Plate). record { verdict = Err r; plate = z })
       (refuses-once (prepare_conditions n kind rows mask) (prepare-single n kind rows mask) p q x.0 y.0) (x.1 ∙ sym y.1)
 
   pub prepare-determined : (r s : Prepared) → Prepares n kind rows mask r → Prepares n kind rows mask s → r ≡ s

@@ -1,4 +1,5 @@
 -- The replies of a preparing: each refusal where it is the first that holds, and the plate where none holds.
+use Rattle.std.proofs.Common.{Ok}
 use lib.ListN.{get_or, length, take}
 use lib.Pow.{pow_pos}
 use mathlib.Core.List.{List}
@@ -7,7 +8,11 @@ use mathlib.Core.Path.{refl, subst, sym, ◌≡◌}
 use native.Mathlib.Decide.{dec_lt}
 use native.Mathlib.Omega.{arith}
 use Prim.Native.Nat.{◌+◌, ◌<◌, ◌^◌, zero-le, ℕ, ◌≤◌}
+use Rattle.plates.proofs.Deciding.{alike, at-most, fails, holds}
+use lib.Dec.{leb}
 use Rattle.plates.proofs.OnePlate.{one-plate}
+use Rattle.plates.specs.Tested.{Decides}
+use mathlib.Core.Bool.{false, true}
 use Rattle.plates.proofs.ProfilePassed.{live-tallied}
 use Rattle.plates.proofs.ReducedIsPlate.{plate-of}
 use Rattle.plates.proofs.TableFilled.{sums-used}
@@ -17,7 +22,6 @@ use Rattle.plates.specs.declared.Plate.{Plate}
 use Rattle.plates.specs.declared.Prepared.{Prepared}
 use Rattle.plates.specs.declared.Refusal.{Refusal}
 use Rattle.plates.specs.declared.Refusal.TheVariants.{Length, MaskBeyond, RowBeyond, TooManyRows, TooWide}
-use Rattle.plates.specs.declared.Verdict.TheVariants.{Accepted}
 use Rattle.plates.specs.Filling.{Filled}
 use Rattle.plates.specs.Heads.{RowsOf}
 use Rattle.plates.specs.Prepare.{PlateOf, Prepares, RowOver, Wide, bad_length, mask_beyond, prepare_conditions, rows_of}
@@ -26,7 +30,7 @@ use Rattle.plates.specs.Profiling.{Marks, Tallied}
 use Rattle.plates.specs.Reducing.{ReducedFrom}
 use Rattle.plates.specs.Refusals.{Refuses}
 use Rattle.plates.specs.Replying.{refused_with}
-use Rattle.plates.specs.Working.{Beyond, FirstWhere, OverTwelve, SameSums, Tells}
+use Rattle.plates.specs.Working.{Beyond, FirstAt, NoneIn, OverTwelve, SameSums}
 use Rattle.words.proofs.Span.{zero_one}
 use Rattle.words.proofs.Word.{below-bits, bits_below}
 use Rattle.words.specs.Ends.{LastOne, firsts, lasts}
@@ -34,35 +38,40 @@ use Rattle.words.specs.Sum.{IsSum}
 
 -- ---- what `last_one` tells of a row
 
-reaches-not : {w n : ℕ} → (Beyond n w → ⊥) → Tells (Beyond n w) 0
-reaches-not h = record { digit = inl refl; yes_is = λ z. absurd (omega arith); no_is = λ z. h }
+pub zero-short : {w n : ℕ} → w ≡ 0 → Decides (Beyond n w) false
+zero-short {w} {n} e = fails (λ b. omega (arith, pow_pos n, b.over))
 
-pub zero-short : {w n : ℕ} → w ≡ 0 → Tells (Beyond n w) 0
-zero-short {w} {n} e = reaches-not (λ b. omega (arith, pow_pos n, b.over))
-
-pub last-short : {w n r : ℕ} → (w ≡ 0 → ⊥) → LastOne w r → r < n → Tells (Beyond n w) 0
+pub last-short : {w n r : ℕ} → (w ≡ 0 → ⊥) → LastOne w r → r < n → Decides (Beyond n w) false
 last-short {w} {n} {r} d f h =
     let p : 0 < w = omega arith in
     let s : w < 2 ^ n = below-bits n w (λ i l. (f.some p).zeros i (omega arith)) in
-    reaches-not (λ b. omega (arith, b.over))
+    fails (λ b. omega (arith, b.over))
 
-pub last-beyond : {w n r : ℕ} → (w ≡ 0 → ⊥) → LastOne w r → n ≤ r → Tells (Beyond n w) 1
-last-beyond {w} {n} {r} d f h = record { digit = inr refl; yes_is = λ z. go (dec_lt w (2 ^ n)); no_is = λ z. absurd (omega arith) }
+pub last-beyond : {w n r : ℕ} → (w ≡ 0 → ⊥) → LastOne w r → n ≤ r → Decides (Beyond n w) true
+last-beyond {w} {n} {r} d f h = holds (go (dec_lt w (2 ^ n)))
   where
     go : Dec (w < 2 ^ n) → Beyond n w
     go (no b) = record { over = omega arith }
     go (yes b) = absurd (zero_one (bits_below n w b r h) (f.some (omega arith)).one)
 
+-- so does the test that compares it with the length
+pub last-reaches : {w n r : ℕ} → (w ≡ 0 → ⊥) → LastOne w r → Decides (Beyond n w) (leb n r)
+last-reaches {w} {n} {r} d f = alike (λ h. (last-beyond d f h).yes_is refl) (λ b. back b (dec_lt r n)) (at-most n r)
+  where
+    back : Beyond n w → Dec (r < n) → n ≤ r
+    back b (yes h) = absurd ((last-short d f h).no_is refl b)
+    back b (no h) = omega arith
+
 -- a row that does not reach beyond is of length n
-not_beyond : {w n : ℕ} → (Beyond n w → ⊥) → w < 2 ^ n
+pub not_beyond : {w n : ℕ} → (Beyond n w → ⊥) → w < 2 ^ n
 not_beyond {w} {n} d = go (dec_lt w (2 ^ n))
   where
     go : Dec (w < 2 ^ n) → w < 2 ^ n
     go (yes b) = b
     go (no b) = absurd (d (record { over = omega arith }))
 
-pub none-beyond : {n r : ℕ} {rows : List ℕ} → FirstWhere rows (Beyond n) 0 (length rows) r → length rows ≤ r → (j : ℕ) → j < length rows → get_or rows j 0 < 2 ^ n
-none-beyond f h j l = not_beyond (f.none j zero-le (omega arith))
+pub none-beyond : {n : ℕ} (rows : List ℕ) → NoneIn rows (Beyond n) 0 (length rows) → (j : ℕ) → j < length rows → get_or rows j 0 < 2 ^ n
+none-beyond rows f j l = not_beyond (f j zero-le l)
 
 -- ---- refusals 1 to 3, and 23
 
@@ -87,38 +96,30 @@ module _ {n mask : ℕ} {kind : Kind} {rows : List ℕ} {r : Prepared} (some : 0
   pub refuse-rows : 64 < length rows → r ≡ refused_with TooManyRows → Prepares n kind rows mask r
   refuse-rows many = refuse (inr (good_length some short, inl (many, refl)))
 
-  pub refuse-beyond : {i : ℕ} → length rows ≤ 64 → FirstWhere rows (Beyond n) 0 (length rows) i → i < length rows → r ≡ refused_with (RowBeyond i)
+  pub refuse-beyond : {i : ℕ} → length rows ≤ 64 → FirstAt rows (Beyond n) 0 (length rows) i → r ≡ refused_with (RowBeyond i)
       → Prepares n kind rows mask r
-  refuse-beyond {i} few f h =
+  refuse-beyond {i} few f =
       refuse (inr (
         good_length some short,
         inr (
           (λ p c. omega (arith, c.0)),
           inl (record {
             row = i;
-            there = h;
-            over = (f.here h).over;
+            there = f.within;
+            over = f.here.over;
             first = λ j l. not_beyond (f.none j zero-le l);
             is = refl;
           }),
         ),
       ))
 
-  pub refuse-mask : {d : ℕ} → length rows ≤ 64 → ((j : ℕ) → j < length rows → get_or rows j 0 < 2 ^ n) → Tells (Beyond n mask) d → d ≡ 1
+  pub refuse-mask : length rows ≤ 64 → ((j : ℕ) → j < length rows → get_or rows j 0 < 2 ^ n) → Beyond n mask
       → r ≡ refused_with MaskBeyond → Prepares n kind rows mask r
-  refuse-mask few small t one =
+  refuse-mask few small b =
       refuse (inr (
         good_length some short,
-        inr ((λ p c. omega (arith, c.0)), inr (good-rows small, inl ((t.yes_is one).over, refl))),
+        inr ((λ p c. omega (arith, c.0)), inr (good-rows small, inl (b.over, refl))),
       ))
-
--- a mask that is not told to reach beyond does not
-pub mask-short : {n mask d : ℕ} → Tells (Beyond n mask) d → (d ≡ 1 → ⊥) → mask < 2 ^ n
-mask-short {n} {mask} {d} t h = go t.digit
-  where
-    go : (d ≡ 0) ⊎ (d ≡ 1) → mask < 2 ^ n
-    go (inl e) = not_beyond (t.no_is e)
-    go (inr e) = absurd (h e)
 
 -- ---- the plate
 
@@ -163,11 +164,11 @@ plate-done {n} {used} {k} {mask} {heads} {ends} {kind} {rows} {t} {u} {p} f s mh
 good-mask : (n : ℕ) {mask : ℕ} → mask < 2 ^ n → (c : Refusal) → mask_beyond n mask c → ⊥
 good-mask n masked c o = omega (arith, o.0, masked)
 
-module _ {n mask d : ℕ} {kind : Kind} {rows : List ℕ} {plate : Plate} (some : 0 < n) (short : n ≤ 64) (few : length rows ≤ 64)
-    (small : (j : ℕ) → j < length rows → get_or rows j 0 < 2 ^ n) (masked : mask < 2 ^ n) (p : PlateOf (InCode kind n rows) n mask plate)
-    (w : FirstWhere plate.profile OverTwelve 0 (n + 1) d) where
-  pub refuse-wide : {r : Prepared} → d ≤ n → r ≡ refused_with (TooWide d) → Prepares n kind rows mask r
-  refuse-wide h =
+module _ {n mask : ℕ} {kind : Kind} {rows : List ℕ} {plate : Plate} (some : 0 < n) (short : n ≤ 64) (few : length rows ≤ 64)
+    (small : (j : ℕ) → j < length rows → get_or rows j 0 < 2 ^ n) (masked : mask < 2 ^ n) (p : PlateOf (InCode kind n rows) n mask plate) where
+  pub refuse-wide : {r : Prepared} {d : ℕ} → FirstAt plate.profile OverTwelve 0 (n + 1) d → r ≡ refused_with (TooWide d) → Prepares n kind rows mask r
+  refuse-wide {r} {d} w =
+      let h : d ≤ n = omega (arith, w.within) in
       refuse (inr (
         good_length some short,
         inr (
@@ -181,7 +182,7 @@ module _ {n mask d : ℕ} {kind : Kind} {rows : List ℕ} {plate : Plate} (some 
                 plate = p.rows;
                 depth = d;
                 within = h;
-                over = subst (λ (x : ℕ). 12 < x) (p.profile d h) (w.here (omega arith));
+                over = subst (λ (x : ℕ). 12 < x) (p.profile d h) w.here;
                 first = λ t l. subst (λ (x : ℕ). x ≤ 12) (p.profile t (omega arith)) (entry t (dec_lt 12 (get_or plate.profile t 0)) (w.none t zero-le l));
                 is = refl;
               }),
@@ -194,12 +195,12 @@ module _ {n mask d : ℕ} {kind : Kind} {rows : List ℕ} {plate : Plate} (some 
       entry t (yes o) f = absurd (f o)
       entry t (no o) f = omega arith
 
-  pub accept : n < d → Prepares n kind rows mask (record { verdict = Accepted; plate = plate })
-  accept h = record { reply = ((good_length some short, ((λ c o. omega (arith, o.0)), (good-rows small, (good-mask n masked, (narrow, tt))))), p) }
+  pub accept : NoneIn plate.profile OverTwelve 0 (n + 1) → Prepares n kind rows mask (record { verdict = Ok tt; plate = plate })
+  accept w = record { reply = ((good_length some short, ((λ c o. omega (arith, o.0)), (good-rows small, (good-mask n masked, (narrow, tt))))), p) }
     where
       narrow : (c : Refusal) → Wide (InCode kind n rows) n c → ⊥
       narrow c o =
           let e : o.rows ≡ rows_of plate =
           one-plate (InCode kind n rows) o.rows (rows_of plate) (firsts o.rows) (lasts o.rows) (firsts (rows_of plate)) (lasts (rows_of plate)) o.plate p.rows in
-          w.none o.depth zero-le (omega (arith, o.within))
+          w o.depth zero-le (omega (arith, o.within))
           (subst (λ (x : ℕ). 12 < x) (sym (p.profile o.depth o.within)) (subst (λ (x : List ℕ). 12 < live_at x o.depth) e o.over))

@@ -17,7 +17,7 @@ use Rattle.plates.specs.declared.Plate.{Plate}
 use Rattle.plates.specs.declared.Refusal.{Refusal}
 use Rattle.plates.specs.declared.Refusal.TheVariants.{Length, MaskBeyond, RowBeyond, TooWide}
 use Rattle.plates.specs.Heads.{RowsOf}
-use Rattle.plates.specs.Prepare.{IsPrepared, PlateOf, RowOver, Tests, Wide, of_parts, prepare_conditions, rows_of}
+use Rattle.plates.specs.Prepare.{IsPrepared, PlateOf, RowOver, Tests, Wide, prepare_conditions, rows_of}
 use Rattle.plates.specs.Profile.{live_at}
 use Rattle.plates.specs.Refusals.{Passes}
 use Rattle.plates.specs.Sound.{Sound}
@@ -146,8 +146,5 @@ prepared {plate} s = record { few = s.few; same = record { reply = (pass, answer
     }
 
 -- what the test of a plate's parts says of the plate
-pub sound-tested : (plate : Plate) {profile : List ℕ} {r : Bool} → profile ≡ plate.profile
-    → Decides (Sound (of_parts plate.n plate.k plate.mask plate.rows profile)) r → Tests plate r
-sound-tested plate {r = r} same d =
-    let s = subst (λ (p : List ℕ). Decides (Sound (of_parts plate.n plate.k plate.mask plate.rows p)) r) same d in
-    record { yes_is = λ e. prepared (s.yes_is e); no_is = λ e p. s.no_is e (sound p) }
+pub sound-tested : {plate : Plate} {r : Bool} → Decides (Sound plate) r → Tests plate r
+sound-tested s = record { yes_is = λ e. prepared (s.yes_is e); no_is = λ e p. s.no_is e (sound p) }

@@ -1,15 +1,14 @@
 -- What preparing replies to each matrix and mask, the words of a plate, and when a plate is prepared.
-use Rattle.std.specs.Prelude.{ℕ, ◌^◌, ◌≤◌, ◌<◌, length, get_or, take, replicate, Bool, true, false, List, [], ◌∷◌, ◌⊎◌, ◌≡◌}
+use Rattle.std.specs.Prelude.{ℕ, ◌^◌, ◌≤◌, ◌<◌, length, get_or, take, replicate, Bool, true, false, List, [], ◌∷◌, ◌⊎◌, ◌≡◌, Result, Ok, Err}
 use Rattle.words.specs.Ends.{firsts, lasts}
 use Rattle.words.specs.Sum.{IsSum}
 use Rattle.plates.specs.declared.Kind.{Kind}
 use Rattle.plates.specs.declared.Kind.TheVariants.{G}
+use Rattle.plates.specs.declared.Parts.{Parts}
 use Rattle.plates.specs.declared.Plate.{Plate}
 use Rattle.plates.specs.declared.Prepared.{Prepared}
 use Rattle.plates.specs.declared.Refusal.{Refusal}
 use Rattle.plates.specs.declared.Refusal.TheVariants.{Length, TooManyRows, RowBeyond, MaskBeyond, TooWide, NotPrepared}
-use Rattle.plates.specs.declared.Verdict.{Verdict}
-use Rattle.plates.specs.declared.Verdict.TheVariants.{Accepted, Refused}
 use Rattle.plates.specs.Code.{InCode, Masked}
 use Rattle.plates.specs.Heads.{RowsOf}
 use Rattle.plates.specs.Profile.{live_at}
@@ -78,9 +77,9 @@ zero_plate = record { n = 0; k = 0; mask = 0; rows = replicate 64 0; profile = r
 
 -- What preparing may reply: refused, with the first refusal in order and the zero plate beside it; or accepted, where no condition
 -- holds, with the plate of the code and the mask
-abbrev pub PreparesAs : List (Refusal → Type 0) → (ℕ → Type 0) → ℕ → ℕ → Plate → Verdict → Type 0
-PreparesAs conditions C n mask plate (Refused q) = Refuses conditions q × (plate ≡ zero_plate)
-PreparesAs conditions C n mask plate Accepted = Passes conditions × PlateOf C n mask plate
+abbrev pub PreparesAs : List (Refusal → Type 0) → (ℕ → Type 0) → ℕ → ℕ → Plate → Result (Unit {0}) Refusal → Type 0
+PreparesAs conditions C n mask plate (Err q) = Refuses conditions q × (plate ≡ zero_plate)
+PreparesAs conditions C n mask plate (Ok _) = Passes conditions × PlateOf C n mask plate
 
 pub record Prepares (n : ℕ) (kind : Kind) (rows : List ℕ) (mask : ℕ) (r : Prepared) : Type 0 where
   pub reply : PreparesAs (prepare_conditions n kind rows mask) (InCode kind n rows) n mask r.plate r.verdict
@@ -89,12 +88,16 @@ pub record Prepares (n : ℕ) (kind : Kind) (rows : List ℕ) (mask : ℕ) (r : 
 abbrev pub of_parts : ℕ → ℕ → ℕ → List ℕ → List ℕ → Plate
 of_parts n k mask rows profile = record { n = n; k = k; mask = mask; rows = rows; profile = profile }
 
+-- the plate that is lent in these parts
+abbrev pub lent : Parts → Plate
+lent parts = of_parts parts.n parts.k parts.mask parts.rows.now parts.profile.now
+
 -- ---- refusal 5
 
 -- the plate has k at most 64, and is what preparing its own first k rows as G, with its own mask, gives
 pub record IsPrepared (plate : Plate) : Type 0 where
   pub few : plate.k ≤ 64
-  pub same : Prepares plate.n G (rows_of plate) plate.mask (record { verdict = Accepted; plate = plate })
+  pub same : Prepares plate.n G (rows_of plate) plate.mask (record { verdict = Ok tt; plate = plate })
 
 -- 5: it is not
 abbrev pub not_prepared : Plate → Refusal → Type 0

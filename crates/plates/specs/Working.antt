@@ -1,6 +1,6 @@
 -- The working table of a preparing: what searches in it find, and what its row operations leave.
 use Rattle.std.specs.Int.Bits.{bit_xor}
-use Rattle.std.specs.Prelude.{get_or, length, set, List, ◌⊎◌, ◌≡◌, ◌<◌, ◌^◌, ℕ, ◌≤◌}
+use Rattle.std.specs.Prelude.{get_or, length, set, List, MatchOption, Option, ◌⊎◌, ◌≡◌, ◌+◌, ◌<◌, ◌^◌, ℕ, ◌≤◌}
 use Rattle.words.specs.Parity.{parity}
 use Rattle.words.specs.Span.{Last}
 use Rattle.words.specs.Sum.{IsSum, taken}
@@ -20,19 +20,30 @@ pub record SameSums (a b : List ℕ) : Type 0 where
 
 -- ---- searches
 
--- r is the first place from a on, before b, with a value that has P; b where there is none
-pub record FirstWhere (xs : List ℕ) (P : ℕ → Type 0) (a b r : ℕ) : Type 0 where
-  pub past : a ≤ r
-  pub within : r ≤ b
-  pub none : (j : ℕ) → a ≤ j → j < r → P (get_or xs j 0) → ⊥
-  pub here : r < b → P (get_or xs r 0)
+-- no value from place a on, before b, has P
+abbrev pub NoneIn : List ℕ → (ℕ → Type 0) → ℕ → ℕ → Type 0
+NoneIn xs P a b = (j : ℕ) → a ≤ j → j < b → P (get_or xs j 0) → ⊥
 
--- r is the last place before k with a value that has P; k where there is none
-pub record LastWhere (xs : List ℕ) (P : ℕ → Type 0) (k r : ℕ) : Type 0 where
-  pub within : r ≤ k
-  pub here : r < k → P (get_or xs r 0)
-  pub after : (j : ℕ) → r < j → j < k → P (get_or xs j 0) → ⊥
-  pub none : r ≡ k → (j : ℕ) → j < k → P (get_or xs j 0) → ⊥
+-- r is the first place from a on, before b, with a value that has P
+pub record FirstAt (xs : List ℕ) (P : ℕ → Type 0) (a b r : ℕ) : Type 0 where
+  pub past : a ≤ r
+  pub within : r < b
+  pub none : NoneIn xs P a r
+  pub here : P (get_or xs r 0)
+
+-- the reply is that place; None where there is none
+abbrev pub FirstWhere : List ℕ → (ℕ → Type 0) → ℕ → ℕ → Option ℕ → Type 0
+FirstWhere xs P a b r = MatchOption r (NoneIn xs P a b) (FirstAt xs P a b)
+
+-- r is the last place before k with a value that has P
+pub record LastAt (xs : List ℕ) (P : ℕ → Type 0) (k r : ℕ) : Type 0 where
+  pub within : r < k
+  pub here : P (get_or xs r 0)
+  pub after : NoneIn xs P (r + 1) k
+
+-- the reply is that place; None where there is none
+abbrev pub LastWhere : List ℕ → (ℕ → Type 0) → ℕ → Option ℕ → Type 0
+LastWhere xs P k r = MatchOption r (NoneIn xs P 0 k) (LastAt xs P k)
 
 -- what is looked for: an odd number of ones in common with a check
 pub record Odd (check w : ℕ) : Type 0 where

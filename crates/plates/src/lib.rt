@@ -3,7 +3,7 @@
 
 ghost use Rattle.std.specs.Prelude.{◌≡◌, ℕ, ◌^◌, ◌<◌, ◌≤◌, get_or, length};
 ghost use Rattle.plates.specs.Code.{InCode};
-ghost use Rattle.plates.specs.Prepare.{PlateOf, Prepares, Tests, of_parts};
+ghost use Rattle.plates.specs.Prepare.{PlateOf, Prepares, Tests, lent, of_parts, zero_plate};
 ghost use Rattle.plates.specs.Refusals.{entry_of, field, number, place, told};
 ghost use Rattle.plates.specs.Replying.{refused_with};
 
@@ -29,6 +29,46 @@ pub struct Plate {
     pub mask: u64,
     pub rows: [u64; 64],
     pub profile: [u8; 65],
+}
+
+// A plate that is lent in parts, so that nobody copies it: rows and profile are runs of words. Any parts may be lent; those of no prepared
+// plate are refused.
+#[derive(Clone, Copy)]
+pub struct Parts<'a> {
+    pub n: usize,
+    pub k: usize,
+    pub mask: u64,
+    pub rows: &'a [u64],
+    pub profile: &'a [u64],
+}
+
+impl Plate {
+    // The zero plate, which stands beside a refusal.
+    pub fn zero() -> Plate
+        ensures { result ≡ zero_plate }
+    {
+        Plate {
+            n: 0,
+            k: 0,
+            mask: 0,
+            rows: [0; 64],
+            profile: [0; 65],
+        }
+    }
+
+    // The plate lent in parts, its profile's entries as words beside it (`widened`).
+    pub fn lend<'a>(&'a self, profile: &'a [u64; 65]) -> Parts<'a>
+        ensures parts { lent result ≡ of_parts self.now.n self.now.k self.now.mask self.now.rows profile.now }
+        ensures whole { profile.now ≡ self.now.profile → lent result ≡ self.now }
+    {
+        Parts {
+            n: self.n,
+            k: self.k,
+            mask: self.mask,
+            rows: &self.rows,
+            profile,
+        }
+    }
 }
 
 // Why a call is refused, with the place where the paper names one, in order of the numbers. The place of a sheet's bad line is the line, or
@@ -65,17 +105,10 @@ pub enum Refusal {
     TooManyLines,
 }
 
-// What preparing says of a matrix.
-#[derive(Clone, Copy)]
-pub enum Verdict {
-    Accepted,
-    Refused(Refusal),
-}
-
-// The verdict with the plate beside it, which is all zero where the matrix is refused.
+// The verdict with the plate beside it, which is all zero where the matrix is refused. (Not the `Result` alone: what stands beside a refusal is promised.)
 #[derive(Clone, Copy)]
 pub struct Prepared {
-    pub verdict: Verdict,
+    pub verdict: Result<(), Refusal>,
     pub plate: Plate,
 }
 
@@ -139,39 +172,30 @@ pub fn refusal_entry(refusal: Refusal) -> Entry
 pub fn refusal_number(refusal: Refusal) -> u64
     ensures { result ≡ number refusal }
 {
-    let entry = refusal_entry(refusal);
-    entry.number
+    refusal_entry(refusal).number
 }
 
 // The place of a refusal: a row, a depth, a position or a line where the paper names one, and 0 elsewhere.
 pub fn refusal_place(refusal: Refusal) -> usize
     ensures { result ≡ place refusal }
 {
-    let entry = refusal_entry(refusal);
-    entry.place
+    refusal_entry(refusal).place
 }
 
 // The field of a sheet's bad line, from 1, and 0 where there is none.
 pub fn refusal_field(refusal: Refusal) -> usize
     ensures { result ≡ field refusal }
 {
-    let entry = refusal_entry(refusal);
-    entry.field
+    refusal_entry(refusal).field
 }
 
 // A refusal, with the zero plate beside it.
-fn refused(refusal: Refusal) -> Prepared
+pub fn refused(refusal: Refusal) -> Prepared
     ensures { result ≡ refused_with refusal }
 {
     Prepared {
-        verdict: Verdict::Refused(refusal),
-        plate: Plate {
-            n: 0,
-            k: 0,
-            mask: 0,
-            rows: [0; 64],
-            profile: [0; 65],
-        },
+        verdict: Err(refusal),
+        plate: Plate::zero(),
     }
 }
 
@@ -208,28 +232,21 @@ pub fn prepare(n: usize, kind: Kind, rows: &[u64], mask: u64) -> Prepared
     if 64 < rows.len() {
         return refused(Refusal::TooManyRows);
     }
-    let beyond = matrix::first_beyond(rows, n);
-    if beyond < rows.len() {
+    if let Some(beyond) = matrix::first_beyond(rows, n) {
         return refused(Refusal::RowBeyond(beyond));
     }
     let reach = matrix::reaches(mask, n);
-    let mut plate = Plate {
-        n: 0,
-        k: 0,
-        mask: 0,
-        rows: [0; 64],
-        profile: [0; 65],
-    };
+    let mut plate = Plate::zero();
     plate_of_matrix(&mut plate, n, kind, rows, mask);
     let wide = profile::first_wide(&plate.profile, n);
-    if reach == 1 {
+    if reach {
         return refused(Refusal::MaskBeyond);
     }
-    if wide <= n {
-        return refused(Refusal::TooWide(wide));
+    if let Some(depth) = wide {
+        return refused(Refusal::TooWide(depth));
     }
     Prepared {
-        verdict: Verdict::Accepted,
+        verdict: Ok(()),
         plate,
     }
 }
@@ -239,31 +256,23 @@ pub fn widened(profile: [u8; 65]) -> [u64; 65]
     ensures { result ≡ profile }
 {
     let mut wide = [0u64; 65];
-    let mut t = 0;
-    while t < 65 {
-        wide[t] = profile[t] as u64;
-        t += 1;
+    for (t, entry) in profile.iter().enumerate() {
+        wide[t] = *entry as u64;
     }
     wide
 }
 
 // Whether parts are those of a plate that preparing its own first k rows as G, with its own mask, gives.
-pub fn parts_prepared<'a>(
-    n: usize,
-    k: usize,
-    mask: u64,
-    rows: &'a [u64],
-    profile: &'a [u64],
-) -> bool
-    ensures { Tests (of_parts n k mask rows.now profile.now) result }
+pub fn parts_prepared<'a>(plate: Parts<'a>) -> bool
+    ensures { Tests (lent plate.entry) result }
 {
-    if rows.len() != 64 {
+    if plate.rows.len() != 64 {
         return false;
     }
-    if profile.len() != 65 {
+    if plate.profile.len() != 65 {
         return false;
     }
-    tested::sound(n, k, mask, rows, profile)
+    tested::sound(plate)
 }
 
 // Whether a plate is what preparing its own first k rows as G, with its own mask, gives.
@@ -271,5 +280,5 @@ pub fn is_prepared(plate: Plate) -> bool
     ensures { Tests plate result }
 {
     let profile = widened(plate.profile);
-    tested::sound(plate.n, plate.k, plate.mask, &plate.rows, &profile)
+    tested::sound(plate.lend(&profile))
 }

@@ -1,35 +1,28 @@
 // From a matrix to rows whose sums are its code: the rows themselves, or the words that pass the checks.
 ghost use Rattle.std.specs.Prelude.{◌≡◌, ℕ, ◌^◌, ◌<◌, ◌≤◌, get_or, length, replicate};
 ghost use Rattle.plates.specs.Filling.{Filled, Holds, Passing, PassingOne, row_at, unit};
-ghost use Rattle.plates.specs.Working.{Beyond, FirstWhere, Table, Tells};
+ghost use Rattle.plates.specs.Tested.{Decides};
+ghost use Rattle.plates.specs.Working.{Beyond, FirstWhere, Table};
 
 use crate::{Kind, rows};
 
-// 1 where the word has a one at n or beyond, and 0 elsewhere.
-pub fn reaches(word: u64, n: usize) -> u64
-    ensures { Tells (Beyond n word) result }
+// Whether the word has a one at n or beyond.
+pub fn reaches(word: u64, n: usize) -> bool
+    ensures { Decides (Beyond n word) result }
 {
-    if word == 0 {
-        return 0;
-    }
-    if words::last_one(word) < n {
-        return 0;
-    }
-    1
+    word != 0 && n <= words::last_one(word)
 }
 
-// The first row with a one at n or beyond; the number of rows where there is none.
-pub fn first_beyond(rows: &[u64], n: usize) -> usize
+// The first row with a one at n or beyond.
+pub fn first_beyond(rows: &[u64], n: usize) -> Option<usize>
     ensures { FirstWhere rows.now (Beyond n) 0 (length rows.now) result }
 {
-    let mut i: usize = 0;
-    while i < rows.len() {
-        if reaches(rows[i], n) == 1 {
-            return i;
+    for (i, row) in rows.iter().enumerate() {
+        if reaches(*row, n) {
+            return Some(i);
         }
-        i += 1;
     }
-    i
+    None
 }
 
 // The rows of the matrix, in a table of zero words.
@@ -38,10 +31,8 @@ fn load_rows(table: &mut [u64; 64], rows: &[u64])
     requires table_value { table.old ≡ replicate 64 0 }
     ensures { Holds table.new (row_at rows.now) (length rows.now) }
 {
-    let mut i: usize = 0;
-    while i < rows.len() {
-        table[i] = rows[i];
-        i += 1;
+    for (i, row) in rows.iter().enumerate() {
+        table[i] = *row;
     }
 }
 
@@ -51,10 +42,8 @@ fn unit_words(table: &mut [u64; 64], n: usize)
     requires table_value { table.old ≡ replicate 64 0 }
     ensures { Holds table.new unit n }
 {
-    let mut i: usize = 0;
-    while i < n {
+    for i in 0..n {
         table[i] = 1 << i;
-        i += 1;
     }
 }
 
@@ -63,8 +52,7 @@ fn take_check(table: &mut [u64; 64], n: usize, check: u64)
     requires { Table table.old n n }
     ensures { PassingOne table.old table.new n check }
 {
-    let odd = rows::first_odd(table, 0, n, check);
-    if odd < n {
+    if let Some(odd) = rows::first_odd(table, 0, n, check) {
         rows::even_rows(table, odd, n, check);
         table[odd] = 0;
     }
@@ -75,10 +63,8 @@ fn take_checks(table: &mut [u64; 64], n: usize, checks: &[u64])
     requires { Table table.old n n }
     ensures { Passing table.old table.new n checks.now (length checks.now) }
 {
-    let mut i: usize = 0;
-    while i < checks.len() {
-        take_check(table, n, checks[i]);
-        i += 1;
+    for check in checks {
+        take_check(table, n, *check);
     }
 }
 

@@ -12,26 +12,20 @@ pub fn heads(table: &[u64; 64], k: usize) -> u64
     ensures { Marks (firsts table.now) k result }
 {
     let mut marks: u64 = 0;
-    let mut j: usize = 0;
-    while j < k {
-        let first = words::first_one(table[j]);
-        marks = marks ^ (1 << first);
-        j += 1;
+    for j in 0..k {
+        marks ^= 1 << words::first_one(table[j]);
     }
     marks
 }
 
-// A word with a one at the last one of each row.
+// A word with a one at the last one of each row. (Beside `heads`: one function of both would ask for the ones as a ghost value, in more lines than these.)
 pub fn ends(table: &[u64; 64], k: usize) -> u64
     requires { PlateRows table.now 64 k }
     ensures { Marks (lasts table.now) k result }
 {
     let mut marks: u64 = 0;
-    let mut j: usize = 0;
-    while j < k {
-        let last = words::last_one(table[j]);
-        marks = marks ^ (1 << last);
-        j += 1;
+    for j in 0..k {
+        marks ^= 1 << words::last_one(table[j]);
     }
     marks
 }
@@ -52,25 +46,21 @@ pub fn tally(profile: &mut [u8; 65], n: usize, heads: u64, ends: u64)
     ensures { Tallied heads ends n profile.new }
 {
     let mut live: u64 = 0;
-    let mut t: usize = 0;
-    while t < n {
+    for t in 0..n {
         live = next_live(live, heads, ends, t);
-        t += 1;
-        profile[t] = live as u8;
+        profile[t + 1] = live as u8;
     }
 }
 
-// The first depth whose entry exceeds 12; n + 1 where there is none.
-pub fn first_wide(profile: &[u8; 65], n: usize) -> usize
+// The first depth whose entry exceeds 12.
+pub fn first_wide(profile: &[u8; 65], n: usize) -> Option<usize>
     requires { n ≤ 64 }
     ensures { FirstWhere profile.now OverTwelve 0 (n + 1) result }
 {
-    let mut t: usize = 0;
-    while t <= n {
+    for t in 0..n + 1 {
         if 12 < profile[t] {
-            return t;
+            return Some(t);
         }
-        t += 1;
     }
-    t
+    None
 }

@@ -2,6 +2,7 @@
 ghost use Rattle.std.specs.Prelude.{◌≡◌, ℕ, ◌+◌, ◌^◌, ◌<◌, ◌≤◌, get_or, length};
 ghost use Rattle.words.specs.Ends.{first, last};
 ghost use Rattle.plates.specs.Reducing.{Basis, BasisFrom, ClearedFrom, Covers, Echelon, EchelonFrom, Parted, PartedFrom, ReducedFrom};
+ghost use Rattle.plates.specs.Tested.{Decides};
 ghost use Rattle.plates.specs.Working.{EndsAt, Gained, LastWhere, Table, Tells};
 
 use crate::rows;
@@ -14,13 +15,12 @@ fn column(table: &mut [u64; 64], used: usize, k: usize, c: usize) -> usize
     ensures { EchelonFrom table.old table.new used result (c + 1) }
 {
     let unit: u64 = 1 << c;
-    let pivot = rows::first_odd(table, k, used, unit);
-    if pivot < used {
-        rows::swap_rows(table, k, pivot);
-        rows::even_rows(table, k, used, unit);
-        return k + 1;
-    }
-    k
+    let Some(pivot) = rows::first_odd(table, k, used, unit) else {
+        return k;
+    };
+    rows::swap_rows(table, k, pivot);
+    rows::even_rows(table, k, used, unit);
+    k + 1
 }
 
 // All n columns. Gives the number of rows; the places after them hold zero words.
@@ -29,64 +29,43 @@ fn columns(table: &mut [u64; 64], n: usize, used: usize) -> usize
     ensures { BasisFrom table.old table.new result }
 {
     let mut k: usize = 0;
-    let mut c: usize = 0;
-    while c < n {
+    for c in 0..n {
         k = column(table, used, k, c);
-        c += 1;
     }
     k
 }
 
-// 1 where the word has its last one at c, and 0 elsewhere.
-fn ends_at(word: u64, c: usize) -> u64
+// Whether the word has its last one at c.
+fn ends_at(word: u64, c: usize) -> bool
     requires { c < 64 }
-    ensures { Tells (EndsAt c word) result }
+    ensures { Decides (EndsAt c word) result }
 {
-    if words::last_one(word) == c {
-        return 1;
-    }
-    0
+    words::last_one(word) == c
 }
 
-// The last of the first k rows that ends at c; k where there is none.
-fn last_ending(table: &[u64; 64], k: usize, c: usize) -> usize
+// The last of the first k rows that ends at c.
+fn last_ending(table: &[u64; 64], k: usize, c: usize) -> Option<usize>
     requires k_bound { k ≤ 64 }
     requires c_bound { c < 64 }
     ensures { LastWhere table.now (EndsAt c) k result }
 {
-    let mut i = k;
-    while 0 < i {
-        i -= 1;
-        if ends_at(table[i], c) == 1 {
-            return i;
+    for i in (0..k).rev() {
+        if ends_at(table[i], c) {
+            return Some(i);
         }
     }
-    k
-}
-
-// Row i gains row p if it ends at c.
-fn part_row(table: &mut [u64; 64], i: usize, p: usize, c: usize)
-    requires i_lt_p { i < p }
-    requires p_bound { p < 64 }
-    requires c_bound { c < 64 }
-    requires table_len { length table.old ≡ 64 }
-    ensures { Gained table.old table.new (EndsAt c) i (i + 1) p }
-{
-    let ends = ends_at(table[i], c);
-    rows::gain_row(table, i, p, ends);
+    None
 }
 
 // Each row before row p that ends at c gains row p.
 fn part_rows(table: &mut [u64; 64], p: usize, c: usize)
     requires p_bound { p < 64 }
     requires c_bound { c < 64 }
-    requires table_len { length table.old ≡ 64 }
     ensures { Gained table.old table.new (EndsAt c) 0 p p }
 {
-    let mut i: usize = 0;
-    while i < p {
-        part_row(table, i, p, c);
-        i += 1;
+    for i in 0..p {
+        let ends = ends_at(table[i], c);
+        rows::gain_row(table, i, p, ends as u64);
     }
 }
 
@@ -97,8 +76,7 @@ fn part_column(table: &mut [u64; 64], k: usize, c: usize)
     requires parted { Parted table.old k (c + 1) }
     ensures { PartedFrom table.old table.new k c }
 {
-    let p = last_ending(table, k, c);
-    if p < k {
+    if let Some(p) = last_ending(table, k, c) {
         part_rows(table, p, c);
     }
 }
@@ -110,9 +88,7 @@ fn part_columns(table: &mut [u64; 64], n: usize, k: usize)
     requires by_index { (j : ℕ) → get_or table.old j 0 < 2 ^ n }
     ensures { PartedFrom table.old table.new k 0 }
 {
-    let mut c = n;
-    while 0 < c {
-        c -= 1;
+    for c in (0..n).rev() {
         part_column(table, k, c);
     }
 }
@@ -127,31 +103,18 @@ fn covers(word: u64, first: usize, last: usize) -> u64
     0
 }
 
-// Row i gains row j, whose first and last one are given, if row j lies inside it and it has a one where row j begins.
-fn clear_row(table: &mut [u64; 64], i: usize, j: usize, first: usize, last: usize)
-    requires i_lt_j { i < j }
-    requires j_bound { j < 64 }
-    requires table_len { length table.old ≡ 64 }
-    ensures { Gained table.old table.new (Covers first last) i (i + 1) j }
-{
-    let one = covers(table[i], first, last);
-    rows::gain_row(table, i, j, one);
-}
-
 // Each row before row j in which row j lies gets 0 where row j begins.
 fn clear_rows(table: &mut [u64; 64], j: usize)
     requires j_bound { j < 64 }
-    requires table_len { length table.old ≡ 64 }
     requires nonzero { 0 < get_or table.old j 0 }
     requires j_bound_2 { get_or table.old j 0 < 2 ^ 64 }
     ensures { Gained table.old table.new (Covers (first (get_or table.old j 0)) (last (get_or table.old j 0))) 0 j j }
 {
     let first = words::first_one(table[j]);
     let last = words::last_one(table[j]);
-    let mut i: usize = 0;
-    while i < j {
-        clear_row(table, i, j, first, last);
-        i += 1;
+    for i in 0..j {
+        let one = covers(table[i], first, last);
+        rows::gain_row(table, i, j, one);
     }
 }
 
@@ -161,10 +124,8 @@ fn clear_heads(table: &mut [u64; 64], k: usize)
     requires parted { Parted table.old k 0 }
     ensures { ClearedFrom table.old table.new k k }
 {
-    let mut j: usize = 0;
-    while j < k {
+    for j in 0..k {
         clear_rows(table, j);
-        j += 1;
     }
 }
 

@@ -9,10 +9,7 @@ pub fn swap_rows(table: &mut [u64; 64], i: usize, j: usize)
     requires j_bound { j < 64 }
     ensures { table.new ≡ swap_rows table.old i j }
 {
-    let a = table[i];
-    let b = table[j];
-    table[i] = b;
-    table[j] = a;
+    table.swap(i, j);
 }
 
 // The word where the digit is not 0, and the zero word where it is: a choice of numbers, which is no branch.
@@ -25,7 +22,7 @@ fn word_taken(digit: u64, word: u64) -> u64
     word
 }
 
-// Row i gains row j where the digit is not 0.
+// Row i gains row j where the digit is not 0 (a number, so that the compiled code has no branch).
 pub fn gain_row(table: &mut [u64; 64], i: usize, j: usize, digit: u64)
     requires i_bound { i < 64 }
     requires j_bound { j < 64 }
@@ -35,43 +32,28 @@ pub fn gain_row(table: &mut [u64; 64], i: usize, j: usize, digit: u64)
     table[i] = table[i] ^ row;
 }
 
-// The first row from `from` on, before `to`, with an odd number of ones in common with the check; `to` where there is none.
-pub fn first_odd(table: &[u64; 64], from: usize, to: usize, check: u64) -> usize
+// The first row from `from` on, before `to`, with an odd number of ones in common with the check.
+pub fn first_odd(table: &[u64; 64], from: usize, to: usize, check: u64) -> Option<usize>
     requires from_le_to { from ≤ to }
     requires to_bound { to ≤ 64 }
     ensures { FirstWhere table.now (Odd check) from to result }
 {
-    let mut i = from;
-    while i < to {
+    for i in from..to {
         if words::parity_with(check, table[i]) == 1 {
-            return i;
+            return Some(i);
         }
-        i += 1;
     }
-    i
-}
-
-// Row i gains the row `odd` if it has an odd number of ones in common with the check.
-fn even_row(table: &mut [u64; 64], i: usize, odd: usize, check: u64)
-    requires odd_lt_i { odd < i }
-    requires i_bound { i < 64 }
-    requires table_len { length table.old ≡ 64 }
-    ensures { Gained table.old table.new (Odd check) i (i + 1) odd }
-{
-    let parity = words::parity_with(check, table[i]);
-    gain_row(table, i, odd, parity);
+    None
 }
 
 // Each row after the row `odd`, before `to`, gains that row if it has an odd number of ones in common with the check.
 pub fn even_rows(table: &mut [u64; 64], odd: usize, to: usize, check: u64)
     requires odd_lt_to { odd < to }
     requires to_bound { to ≤ 64 }
-    requires table_len { length table.old ≡ 64 }
     ensures { Gained table.old table.new (Odd check) (odd + 1) to odd }
 {
-    let mut i = odd + 1;
-    while i < to {
-        even_row(table, i, odd, check);
-        i += 1;
+    for i in odd + 1..to {
+        let parity = words::parity_with(check, table[i]);
+        gain_row(table, i, odd, parity);
     }
 }

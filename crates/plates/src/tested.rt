@@ -2,10 +2,11 @@
 ghost use Rattle.std.specs.Prelude.{◌≡◌, ◌≤◌, ◌<◌, length};
 ghost use Rattle.words.specs.Ends.{firsts, lasts};
 ghost use Rattle.words.specs.Span.{Spans};
-ghost use Rattle.plates.specs.Prepare.{of_parts};
+ghost use Rattle.plates.specs.Prepare.{lent};
 ghost use Rattle.plates.specs.Sound.{Sound};
 ghost use Rattle.plates.specs.Tested.{Decides, ByLast, MayFollow, Standing, Placed, RowEnding, HeadsOf, HeadWord, Cleared, ending_at, Profiled, UsedSound, ZeroFrom};
 
+use crate::Parts;
 use crate::matrix::reaches;
 use words::{bit_at, first_one, last_one};
 
@@ -35,22 +36,17 @@ fn place_rows(rows: &[u64], n: usize, by_last: &mut [u8; 64]) -> bool
     ensures { Placed n rows.now by_last.new result }
 {
     let mut from: usize = 0;
-    let mut i: usize = 0;
-    while i < rows.len() {
-        let row = rows[i];
-        if !may_follow(row, from, n, by_last) {
+    for (i, row) in rows.iter().enumerate() {
+        if !may_follow(*row, from, n, by_last) {
             return false;
         }
-        let last = last_one(row);
-        let first = first_one(row);
-        by_last[last] = i as u8;
-        from = first + 1;
-        i += 1;
+        by_last[last_one(*row)] = i as u8;
+        from = first_one(*row) + 1;
     }
     true
 }
 
-// The row that ends at a position; 0 where none does.
+// The row that ends at a position; 0 where none does (a number and no Option: it is taken in `&` and `|`, where 0 changes nothing).
 fn row_ending(rows: &[u64], by_last: &[u8; 64], t: usize) -> u64
     requires t_bound { t < 64 }
     requires rows_len_bound { length rows.now ≤ 64 }
@@ -83,14 +79,12 @@ fn heads_clear(rows: &[u64], n: usize, by_last: &[u8; 64]) -> bool
     ensures { Decides (Cleared rows.now) result }
 {
     let mut heads: u64 = 0;
-    let mut t: usize = 0;
-    while t < n {
+    for t in 0..n {
         let row = row_ending(rows, by_last, t);
         if row & heads != 0 {
             return false;
         }
-        heads = heads | head_word(row);
-        t += 1;
+        heads |= head_word(row);
     }
     true
 }
@@ -101,33 +95,25 @@ fn all_heads(rows: &[u64]) -> u64
     ensures { HeadsOf rows.now (λ j. j < length rows.now) result }
 {
     let mut heads: u64 = 0;
-    let mut i: usize = 0;
-    while i < rows.len() {
-        heads = heads | head_word(rows[i]);
-        i += 1;
+    for row in rows {
+        heads |= head_word(*row);
     }
     heads
 }
 
-// 1 where a row ends at a position, and 0 where none does.
+// 1 where a row ends at a position, and 0 where none does: it is taken off a count.
 fn ending_at(by_last: &[u8; 64], t: usize) -> usize
     requires { t < 64 }
     ensures { result ≡ ending_at by_last.now t }
 {
-    if by_last[t] < 64 {
-        return 1;
-    }
-    0
+    (by_last[t] < 64) as usize
 }
 
 // Whether an entry of the profile is the number of live rows, and at most 12.
 fn entry_is(entry: u64, live: usize) -> bool
     ensures { Decides ((entry ≡ live) × (live ≤ 12)) result }
 {
-    if 12 < live {
-        return false;
-    }
-    entry as usize == live
+    live <= 12 && entry as usize == live
 }
 
 // Whether the profile is that of the rows. From depth to depth it gains 1 where a row begins, and loses 1 where one ends.
@@ -140,13 +126,11 @@ fn profile_is(rows: &[u64], n: usize, by_last: &[u8; 64], profile: &[u64]) -> bo
 {
     let heads = all_heads(rows);
     let mut live: usize = 0;
-    let mut t: usize = 0;
-    while t < n {
+    for t in 0..n {
         if !entry_is(profile[t], live) {
             return false;
         }
         live = live + (bit_at(heads, t) as usize) - ending_at(by_last, t);
-        t += 1;
     }
     profile[n] == 0
 }
@@ -172,37 +156,35 @@ fn zero_from(words: &[u64], from: usize) -> bool
     ensures { Decides (ZeroFrom from words.now) result }
 {
     let mut ones: u64 = 0;
-    let mut i = from;
-    while i < words.len() {
-        ones = ones | words[i];
-        i += 1;
+    for i in from..words.len() {
+        ones |= words[i];
     }
     ones == 0
 }
 
 // Whether all that can be tested of a plate holds.
-pub fn sound<'a>(n: usize, k: usize, mask: u64, rows: &'a [u64], profile: &'a [u64]) -> bool
-    requires rows_len { length rows.now ≡ 64 }
-    requires profile_len { length profile.now ≡ 65 }
-    ensures { Decides (Sound (of_parts n k mask rows.now profile.now)) result }
+pub fn sound<'a>(plate: Parts<'a>) -> bool
+    requires rows_len { length plate.rows.now ≡ 64 }
+    requires profile_len { length plate.profile.now ≡ 65 }
+    ensures { Decides (Sound (lent plate.entry)) result }
 {
-    if n == 0 {
+    if plate.n == 0 {
         return false;
     }
-    if 64 < n {
+    if 64 < plate.n {
         return false;
     }
-    if 64 < k {
+    if 64 < plate.k {
         return false;
     }
-    if reaches(mask, n) == 1 {
+    if reaches(plate.mask, plate.n) {
         return false;
     }
-    if !used_sound(&rows[..k], n, profile) {
+    if !used_sound(&plate.rows[..plate.k], plate.n, plate.profile) {
         return false;
     }
-    if !zero_from(rows, k) {
+    if !zero_from(plate.rows, plate.k) {
         return false;
     }
-    zero_from(profile, n + 1)
+    zero_from(plate.profile, plate.n + 1)
 }

@@ -4,8 +4,8 @@ use native.Mathlib.Omega.{arith}
 use Rattle.plates.proofs.CheckTaken.{check-found, check-none}
 use Rattle.plates.proofs.matrix.take_check.Goals as goal
 
-pub first_odd-odd-requires : goal.first_odd-odd-requires
-first_odd-odd-requires c =
+pub first_odd-requires : goal.first_odd-requires
+first_odd-requires c =
     record {
       from_le_to = omega arith;
       to_bound = c.requires.few;
@@ -14,13 +14,12 @@ first_odd-odd-requires c =
 pub even_rows-requires : goal.even_rows-requires
 even_rows-requires c =
     record {
-      odd_lt_to = c.if-odd-n.true;
+      odd_lt_to = c.in-Some.ensures.within;
       to_bound = c.requires.few;
-      table_len = c.requires.size;
     }
 
-pub returns-then-odd-n : goal.returns-then-odd-n
-returns-then-odd-n c = check-found c.requires c.first_odd-odd.ensures c.if-odd-n.true c.even_rows.ensures refl
+pub returns-in-Some : goal.returns-in-Some
+returns-in-Some c = check-found c.requires c.in-Some.ensures c.even_rows.ensures refl
 
-pub returns-else-odd-n : goal.returns-else-odd-n
-returns-else-odd-n c = check-none c.requires c.first_odd-odd.ensures c.if-odd-n.false
+pub returns-in_default : goal.returns-in_default
+returns-in_default c = check-none c.requires c.in_default.ensures

@@ -7,7 +7,7 @@ pub loop-t-init : goal.loop-t-init
 loop-t-init c = search-start (omega arith)
 
 pub returns-then-profile-t-gt12 : goal.returns-then-profile-t-gt12
-returns-then-profile-t-gt12 c = search-found c.loop-t.invariant c.if-profile-t-gt12.true
+returns-then-profile-t-gt12 c = search-found c.loop-t.invariant (omega arith) c.if-profile-t-gt12.true
 
 pub loop-t-preserved : goal.loop-t-preserved
 loop-t-preserved c = search-on c.loop-t.invariant (omega arith) (λ h. omega arith)

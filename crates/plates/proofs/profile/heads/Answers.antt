@@ -9,11 +9,11 @@ pub loop-j-init : goal.loop-j-init
 loop-j-init c = (omega arith, marks-none)
 
 pub overflow_shl-marks : goal.overflow_shl-marks
-overflow_shl-marks c = (first-there c.requires c.loop-j-test.true c.first_one-first.ensures).1
+overflow_shl-marks c = (first-there c.requires c.loop-j-test.true c.first_one.ensures).1
 
 pub loop-j-preserved : goal.loop-j-preserved
 loop-j-preserved c =
-    let there = first-there c.requires c.loop-j-test.true c.first_one-first.ensures in
+    let there = first-there c.requires c.loop-j-test.true c.first_one.ensures in
     (omega arith, marks-on (heads-fresh c.requires c.loop-j-test.true) there.0 (shifted_one _ there.1) c.loop-j.invariant.1)
 
 pub returns : goal.returns

@@ -12,7 +12,6 @@ clear_rows-requires c =
     let ready = row-ready c.loop-j.invariant.1.basis c.loop-j-test.true in
     record {
       j_bound = ready.0;
-      table_len = ready.1.0;
       nonzero = ready.1.1.0;
       j_bound_2 = ready.1.1.1;
     }

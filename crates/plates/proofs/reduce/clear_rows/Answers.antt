@@ -1,8 +1,7 @@
 -- `plates::reduce::clear_rows` meets its contract: row after row.
 use mathlib.Core.Logic.{inr}
-use mathlib.Core.Path.{◌∙◌}
 use native.Mathlib.Omega.{arith}
-use Rattle.plates.proofs.Gaining.{gained-end, gained-none, gained-on}
+use Rattle.plates.proofs.Gaining.{gained-end, gained-none, gained-on, gained-row}
 use Rattle.plates.proofs.HeadsCleared.{gained-covers}
 use Rattle.words.proofs.Ends.{first-one-is, last-one-is}
 use Rattle.plates.proofs.reduce.clear_rows.Goals as goal
@@ -10,17 +9,12 @@ use Rattle.plates.proofs.reduce.clear_rows.Goals as goal
 pub loop-i-init : goal.loop-i-init
 loop-i-init c = (omega arith, gained-none)
 
-pub clear_row-requires : goal.clear_row-requires
-clear_row-requires c =
-    record {
-      i_lt_j = c.loop-i-test.true;
-      j_bound = omega arith;
-      table_len = c.loop-i.invariant.1.size ∙ c.requires.table_len;
-    }
-
 pub loop-i-preserved : goal.loop-i-preserved
-loop-i-preserved c =
-    (omega arith, gained-on (inr c.loop-i-test.true) (omega arith) c.loop-i.invariant.1 c.clear_row.ensures)
+loop-i-preserved c = (
+  omega arith,
+  gained-on (inr c.loop-i-test.true) (omega arith) c.loop-i.invariant.1
+      (rw c.gain_row.ensures (gained-row _ _ _ _ (omega (arith, c.loop-i.invariant.1.size)) (λ e. omega arith) c.covers-one.ensures)),
+)
 
 pub returns : goal.returns
 returns c =

@@ -5,6 +5,3 @@ use Rattle.plates.proofs.reduce.last_ending.Given as goal
 
 abbrev pub invariant-loop-i : goal.invariant-loop-i
 invariant-loop-i l = NoneFrom l.table (EndsAt l.c) l.k l.i
-
-abbrev pub decreases-loop-i : goal.decreases-loop-i
-decreases-loop-i l = l.i

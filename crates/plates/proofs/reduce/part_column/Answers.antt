@@ -3,8 +3,8 @@ use native.Mathlib.Omega.{arith}
 use Rattle.plates.proofs.LastOnesParted.{part-found, part_none}
 use Rattle.plates.proofs.reduce.part_column.Goals as goal
 
-pub last_ending-p-requires : goal.last_ending-p-requires
-last_ending-p-requires c =
+pub last_ending-requires : goal.last_ending-requires
+last_ending-requires c =
     record {
       k_bound = c.requires.basis.table.few;
       c_bound = c.requires.c_bound;
@@ -13,14 +13,13 @@ last_ending-p-requires c =
 pub part_rows-requires : goal.part_rows-requires
 part_rows-requires c =
     record {
-      p_bound = omega (arith, c.if-p-k.true, c.requires.basis.table.few);
+      p_bound = omega (arith, c.in-Some.ensures.within, c.requires.basis.table.few);
       c_bound = c.requires.c_bound;
-      table_len = c.requires.basis.table.size;
     }
 
-pub returns-then-p-k : goal.returns-then-p-k
-returns-then-p-k c =
-    part-found c.requires.basis c.requires.parted c.last_ending-p.ensures c.if-p-k.true c.part_rows.ensures
+pub returns-in-Some : goal.returns-in-Some
+returns-in-Some c =
+    part-found c.requires.basis c.requires.parted c.in-Some.ensures c.part_rows.ensures
 
-pub returns-else-p-k : goal.returns-else-p-k
-returns-else-p-k c = part_none c.requires.basis c.requires.parted c.last_ending-p.ensures c.if-p-k.false
+pub returns-in_default : goal.returns-in_default
+returns-in_default c = part_none c.requires.basis c.requires.parted c.in_default.ensures

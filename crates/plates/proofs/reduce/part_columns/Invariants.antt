@@ -5,6 +5,3 @@ use Rattle.plates.proofs.reduce.part_columns.Given as goal
 
 abbrev pub invariant-loop-c : goal.invariant-loop-c
 invariant-loop-c l = (l.c ≤ l.n) × PartedFrom l.initial.table l.table l.k l.c
-
-abbrev pub decreases-loop-c : goal.decreases-loop-c
-decreases-loop-c l = l.c

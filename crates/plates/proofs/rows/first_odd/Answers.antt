@@ -9,7 +9,7 @@ loop-i-init c = search-start c.requires.from_le_to
 
 pub returns-then-parity_with-eq1 : goal.returns-then-parity_with-eq1
 returns-then-parity_with-eq1 c =
-    search-found c.loop-i.invariant (record { odd = sym c.parity_with.ensures ∙ c.if-parity_with-eq1.true })
+    search-found c.loop-i.invariant c.loop-i-test.true (record { odd = sym c.parity_with.ensures ∙ c.if-parity_with-eq1.true })
 
 pub loop-i-preserved : goal.loop-i-preserved
 loop-i-preserved c =

@@ -1,9 +1,13 @@
--- `plates::tested::ending_at` meets its contract.
-use borrow.Author.Tests.{le-ltb, lt-ltb}
+-- `plates::tested::ending_at` meets its contract: a test as a number is 1 or 0.
+use mathlib.Core.Bool.{Bool, false, true}
+use mathlib.Core.Path.{refl, ◌≡◌}
+use mir.Val.{bool_byte}
+use Rattle.words.specs.Choice.{more}
 use Rattle.plates.proofs.tested.ending_at.Goals as goal
 
-pub returns-then-by_last-t-lt64 : goal.returns-then-by_last-t-lt64
-returns-then-by_last-t-lt64 c = simp (lt-ltb _ _ c.if-by_last-t-lt64.true)
+as_number : (b : Bool) → bool_byte b ≡ more b 0
+as_number true = refl
+as_number false = refl
 
 pub returns : goal.returns
-returns c = simp (le-ltb _ _ c.if-by_last-t-lt64.false)
+returns c = as_number _

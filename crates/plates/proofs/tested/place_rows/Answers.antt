@@ -16,18 +16,18 @@ returns-then-not-may_follow c =
 pub overflow_cast-by_last : goal.overflow_cast-by_last
 overflow_cast-by_last c = record { fits = omega (arith, c.requires.rows_len_bound) }
 
-pub bounds-by_last-last : goal.bounds-by_last-last
-bounds-by_last-last c =
-    last-inside _ _ _ _ c.requires.n_bound (c.type_inv.rows c.loop-i.i).fits c.last_one-last.ensures (c.may_follow.ensures.yes_is c.if-not-may_follow.false)
+pub bounds-by_last-last_one : goal.bounds-by_last-last_one
+bounds-by_last-last_one c =
+    last-inside _ _ _ _ c.requires.n_bound (c.type_inv.rows c.loop-i.i).fits c.last_one.ensures (c.may_follow.ensures.yes_is c.if-not-may_follow.false)
 
 pub overflow_add-from : goal.overflow_add-from
 overflow_add-from c =
     let m = c.may_follow.ensures.yes_is c.if-not-may_follow.false in
-    record { fits = omega (arith, first-inside _ _ _ _ c.requires.n_bound (c.type_inv.rows c.loop-i.i).fits c.first_one-first.ensures m) }
+    record { fits = omega (arith, first-inside _ _ _ _ c.requires.n_bound (c.type_inv.rows c.loop-i.i).fits c.first_one-from.ensures m) }
 
 pub loop-i-preserved : goal.loop-i-preserved
 loop-i-preserved c =
-    seen_next _ _ _ _ _ c.requires.rows_len_bound c.loop-i.invariant c.loop-i-test.true (c.type_inv.rows c.loop-i.i).fits c.last_one-last.ensures c.first_one-first.ensures
+    seen_next _ _ _ _ _ c.requires.rows_len_bound c.loop-i.invariant c.loop-i-test.true (c.type_inv.rows c.loop-i.i).fits c.last_one.ensures c.first_one-from.ensures
     (c.may_follow.ensures.yes_is c.if-not-may_follow.false)
 
 pub returns : goal.returns

@@ -1,11 +1,6 @@
 -- `plates::tested::place_rows` meets its contract. The loop's invariant: the rows passed stand as a plate's do, and are in the table.
-use lib.ListN.{length}
-use Prim.Native.Nat.{◌-◌}
 use Rattle.plates.proofs.RowsPlaced.{Seen}
 use Rattle.plates.proofs.tested.place_rows.Given as goal
 
 abbrev pub invariant-loop-i : goal.invariant-loop-i
 invariant-loop-i l = Seen l.n l.rows l.i l.from l.by_last
-
-abbrev pub decreases-loop-i : goal.decreases-loop-i
-decreases-loop-i l = length l.rows - l.i

@@ -1,7 +1,0 @@
--- `plates::reduce::clear_row` meets its contract.
-use native.Mathlib.Omega.{arith}
-use Rattle.plates.proofs.Gaining.{gained-row}
-use Rattle.plates.proofs.reduce.clear_row.Goals as goal
-
-pub returns : goal.returns
-returns c = rw c.gain_row.ensures (gained-row _ _ _ _ (omega arith) (λ e. omega arith) c.covers-one.ensures)
