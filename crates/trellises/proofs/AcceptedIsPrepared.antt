@@ -1,4 +1,5 @@
 -- The plate that preparing a matrix accepts is prepared, and the sums of its rows are the words of the matrix's code.
+use Rattle.std.proofs.Common.{Ok}
 use lib.ListN.{get_or, length}
 use mathlib.Core.List.{List}
 use mathlib.Core.Logic.Iff
@@ -15,7 +16,6 @@ use Rattle.plates.specs.declared.Plate.{Plate}
 use Rattle.plates.specs.declared.Prepared.{Prepared}
 use Rattle.plates.specs.declared.Refusal.{Refusal}
 use Rattle.plates.specs.declared.Refusal.TheVariants.{RowBeyond}
-use Rattle.plates.specs.declared.Verdict.TheVariants.{Accepted}
 use Rattle.plates.specs.Heads.{RowsOf}
 use Rattle.plates.specs.Prepare.{IsPrepared, PlateOf, Prepares, PreparesAs, RowOver, Wide, prepare_conditions, rows_of}
 use Rattle.plates.specs.Refusals.{Passes}
@@ -69,7 +69,7 @@ plate-same C D e n mask plate a = record {
 }
 
 -- a matrix, and what preparing it replies where it accepts
-module _ (n : ℕ) (kind : Kind) (rows : List ℕ) (mask : ℕ) (r : Prepared) (p : Prepares n kind rows mask r) (e : r.verdict ≡ Accepted) where
+module _ (n : ℕ) (kind : Kind) (rows : List ℕ) (mask : ℕ) (r : Prepared) (p : Prepares n kind rows mask r) (e : r.verdict ≡ Ok tt) where
   -- the reply by its case
   pub accepted : Passes (prepare_conditions n kind rows mask) × PlateOf (InCode kind n rows) n mask r.plate
   accepted = subst (PreparesAs (prepare_conditions n kind rows mask) (InCode kind n rows) n mask r.plate) e p.reply
@@ -91,8 +91,8 @@ module _ (n : ℕ) (kind : Kind) (rows : List ℕ) (mask : ℕ) (r : Prepared) (
   pub accepted-prepared : IsPrepared r.plate
   accepted-prepared = record {
     few = accepted.1.few;
-    same = subst (λ (x : ℕ). Prepares x G (rows_of r.plate) r.plate.mask (record { verdict = Accepted; plate = r.plate })) (sym accepted-length)
-        (subst (λ (m : ℕ). Prepares n G (rows_of r.plate) m (record { verdict = Accepted; plate = r.plate })) (sym accepted-mask)
+    same = subst (λ (x : ℕ). Prepares x G (rows_of r.plate) r.plate.mask (record { verdict = Ok tt; plate = r.plate })) (sym accepted-length)
+        (subst (λ (m : ℕ). Prepares n G (rows_of r.plate) m (record { verdict = Ok tt; plate = r.plate })) (sym accepted-mask)
         (record { reply = (pass, answer) }));
   }
     where

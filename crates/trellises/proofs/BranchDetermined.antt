@@ -1,4 +1,6 @@
 -- Determined: two replies that meet the promise of `branch` are equal.
+use Rattle.std.proofs.Common.{Result, Ok, Err, Option, Some, None}
+use Rattle.plates.specs.declared.Refusal.{Refusal}
 use mathlib.Core.List.{List}
 use mathlib.Core.Path.{ap, refl, sym, ◌∙◌, ◌≡◌}
 use native.Mathlib.Decide.{ℕ_discrete}
@@ -12,8 +14,6 @@ use Rattle.trellises.proofs.PathsOnce.{one-branch}
 use Rattle.trellises.proofs.PlateTrellis.{plate-kept}
 use Rattle.trellises.proofs.TrellisSpells.{Kept, spans-kept}
 use Rattle.trellises.specs.Branching.{Branches, branch_conditions, code_trellis}
-use Rattle.trellises.specs.declared.Next.{Next}
-use Rattle.trellises.specs.declared.Next.TheVariants.{NoBranch, Refused, State}
 use Rattle.trellises.specs.Graph.{Has, branch_at}
 use Rattle.trellises.specs.States.{trellis}
 use Rattle.words.specs.Span.{Spans}
@@ -33,8 +33,8 @@ module _ (plate : Plate) (depth state bit : ℕ) where
   conditions-single : Single (branch_conditions plate depth state bit)
   conditions-single = ((λ p q x y. x.1 ∙ sym y.1), ((λ p q x y. x.1 ∙ sym y.1), tt))
 
-  pub branch-determined : (r s : Next) → Branches plate depth state bit r → Branches plate depth state bit s → r ≡ s
-  branch-determined (State x) (State y) p q = ap State (go (ℕ_discrete x y))
+  pub branch-determined : (r s : Result (Option ℕ) Refusal) → Branches plate depth state bit r → Branches plate depth state bit s → r ≡ s
+  branch-determined (Ok (Some x)) (Ok (Some y)) p q = ap (λ (z : ℕ). Ok (Some z)) (go (ℕ_discrete x y))
     where
       go : Dec (x ≡ y) → x ≡ y
       go (yes e) = e
@@ -44,11 +44,11 @@ module _ (plate : Plate) (depth state bit : ℕ) where
                 (has-off plate.mask (code_trellis plate) p.1) (has-off plate.mask (code_trellis plate) q.1))),
             refl,
           ))
-  branch-determined (State x) NoBranch p q = absurd (q.1 x p.1)
-  branch-determined (State x) (Refused b) p q = absurd (never_both (branch_conditions plate depth state bit) p.0 b (q))
-  branch-determined NoBranch (State y) p q = absurd (p.1 y q.1)
-  branch-determined NoBranch NoBranch p q = refl
-  branch-determined NoBranch (Refused b) p q = absurd (never_both (branch_conditions plate depth state bit) p.0 b (q))
-  branch-determined (Refused a) (State y) p q = absurd (never_both (branch_conditions plate depth state bit) q.0 a (p))
-  branch-determined (Refused a) NoBranch p q = absurd (never_both (branch_conditions plate depth state bit) q.0 a (p))
-  branch-determined (Refused a) (Refused b) p q = ap Refused (refuses-once (branch_conditions plate depth state bit) conditions-single a b p q)
+  branch-determined (Ok (Some x)) (Ok None) p q = absurd (q.1 x p.1)
+  branch-determined (Ok (Some x)) (Err b) p q = absurd (never_both (branch_conditions plate depth state bit) p.0 b (q))
+  branch-determined (Ok None) (Ok (Some y)) p q = absurd (p.1 y q.1)
+  branch-determined (Ok None) (Ok None) p q = refl
+  branch-determined (Ok None) (Err b) p q = absurd (never_both (branch_conditions plate depth state bit) p.0 b (q))
+  branch-determined (Err a) (Ok (Some y)) p q = absurd (never_both (branch_conditions plate depth state bit) q.0 a (p))
+  branch-determined (Err a) (Ok None) p q = absurd (never_both (branch_conditions plate depth state bit) q.0 a (p))
+  branch-determined (Err a) (Err b) p q = ap Err (refuses-once (branch_conditions plate depth state bit) conditions-single a b p q)

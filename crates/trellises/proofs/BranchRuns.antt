@@ -1,5 +1,6 @@
 -- Asking for branches in turn: a word is one of the plate's exactly if each of its bits is answered by a state, the last by state 0; otherwise
 -- some question on the way is answered by "no branch".
+use Rattle.std.proofs.Common.{Ok, Some}
 use lib.ListN.{length}
 use lib.Pow.{pow_pos}
 use mathlib.Core.List.{List}
@@ -14,7 +15,6 @@ use Rattle.plates.specs.Code.{InCode, Masked}
 use Rattle.plates.specs.declared.Kind.{Kind}
 use Rattle.plates.specs.declared.Plate.{Plate}
 use Rattle.plates.specs.declared.Prepared.{Prepared}
-use Rattle.plates.specs.declared.Verdict.TheVariants.{Accepted}
 use Rattle.plates.specs.Prepare.{IsPrepared, IsWord, Prepares, rows_of}
 use Rattle.plates.specs.Profile.{live_at}
 use Rattle.plates.specs.Refusals.{Passes}
@@ -24,7 +24,6 @@ use Rattle.trellises.proofs.PathsOnce.{kept-branch}
 use Rattle.trellises.proofs.PlateTrellis.{plate-kept}
 use Rattle.trellises.proofs.WordsTrellis.{accepted-words, words-once, words-path-ends, words-spelled}
 use Rattle.trellises.specs.Branching.{Branches, branch_conditions, code_trellis, trellis_of}
-use Rattle.trellises.specs.declared.Next.TheVariants.{State}
 use Rattle.trellises.specs.Graph.{Branch, Graph, Has, Path, branch_at}
 use Rattle.trellises.specs.Masking.{turned}
 use Rattle.trellises.specs.Running.{Runs, Stops}
@@ -136,7 +135,7 @@ module _ (plate : Plate) (given : IsPrepared plate) (w : ℕ) where
 
   -- each of the first t questions is answered by the next state
   abbrev Answered : ℕ → Type 0
-  Answered t = (i : ℕ) → i < t → Branches plate i (walk i) (bit w i) (State (walk (suc i)))
+  Answered t = (i : ℕ) → i < t → Branches plate i (walk i) (bit w i) (Ok (Some (walk (suc i))))
 
   -- that is a run
   walked : (t : ℕ) → Answered t → Runs plate w t (walk t)
@@ -152,11 +151,11 @@ module _ (plate : Plate) (given : IsPrepared plate) (w : ℕ) where
       more : Answered t → walk t < 2 ^ live_at (rows_of plate) t → Has (trellis_of plate) t (walk t) (bit w t) (walk (suc t)) → Answered (suc t)
       more a l b i k = side (dec_lt i t)
         where
-          side : Dec (i < t) → Branches plate i (walk i) (bit w i) (State (walk (suc i)))
+          side : Dec (i < t) → Branches plate i (walk i) (bit w i) (Ok (Some (walk (suc i))))
           side (yes d) = a i d
           side (no d) =
               let e : t ≡ i = omega arith in
-              subst (λ (i : ℕ). Branches plate i (walk i) (bit w i) (State (walk (suc i)))) e (passes t (walk t) h l, b)
+              subst (λ (i : ℕ). Branches plate i (walk i) (bit w i) (Ok (Some (walk (suc i))))) e (passes t (walk t) h l, b)
 
       go : (Answered t × (walk t < 2 ^ live_at (rows_of plate) t)) ⊎ Stops plate w → Has (trellis_of plate) t (walk t) (bit w t) (walk (suc t)) ⊎ None t
           → (Answered (suc t) × (walk (suc t) < 2 ^ live_at (rows_of plate) (suc t))) ⊎ Stops plate w
@@ -210,7 +209,7 @@ module _ (plate : Plate) (given : IsPrepared plate) (w : ℕ) where
           (le_refl k.depth) ∙ k.run.ends
 
 -- the same of the plate that preparing a matrix accepts: exactly the words that the mask makes of the matrix's code run to depth n
-pub matrix-runs : (n : ℕ) (kind : Kind) (rows : List ℕ) (mask : ℕ) (r : Prepared) → Prepares n kind rows mask r → r.verdict ≡ Accepted
+pub matrix-runs : (n : ℕ) (kind : Kind) (rows : List ℕ) (mask : ℕ) (r : Prepared) → Prepares n kind rows mask r → r.verdict ≡ Ok tt
     → (w : ℕ) → w < 2 ^ n → Masked (InCode kind n rows) mask w ↔ Runs r.plate w n 0
 matrix-runs n kind rows mask r p e w h =
     Iff.trans (accepted-words n kind rows mask r p e w)

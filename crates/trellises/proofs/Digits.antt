@@ -1,12 +1,12 @@
 -- Digits of branch numbers: put to places, gathered from them, and one taken out.
 use lib.Arith.{mod-mul}
-use lib.Pow.{pow_pos, shr-shr}
+use lib.Pow.{pow_mono, pow_pos, shr-shr}
 use mathlib.Core.Bool.{Bool, cond, false, true}
 use mathlib.Core.Path.{ap, ap₂, sym, ◌∙◌, ◌≡◌}
-use native.Mathlib.Nat.{div-add-mod', div-le_self, mul_assoc, mul-le-mul_right, pow-suc}
+use native.Mathlib.Nat.{div-add-mod', div-eq_of_lt, div-le_self, mod-eq_of_lt, mul_assoc, mul-le-mul_right, pow-suc}
 use native.Mathlib.Numerals.{one-add}
 use native.Mathlib.Omega.{arith}
-use Prim.Native.Nat.{◌%◌, ◌*◌, ◌+◌, ◌/◌, ◌^◌, suc, ℕ, ◌≤◌}
+use Prim.Native.Nat.{◌%◌, ◌*◌, ◌+◌, ◌/◌, ◌^◌, ◌<◌, suc, ℕ, ◌≤◌}
 use Rattle.trellises.specs.Numbers.{without}
 use Rattle.words.proofs.Word.{half}
 use Rattle.words.specs.Choice.{gather, pull, put}
@@ -55,6 +55,12 @@ pub gathered : (k : ℕ) (P : ℕ → Bool) (S : ℕ → ℕ) (a p : Bool) (v : 
 gathered k P S a p v e =
     ap₂ (λ (d u : ℕ). pull (P 0) d (gather k (λ j. P (suc j)) u)) (put-odd a S v) (put-half a S v)
     ∙ ap (λ (b : Bool). pull b (odd a v) (gather k (λ j. P (suc j)) (S (rest a v)))) e
+
+-- a place beyond a word's has no digit to take out
+pub without-beyond : (e x : ℕ) → 64 ≤ e → x < 2 ^ 64 → x ≡ without e x
+without-beyond e x b l =
+    let k : x < 2 ^ e = omega (arith, pow_mono b) in
+    rw (div-eq_of_lt k, mod-eq_of_lt k) (omega arith)
 
 -- a number does not grow where a digit is taken out
 pub without-at-most : (w x : ℕ) → x / w / 2 * w + x % w ≤ x

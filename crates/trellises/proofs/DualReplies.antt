@@ -1,5 +1,6 @@
 -- Preparing a matrix as G and as H: the same verdict, plates of the same length with the same profile, and where they are refused with 4
 -- the same place, which is the first depth over 12 of both.
+use Rattle.std.proofs.Common.{Result, Ok, Err}
 use lib.ListN.{get_or, length}
 use lib.Pow.{pow_pos}
 use lib.Seq.{ext_get_or}
@@ -19,8 +20,6 @@ use Rattle.plates.specs.declared.Plate.{Plate}
 use Rattle.plates.specs.declared.Prepared.{Prepared}
 use Rattle.plates.specs.declared.Refusal.{Refusal}
 use Rattle.plates.specs.declared.Refusal.TheVariants.{TooWide}
-use Rattle.plates.specs.declared.Verdict.{Verdict}
-use Rattle.plates.specs.declared.Verdict.TheVariants.{Accepted, Refused}
 use Rattle.plates.specs.Heads.{RowsOf}
 use Rattle.plates.specs.Prepare.{Prepares, PreparesAs, RowOver, Wide, bad_length, mask_beyond, prepare_conditions, rows_of, too_many_rows}
 use Rattle.plates.specs.Profile.{live_at}
@@ -80,7 +79,7 @@ module _ (n : ℕ) (matrix : List ℕ) where
   wide kind = Wide (InCode kind n matrix) n
 
   -- what preparing may reply
-  abbrev Reply : Kind → Plate → Verdict → Type 0
+  abbrev Reply : Kind → Plate → Result (Unit {0}) Refusal → Type 0
   Reply kind = PreparesAs (prepare_conditions n kind matrix 0) (InCode kind n matrix) n 0
 
   -- past refusal 3 each row is below 2 ^ n
@@ -98,16 +97,16 @@ module _ (n : ℕ) (matrix : List ℕ) where
   profiles v H a b p q t h = sym (dual-profiles n matrix (below v) b a q p t h)
 
   -- what is accepted has a plate, and so has what is refused with 4
-  plated : Passes early → (kind : Kind) (b : Plate) (w : Verdict) → Reply kind b w → Plated (InCode kind n matrix)
-  plated v kind b Accepted y = record { rows = rows_of b; plate = y.1.rows }
-  plated v kind b (Refused q) y = go (by_first early (wide kind ∷ []) q y.0)
+  plated : Passes early → (kind : Kind) (b : Plate) (w : Result (Unit {0}) Refusal) → Reply kind b w → Plated (InCode kind n matrix)
+  plated v kind b (Ok _) y = record { rows = rows_of b; plate = y.1.rows }
+  plated v kind b (Err q) y = go (by_first early (wide kind ∷ []) q y.0)
     where
       go : ((es : List (Refusal → Type 0)) → Refuses (early ++ es) q) ⊎ (Passes early × Refuses (wide kind ∷ []) q) → Plated (InCode kind n matrix)
       go (inl e) = absurd (never_both early v q (e []))
       go (inr x) = let c : wide kind q = by_only (wide kind) q x.1 in record { rows = c.rows; plate = c.plate }
 
   -- what refuses the one refuses the other
-  refused-both : (kind : Kind) (q : Refusal) (b : Plate) (w : Verdict) → Refuses (prepare_conditions n kind matrix 0) q → Reply (dual kind) b w
+  refused-both : (kind : Kind) (q : Refusal) (b : Plate) (w : Result (Unit {0}) Refusal) → Refuses (prepare_conditions n kind matrix 0) q → Reply (dual kind) b w
       → Refuses (prepare_conditions n (dual kind) matrix 0) q
   refused-both kind q b w r y = go (by_first early (wide kind ∷ []) q r)
     where
@@ -140,8 +139,8 @@ module _ (n : ℕ) (matrix : List ℕ) where
           )
 
   -- the two replies by their cases; where one is refused they are equal
-  by_cases : (a b : Plate) (v w : Verdict) → Reply G a v → Reply H b w → SameProfile (record { verdict = v; plate = a }) (record { verdict = w; plate = b })
-  by_cases a b Accepted Accepted x y = record {
+  by_cases : (a b : Plate) (v w : Result (Unit {0}) Refusal) → Reply G a v → Reply H b w → SameProfile (record { verdict = v; plate = a }) (record { verdict = w; plate = b })
+  by_cases a b (Ok _) (Ok _) x y = record {
     verdict = refl;
     length_n = x.1.length_n ∙ sym y.1.length_n;
     profile = ext_get_or 0 a.profile b.profile (x.1.entries ∙ sym y.1.entries) (λ t h. entry t (dec_lt n t));
@@ -152,22 +151,25 @@ module _ (n : ℕ) (matrix : List ℕ) where
       entry t (no h) =
           let l : t ≤ n = omega arith in
           x.1.profile t l ∙ profiles (first_three G x.0) G (rows_of a) (rows_of b) x.1.rows y.1.rows t l ∙ sym (y.1.profile t l)
-  by_cases a b Accepted (Refused q) x y =
-      same-reply _ _ (prepare-determined n G matrix 0 (record { verdict = Accepted; plate = a }) (record { verdict = Refused q; plate = b })
-      (record { reply = x }) (record { reply = (refused-both H q a Accepted y.0 x, y.1) }))
-  by_cases a b (Refused q) w x y =
-      same-reply _ _ (prepare-determined n H matrix 0 (record { verdict = Refused q; plate = a }) (record { verdict = w; plate = b })
+  by_cases a b (Ok _) (Err q) x y =
+      same-reply _ _ (prepare-determined n G matrix 0 (record { verdict = Ok tt; plate = a }) (record { verdict = Err q; plate = b })
+      (record { reply = x }) (record { reply = (refused-both H q a (Ok tt) y.0 x, y.1) }))
+  by_cases a b (Err q) w x y =
+      same-reply _ _ (prepare-determined n H matrix 0 (record { verdict = Err q; plate = a }) (record { verdict = w; plate = b })
       (record { reply = (refused-both G q b w x.0 y, x.1) }) (record { reply = y }))
 
+  -- accepted, or refused with 4
+  abbrev OrWide : Result (Unit {0}) Refusal → Type 0
+  OrWide v = (v ≡ Ok tt) ⊎ ((d : ℕ) × (v ≡ Err (TooWide d)))
+
   -- past the first four conditions a matrix is accepted or refused with 4
-  accepted-or-wide : Passes early → (kind : Kind) (a : Plate) (v : Verdict) → Reply kind a v → (v ≡ Accepted) ⊎ ((d : ℕ) × (v ≡ Refused (TooWide d)))
-  accepted-or-wide p kind a Accepted x = inl refl
-  accepted-or-wide p kind a (Refused q) x = go (by_first early (wide kind ∷ []) q x.0)
+  accepted-or-wide : Passes early → (kind : Kind) (a : Plate) (v : Result (Unit {0}) Refusal) → Reply kind a v → OrWide v
+  accepted-or-wide p kind a (Ok _) x = inl refl
+  accepted-or-wide p kind a (Err q) x = go (by_first early (wide kind ∷ []) q x.0)
     where
-      go : ((es : List (Refusal → Type 0)) → Refuses (early ++ es) q) ⊎ (Passes early × Refuses (wide kind ∷ []) q)
-          → (Refused q ≡ Accepted) ⊎ ((d : ℕ) × (Refused q ≡ Refused (TooWide d)))
+      go : ((es : List (Refusal → Type 0)) → Refuses (early ++ es) q) ⊎ (Passes early × Refuses (wide kind ∷ []) q) → OrWide (Err q)
       go (inl e) = absurd (never_both early p q (e []))
-      go (inr z) = let c : wide kind q = by_only (wide kind) q z.1 in inr (c.depth, ap Refused c.is)
+      go (inr z) = let c : wide kind q = by_only (wide kind) q z.1 in inr (c.depth, ap Err c.is)
 
   -- refusal 4 is by none of the first four conditions
   not-early : (d : ℕ) → Refuses early (TooWide d) → ⊥
@@ -183,7 +185,7 @@ module _ (n : ℕ) (matrix : List ℕ) where
           third (inr y) = omega (arith, ap number (by_only (mask_beyond n 0) (TooWide d) y.1).1)
 
   -- the place of refusal 4 is the first depth over 12 of the code's plate
-  refused-at : (kind : Kind) (d : ℕ) (a : Plate) (v : Verdict) → Reply kind a v → v ≡ Refused (TooWide d) → TooWideAt (InCode kind n matrix) n d
+  refused-at : (kind : Kind) (d : ℕ) (a : Plate) (v : Result (Unit {0}) Refusal) → Reply kind a v → v ≡ Err (TooWide d) → TooWideAt (InCode kind n matrix) n d
   refused-at kind d a v x e = go (by_first early (wide kind ∷ []) (TooWide d) (subst (Reply kind a) e x).0)
     where
       found : wide kind (TooWide d) → TooWideAt (InCode kind n matrix) n d
@@ -219,7 +221,7 @@ module _ (n : ℕ) (matrix : List ℕ) where
 
     -- a valid matrix is accepted both times, or refused with 4 both times, at the same depth
     pub accepted-or-refused-both : 1 ≤ n → n ≤ 64 → length matrix ≤ 64 → ((j : ℕ) → j < length matrix → get_or matrix j 0 < 2 ^ n)
-        → ((r.verdict ≡ Accepted) × (s.verdict ≡ Accepted)) ⊎ ((d : ℕ) × (r.verdict ≡ Refused (TooWide d)) × (s.verdict ≡ Refused (TooWide d)))
+        → ((r.verdict ≡ Ok tt) × (s.verdict ≡ Ok tt)) ⊎ ((d : ℕ) × (r.verdict ≡ Err (TooWide d)) × (s.verdict ≡ Err (TooWide d)))
     accepted-or-refused-both positive short few low = go (accepted-or-wide valid G r.plate r.verdict x.reply)
       where
         bad : (n ≡ 0) ⊎ (64 < n) → ⊥
@@ -229,13 +231,13 @@ module _ (n : ℕ) (matrix : List ℕ) where
         valid : Passes early
         valid = ((λ q c. bad c.0), ((λ q c. omega (arith, c.0)), ((λ q c. omega (arith, low c.row c.there, c.over)), ((λ q c. omega (arith, c.0, pow_pos n)), tt))))
 
-        go : (r.verdict ≡ Accepted) ⊎ ((d : ℕ) × (r.verdict ≡ Refused (TooWide d)))
-            → ((r.verdict ≡ Accepted) × (s.verdict ≡ Accepted)) ⊎ ((d : ℕ) × (r.verdict ≡ Refused (TooWide d)) × (s.verdict ≡ Refused (TooWide d)))
+        go : (r.verdict ≡ Ok tt) ⊎ ((d : ℕ) × (r.verdict ≡ Err (TooWide d)))
+            → ((r.verdict ≡ Ok tt) × (s.verdict ≡ Ok tt)) ⊎ ((d : ℕ) × (r.verdict ≡ Err (TooWide d)) × (s.verdict ≡ Err (TooWide d)))
         go (inl e) = inl (e, sym same-verdict ∙ e)
         go (inr e) = inr (e.0, e.1, sym same-verdict ∙ e.1)
 
     -- where they are accepted, k of the one and k of the other are n
-    pub dimensions-together : r.verdict ≡ Accepted → r.plate.k + s.plate.k ≡ n
+    pub dimensions-together : r.verdict ≡ Ok tt → r.plate.k + s.plate.k ≡ n
     dimensions-together e =
         let g = accepted n G matrix 0 r x e in
         let h = accepted n H matrix 0 s y (sym same-verdict ∙ e) in
@@ -247,8 +249,8 @@ module _ (n : ℕ) (matrix : List ℕ) where
         )
 
     -- where the one is refused with 4 at a depth, so is the other, and that is the first depth at which each of the two plates is too wide
-    pub refused-at-same-depth : (d : ℕ) → r.verdict ≡ Refused (TooWide d)
-        → (s.verdict ≡ Refused (TooWide d)) × TooWideAt (InCode G n matrix) n d × TooWideAt (InCode H n matrix) n d
+    pub refused-at-same-depth : (d : ℕ) → r.verdict ≡ Err (TooWide d)
+        → (s.verdict ≡ Err (TooWide d)) × TooWideAt (InCode G n matrix) n d × TooWideAt (InCode H n matrix) n d
     refused-at-same-depth d e =
-        let f : s.verdict ≡ Refused (TooWide d) = sym same-verdict ∙ e in
+        let f : s.verdict ≡ Err (TooWide d) = sym same-verdict ∙ e in
         (f, refused-at G d r.plate r.verdict x.reply e, refused-at H d s.plate s.verdict y.reply f)

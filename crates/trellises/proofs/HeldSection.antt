@@ -9,6 +9,7 @@ use lib.Seq.{drop-cons}
 use mathlib.Core.Bool.{Bool, cond, false, true, ◌||◌}
 use mathlib.Core.List.{List, [], ◌∷◌}
 use mathlib.Core.Path.{ap, refl, sym, ◌∙◌, ◌≡◌}
+use mir.Val.{bool_byte}
 use native.Mathlib.Nat.{lt_of_lt_of_le, mod-eq_of_lt, mod-lt, mod-mod}
 use native.Mathlib.Numerals.{add-one}
 use native.Mathlib.Omega.{arith}
@@ -74,7 +75,7 @@ module _ (t row : ℕ) (c : Section) (room : HasRoom t c) (word : row < 2 ^ 64) 
         rw (lt-leb t (last row) (omega (arith, last_word)), and-false (leb (first row) t)) (sym (held_same c room.column))
 
     -- it is active
-    pub held-active : t ≤ l → {digit live' ending' : ℕ} {begins' ends' : Bool} → digit ≡ bit row t → live' ≡ cond (ltb f t) (c.live + 1) c.live
+    pub held-active : t ≤ l → {digit live' ending' : ℕ} {begins' ends' : Bool} → digit ≡ bit row t → live' ≡ c.live + bool_byte (ltb f t)
         → begins' ≡ (eqb f t || c.begins) → ends' ≡ (eqb l t || c.ends) → ending' ≡ cond (eqb l t) 0 (c.ending + 1)
         → ◌≡◌ {A = Section} (record { live = live'; begins = begins'; ends = ends'; ending = ending'; column = bit_or (c.column * 2 % 2 ^ 64) digit })
         (held (with_row t row c))
@@ -83,9 +84,9 @@ module _ (t row : ℕ) (c : Section) (room : HasRoom t c) (word : row < 2 ^ 64) 
         rw (le-leb (first row) t (omega (arith, first_word row f word is-first)), le-leb t (last row) (omega (arith, last_word)), ← (first_word row f word is-first), ← last_word)
         (λ i. record { live = lives i; begins = b i; ends = d i; ending = endings i; column = columns i })
       where
-        up : (x : Bool) (n : ℕ) → cond x (n + 1) n ≡ more x n
+        up : (x : Bool) (n : ℕ) → n + bool_byte x ≡ more x n
         up true n = add-one n
-        up false n = refl
+        up false n = omega arith
 
         lives : live' ≡ more (ltb f t) c.live
         lives = a ∙ up (ltb f t) c.live

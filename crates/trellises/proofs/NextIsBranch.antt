@@ -1,4 +1,5 @@
 -- The reply by a section's numbers is the trellis's: the next state, no branch, or refusal 12.
+use Rattle.std.proofs.Common.{Ok, Err, Some, None}
 use borrow.Author.Tests.{eqb-false, eqb-true}
 use lib.Bits.{bit_xor}
 use lib.Dec.{eqb}
@@ -21,7 +22,6 @@ use Rattle.trellises.proofs.SectionAgrees.{Agrees, live-count, section-agrees}
 use Rattle.trellises.proofs.SectionBranches.{Numbered, below-high, below-low, has-number, leaves-high, leaves-low, leaving-is, number-has, other-bit}
 use Rattle.trellises.proofs.SectionFits.{begun, ending-at-most, few-active, narrow}
 use Rattle.trellises.specs.Branching.{Branches, branch_conditions, code_trellis, trellis_of}
-use Rattle.trellises.specs.declared.Next.TheVariants.{NoBranch, Refused, State}
 use Rattle.trellises.specs.declared.Section.{Section}
 use Rattle.trellises.specs.Following.{next_of}
 use Rattle.trellises.specs.Graph.{Has}
@@ -51,7 +51,7 @@ module _ (plate : Plate) (s : Sound plate) (depth state asked : ℕ) where
   not_five : (q : Refusal) → not_prepared plate q → ⊥
   not_five q x = x.0 (prepared s)
 
-  pub refused-twelve : (plate.n ≤ depth) ⊎ ((2 ^ live_at (rows_of plate) depth ≤ state) ⊎ (1 < asked)) → Branches plate depth state asked (Refused NoSuchBranch)
+  pub refused-twelve : (plate.n ≤ depth) ⊎ ((2 ^ live_at (rows_of plate) depth ≤ state) ⊎ (1 < asked)) → Branches plate depth state asked (Err NoSuchBranch)
   refused-twelve h = inr (not_five, inl (h, refl))
 
   module _ (h : depth < plate.n) (present : state < 2 ^ live_at (rows_of plate) depth) (small : asked ≤ 1) where
@@ -78,14 +78,14 @@ module _ (plate : Plate) (s : Sound plate) (depth state asked : ℕ) where
 
     -- a branch number that leaves the state with that bit answers
     answer : (x : ℕ) → x < branch_count c → leaves c x ≡ state → bit_of c x ≡ turned (bit plate.mask depth) asked
-        → Branches plate depth state asked (State (leads_to c x))
+        → Branches plate depth state asked (Ok (Some (leads_to c x)))
     answer x l a b =
         let h = has_on plate.mask (code_trellis plate)
         (number-has (rows_of plate) depth c agrees state own (leads_to c x) (record { number = x; below = l; leaving = a; spells = b; leads = refl })) in
         (pass, subst (λ (d : ℕ). Has (trellis_of plate) depth state d (leads_to c x)) (turned-twice (bit plate.mask depth) asked) h)
 
     -- where none begins and its own number has the other bit, there is none
-    no_answer : (bit_of c state ≡ turned (bit plate.mask depth) asked → ⊥) → c.begins ≡ false → Branches plate depth state asked NoBranch
+    no_answer : (bit_of c state ≡ turned (bit plate.mask depth) asked → ⊥) → c.begins ≡ false → Branches plate depth state asked (Ok None)
     no_answer n e = (pass, λ next x. none (has-number (rows_of plate) depth c agrees state own next (has-off plate.mask (code_trellis plate) x)))
       where
         none : {next : ℕ} → Numbered c state (turned (bit plate.mask depth) asked) next → ⊥
@@ -95,16 +95,16 @@ module _ (plate : Plate) (s : Sound plate) (depth state asked : ℕ) where
             go (inl q) = n (ap (bit_of c) (sym q) ∙ m.spells)
             go (inr q) = false≢true (sym e ∙ q.0)
 
-    pub next-branches : Branches plate depth state asked (next_of (section_of (rows_of plate) depth) state (bit_xor asked (bit plate.mask depth)))
+    pub next-branches : Branches plate depth state asked (Ok (next_of (section_of (rows_of plate) depth) state (bit_xor asked (bit plate.mask depth))))
     next-branches =
-        subst (λ (d : ℕ). Branches plate depth state asked (next_of c state d)) (turned-xor (bit plate.mask depth) asked (bit-lt depth plate.mask) small)
+        subst (λ (d : ℕ). Branches plate depth state asked (Ok (next_of c state d))) (turned-xor (bit plate.mask depth) asked (bit-lt depth plate.mask) small)
         (go (eqb (bit_of c state) own) c.begins refl refl)
       where
         digit : own < 2
         digit = turned-digit (bit plate.mask depth) asked small
 
         go : (x b : Bool) → eqb (bit_of c state) own ≡ x → c.begins ≡ b
-            → Branches plate depth state asked (cond x (State (leads_to c state)) (cond b (State (leads_to c (state + 2 ^ c.live))) NoBranch))
+            → Branches plate depth state asked (Ok (cond x (Some (leads_to c state)) (cond b (Some (leads_to c (state + 2 ^ c.live))) None)))
         go true b e f = answer state (below-low c state there) (leaves-low c state there) (eqb-true (bit_of c state) own e)
         go false true e f =
             answer (state + 2 ^ c.live) (below-high c state there f) (leaves-high c state there)

@@ -1,5 +1,6 @@
 -- The states of Massey and of Wolf: two beginnings of words of the plate lead to the same state exactly if they have the same continuations, and,
 -- for a parity-check matrix of the code, exactly if they have the same partial syndrome. So the trellis is theirs up to the names of states.
+use Rattle.std.proofs.Common.{Ok}
 use lib.Bits.{bit_xor, differ, xor_mod, xor_zero_r}
 use lib.Dec.{ltb, ltb→lt, lt→ltb}
 use lib.ListN.{get_or, length}
@@ -17,7 +18,6 @@ use Rattle.plates.specs.Code.{Checked, InCode, Masked}
 use Rattle.plates.specs.declared.Kind.{Kind}
 use Rattle.plates.specs.declared.Plate.{Plate}
 use Rattle.plates.specs.declared.Prepared.{Prepared}
-use Rattle.plates.specs.declared.Verdict.TheVariants.{Accepted}
 use Rattle.plates.specs.Prepare.{IsPrepared, IsWord, Prepares, rows_of}
 use Rattle.plates.specs.Profile.{live}
 use Rattle.trellises.proofs.AcceptedIsPrepared.{accepted-code, accepted-length, accepted-prepared}
@@ -242,7 +242,7 @@ module _ (plate : Plate) (given : IsPrepared plate) (a b : ℕ) (x : IsWord plat
 
 -- ---- the same of the plate that preparing a matrix and a mask accepts
 
-module _ (n : ℕ) (kind : Kind) (rows : List ℕ) (mask : ℕ) (r : Prepared) (p : Prepares n kind rows mask r) (e : r.verdict ≡ Accepted) (a b : ℕ)
+module _ (n : ℕ) (kind : Kind) (rows : List ℕ) (mask : ℕ) (r : Prepared) (p : Prepares n kind rows mask r) (e : r.verdict ≡ Ok tt) (a b : ℕ)
     (x : Masked (InCode kind n rows) mask a) (y : Masked (InCode kind n rows) mask b) where
   -- the words that the mask makes of the matrix's code are the plate's
   words : (w : ℕ) → Masked (InCode kind n rows) mask w ↔ IsWord r.plate w

@@ -1,5 +1,6 @@
 -- The trellis of a prepared plate spells exactly the plate's words, each once, and no layered graph for these words has fewer states at any
 -- depth or fewer branches in any section; the same of the plate that preparing a matrix and a mask accepts.
+use Rattle.std.proofs.Common.{Ok}
 use lib.Bits.{bit_xor}
 use lib.ListN.{length}
 use mathlib.Core.List.{List}
@@ -12,7 +13,6 @@ use Rattle.plates.specs.Code.{InCode, Masked}
 use Rattle.plates.specs.declared.Kind.{Kind}
 use Rattle.plates.specs.declared.Plate.{Plate}
 use Rattle.plates.specs.declared.Prepared.{Prepared}
-use Rattle.plates.specs.declared.Verdict.TheVariants.{Accepted}
 use Rattle.plates.specs.Prepare.{IsPrepared, IsWord, Prepares, rows_of}
 use Rattle.plates.specs.Profile.{live_at}
 use Rattle.trellises.proofs.AcceptedIsPrepared.{accepted-code, accepted-length, accepted-mask, accepted-prepared}
@@ -70,7 +70,7 @@ module _ (plate : Plate) (given : IsPrepared plate) where
 
 -- ---- of the plate that preparing a matrix and a mask accepts
 
-module _ (n : ℕ) (kind : Kind) (rows : List ℕ) (mask : ℕ) (r : Prepared) (p : Prepares n kind rows mask r) (e : r.verdict ≡ Accepted) where
+module _ (n : ℕ) (kind : Kind) (rows : List ℕ) (mask : ℕ) (r : Prepared) (p : Prepares n kind rows mask r) (e : r.verdict ≡ Ok tt) where
   -- the plate's words are those that the mask makes of the matrix's code
   pub accepted-words : (w : ℕ) → Masked (InCode kind n rows) mask w ↔ IsWord r.plate w
   accepted-words w =

@@ -1,5 +1,5 @@
 -- The trellis of a plate, and the reply to a branch asked for.
-use Rattle.std.specs.Prelude.{ℕ, ◌^◌, ◌≤◌, ◌<◌, List, [], ◌∷◌, ◌⊎◌, ◌≡◌}
+use Rattle.std.specs.Prelude.{ℕ, ◌^◌, ◌≤◌, ◌<◌, List, [], ◌∷◌, ◌⊎◌, ◌≡◌, Result, Ok, Err, Option, Some, None}
 use Rattle.words.specs.Ends.{firsts, lasts}
 use Rattle.plates.specs.declared.Plate.{Plate}
 use Rattle.plates.specs.declared.Refusal.{Refusal}
@@ -7,8 +7,6 @@ use Rattle.plates.specs.declared.Refusal.TheVariants.{NoSuchBranch}
 use Rattle.plates.specs.Prepare.{not_prepared, rows_of}
 use Rattle.plates.specs.Profile.{live_at}
 use Rattle.plates.specs.Refusals.{Refuses, Passes}
-use Rattle.trellises.specs.declared.Next.{Next}
-use Rattle.trellises.specs.declared.Next.TheVariants.{State, NoBranch, Refused}
 use Rattle.trellises.specs.Graph.{Graph, Has}
 use Rattle.trellises.specs.Masking.{masked}
 use Rattle.trellises.specs.States.{trellis}
@@ -34,8 +32,8 @@ abbrev pub branch_conditions : Plate → ℕ → ℕ → ℕ → List (Refusal �
 branch_conditions plate depth state bit = not_prepared plate ∷ no_such_branch plate depth state bit ∷ []
 
 -- What a branch asked for is answered by: the next state where the trellis has such a branch, "no branch" where it has none
-abbrev pub Branches : Plate → ℕ → ℕ → ℕ → Next → Type 0
-Branches plate depth state bit (State next) = Passes (branch_conditions plate depth state bit) × Has (trellis_of plate) depth state bit next
-Branches plate depth state bit NoBranch =
+abbrev pub Branches : Plate → ℕ → ℕ → ℕ → Result (Option ℕ) Refusal → Type 0
+Branches plate depth state bit (Ok (Some next)) = Passes (branch_conditions plate depth state bit) × Has (trellis_of plate) depth state bit next
+Branches plate depth state bit (Ok None) =
     Passes (branch_conditions plate depth state bit) × ((next : ℕ) → Has (trellis_of plate) depth state bit next → ⊥)
-Branches plate depth state bit (Refused q) = Refuses (branch_conditions plate depth state bit) q
+Branches plate depth state bit (Err q) = Refuses (branch_conditions plate depth state bit) q

@@ -1,12 +1,13 @@
 // The trellis of a plate: its sections as plain numbers, and its branches.
 #![tactic(auto)]
 
-ghost use Rattle.plates.specs.Prepare.{of_parts};
+ghost use Rattle.plates.specs.Prepare.{lent};
 ghost use Rattle.trellises.specs.Branching.{Branches};
 
-use plates::Refusal;
+use plates::{Parts, Refusal};
 
 mod branching;
+pub mod places;
 pub mod sections;
 
 // A section of the trellis as numbers. A branch of it is a number whose digits say which of the active rows it takes, the row with
@@ -21,40 +22,28 @@ pub struct Section {
     pub column: u64,
 }
 
-// Where a branch leads, that there is none, or why the question is refused.
-#[derive(Clone, Copy)]
-pub enum Next {
-    State(usize),
-    NoBranch,
-    Refused(Refusal),
-}
-
 // The branch of a plate's trellis that leaves a state with a bit: where it leads, or that there is none.
 pub fn branch_parts<'a>(
-    n: usize,
-    k: usize,
-    mask: u64,
-    rows: &'a [u64],
-    profile: &'a [u64],
+    plate: Parts<'a>,
     depth: usize,
     state: usize,
     bit: u64,
-) -> Next
-    ensures { Branches (of_parts n k mask rows.now profile.now) depth state bit result }
+) -> Result<Option<usize>, Refusal>
+    ensures { Branches (lent plate.entry) depth state bit result }
 {
-    if !plates::parts_prepared(n, k, mask, rows, profile) {
-        return Next::Refused(Refusal::NotPrepared);
+    if !plates::parts_prepared(plate) {
+        return Err(Refusal::NotPrepared);
     }
-    if n <= depth {
-        return Next::Refused(Refusal::NoSuchBranch);
+    if plate.n <= depth {
+        return Err(Refusal::NoSuchBranch);
     }
     if 1 < bit {
-        return Next::Refused(Refusal::NoSuchBranch);
+        return Err(Refusal::NoSuchBranch);
     }
-    let section = sections::section_of(&rows[..k], depth);
-    if branching::weight_of(section.live) <= state {
-        return Next::Refused(Refusal::NoSuchBranch);
+    let section = sections::section_of(&plate.rows[..plate.k], depth);
+    if places::weight_of(section.live) <= state {
+        return Err(Refusal::NoSuchBranch);
     }
     // the branch's bit is the mask's added to that of the code's branch
-    branching::next_of(section, state, bit ^ words::bit_at(mask, depth))
+    Ok(branching::next_of(section, state, bit ^ words::bit_at(plate.mask, depth)))
 }

@@ -4,20 +4,6 @@ ghost use Rattle.trellises.specs.SectionOf.{HasRoom, held, section_of, with_row}
 
 use crate::Section;
 
-// The first of two numbers where the test passes, and the second where it fails.
-fn choose(passes: bool, first: usize, second: usize) -> usize
-    ensures { result ≡ cond passes first second }
-{
-    if passes { first } else { second }
-}
-
-// Whether either of two tests passes.
-fn either(passes: bool, other: bool) -> bool
-    ensures { result ≡ (passes || other) }
-{
-    if passes { true } else { other }
-}
-
 // The section of some rows with one more row before them, whose head is lower than theirs.
 fn with_row(section: Section, row: u64, t: usize) -> Section
     requires { HasRoom t section }
@@ -33,10 +19,10 @@ fn with_row(section: Section, row: u64, t: usize) -> Section
     }
     let column = (section.column << 1) | words::bit_at(row, t);
     Section {
-        live: choose(first < t, section.live + 1, section.live),
-        begins: either(first == t, section.begins),
-        ends: either(last == t, section.ends),
-        ending: choose(last == t, 0, section.ending + 1),
+        live: section.live + (first < t) as usize,
+        begins: (first == t) | section.begins,
+        ends: (last == t) | section.ends,
+        ending: if last == t { 0 } else { section.ending + 1 },
         column,
     }
 }
@@ -55,9 +41,7 @@ pub fn section_of(rows: &[u64], t: usize) -> Section
     if 64 <= t {
         return section;
     }
-    let mut j = rows.len();
-    while 0 < j {
-        j -= 1;
+    for j in (0..rows.len()).rev() {
         section = with_row(section, rows[j], t);
     }
     section

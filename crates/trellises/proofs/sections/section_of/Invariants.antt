@@ -7,6 +7,3 @@ use Rattle.trellises.proofs.sections.section_of.Given as goal
 
 abbrev pub invariant-loop-j : goal.invariant-loop-j
 invariant-loop-j l = (l.j ≤ length l.rows) × (l.section ≡ held (section_of (drop l.j l.rows) l.t))
-
-abbrev pub decreases-loop-j : goal.decreases-loop-j
-decreases-loop-j l = l.j
