@@ -1,4 +1,5 @@
 -- The levels of a block, position by position.
+use Rattle.std.proofs.Common.{Ok}
 use Prim.Native.Nat.{ℕ, ◌<◌}
 use lib.Ieee.{Float, nan}
 use lib.IntN.{ℤ, pos}
@@ -8,7 +9,6 @@ use mathlib.Core.Logic.{inl}
 use mathlib.Core.Path.{◌≡◌, ap, refl, subst, ◌∙◌}
 use native.Mathlib.Decide.{ℕ_discrete}
 use native.Mathlib.Omega.{arith}
-use Rattle.levels.specs.declared.Levels.TheVariants as B
 use Rattle.levels.specs.declared.Sample.{Sample}
 use Rattle.levels.specs.declared.Setting.{Setting}
 use Rattle.levels.specs.Choosing.{LevelOf, LevelOfSample, sample_of}
@@ -16,7 +16,7 @@ use Rattle.levels.specs.Giving.{GivesLevels}
 use Rattle.plates.specs.declared.Refusal.TheVariants.{SampleCount}
 use Rattle.words.specs.Word.{bit}
 
-module _ (n : ℕ) (setting : Setting) (values : List Float) (erased : ℕ) (room room' : List ℤ) (given : GivesLevels n setting values erased room room' B.Written) where
+module _ (n : ℕ) (setting : Setting) (values : List Float) (erased : ℕ) (room room' : List ℤ) (given : GivesLevels n setting values erased room room' (Ok tt)) where
   -- n values and n levels
   pub values-n : length values ≡ n
   values-n = go (ℕ_discrete (length values) n)

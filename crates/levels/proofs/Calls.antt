@@ -14,7 +14,7 @@ use Rattle.plates.specs.Refusals.{Passes}
 use Rattle.levels.specs.declared.Sample.{Sample}
 use Rattle.levels.specs.declared.Setting.{Setting}
 use Rattle.levels.specs.Giving.{Good, NoNumberAt, bad_count, bad_setting, no_number, sample_conditions}
-use Rattle.levels.specs.Testing.{FirstNotANumber, IsNumber, Writable}
+use Rattle.levels.specs.Testing.{IsNumber, NotANumberAt, NumbersTo, Writable}
 
 -- 1 to 64
 pub length-passed : {n : ℕ} → (n ≡ 0 → ⊥) → n ≤ 64 → (q : Refusal) → bad_length n q → ⊥
@@ -40,20 +40,19 @@ count-passed {n} values room h k q b = go b.0
     go (inl d) = d h
     go (inr d) = d k
 
-module _ {n : ℕ} {values : List Float} {erased r : ℕ} (first : FirstNotANumber values erased r) (size : length values ≡ n) where
+module _ {n : ℕ} (values : List Float) (erased : ℕ) (size : length values ≡ n) where
   -- the first that was found is the one to refuse
-  pub number-refused : r < n → NoNumberAt n values erased (NotANumber r)
-  number-refused h =
-      record { position = r; there = h; here = first.here (omega (arith, size)); first = first.before; is = refl }
+  pub number-refused : {r : ℕ} → NotANumberAt values erased r → NoNumberAt n values erased (NotANumber r)
+  number-refused {r} first =
+      record { position = r; there = omega (arith, first.there, size); here = first.here; first = first.before; is = refl }
 
   -- none was found
-  pub numbers-passed : n ≤ r → (q : Refusal) → NoNumberAt n values erased q → ⊥
-  numbers-passed h q b = first.before b.position (omega (arith, b.there)) b.here
+  pub numbers-passed : NumbersTo values erased (length values) → (q : Refusal) → NoNumberAt n values erased q → ⊥
+  numbers-passed all q b = all b.position (omega (arith, b.there, size)) b.here
 
   -- so the levels may be written
-  pub writable : {setting : Setting} {room : List ℤ} → n ≤ r → Good setting → length room ≡ n → Writable setting values erased room
-  writable h good k =
-      record { good = good; as_long = omega (arith, size); numbers = λ i l. first.before i (omega (arith, size)) }
+  pub writable : {setting : Setting} {room : List ℤ} → NumbersTo values erased (length values) → Good setting → length room ≡ n → Writable setting values erased room
+  writable all good k = record { good = good; as_long = omega (arith, size); numbers = all }
 
 -- no condition of a single sample holds
 pub sample-passes : {setting : Setting} → Good setting → (sample : Sample) → IsNumber sample → Passes (sample_conditions setting sample)

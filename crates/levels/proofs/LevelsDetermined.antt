@@ -1,4 +1,5 @@
 -- Determined: two replies that meet the promise of `level_of`, or of `levels_of` with its room, are equal.
+use Rattle.std.proofs.Common.{Result, Ok, Err}
 use Prim.Native.Nat.{ℕ, zero, suc, ◌<◌}
 use lib.Dec.{T}
 use lib.Ieee.{Float, is_nan, le, lt, neg}
@@ -12,10 +13,6 @@ use mathlib.Core.Path.{◌≡◌, ap, refl, subst, sym, ◌∙◌}
 use native.Mathlib.Omega.{arith}
 use Rattle.levels.proofs.BlockLevels.{values-n}
 use Rattle.levels.proofs.FloatOrder.{not_negative}
-use Rattle.levels.specs.declared.Level.{Level}
-use Rattle.levels.specs.declared.Level.TheVariants as L
-use Rattle.levels.specs.declared.Levels.{Levels}
-use Rattle.levels.specs.declared.Levels.TheVariants as B
 use Rattle.levels.specs.declared.Sample.{Sample}
 use Rattle.levels.specs.declared.Sample.TheVariants.{Erased, Heard}
 use Rattle.levels.specs.declared.Setting.{Setting}
@@ -65,11 +62,11 @@ module _ (setting : Setting) (sample : Sample) where
   sample-single = ((λ p q x y. x.1 ∙ sym y.1), ((λ p q x y. x.1 ∙ sym y.1), tt))
 
   -- the replies of `level_of`
-  pub level-determined : (r s : Level) → GivesLevel setting sample r → GivesLevel setting sample s → r ≡ s
-  level-determined (L.Is y) (L.Is z) a b = ap L.Is (sample-once setting sample y z (λ n. a.0.1.0 (NotANumber 0) (n, refl)) a.1 b.1)
-  level-determined (L.Is y) (L.Refused q) a b = absurd (never_both (sample_conditions setting sample) a.0 q b)
-  level-determined (L.Refused p) (L.Is z) a b = absurd (never_both (sample_conditions setting sample) b.0 p a)
-  level-determined (L.Refused p) (L.Refused q) a b = ap L.Refused (refuses-once (sample_conditions setting sample) sample-single p q a b)
+  pub level-determined : (r s : Result ℤ Refusal) → GivesLevel setting sample r → GivesLevel setting sample s → r ≡ s
+  level-determined (Ok y) (Ok z) a b = ap Ok (sample-once setting sample y z (λ n. a.0.1.0 (NotANumber 0) (n, refl)) a.1 b.1)
+  level-determined (Ok y) (Err q) a b = absurd (never_both (sample_conditions setting sample) a.0 q b)
+  level-determined (Err p) (Ok z) a b = absurd (never_both (sample_conditions setting sample) b.0 p a)
+  level-determined (Err p) (Err q) a b = ap Err (refuses-once (sample_conditions setting sample) sample-single p q a b)
 
 -- ---- a block
 
@@ -107,14 +104,14 @@ module _ (n : ℕ) (setting : Setting) (values : List Float) (erased : ℕ) (roo
           at (inr (inr k)) before = omega arith
 
   -- the replies of `levels_of`, and its room
-  pub levels-determined : (r s : Levels) (one two : List ℤ) → GivesLevels n setting values erased room one r → GivesLevels n setting values erased room two s → (r ≡ s) × (one ≡ two)
-  levels-determined B.Written B.Written one two a b = (refl, ext_get_or (pos 0) one two (a.1.as_long ∙ sym b.1.as_long) same)
+  pub levels-determined : (r s : Result (Unit {0}) Refusal) (one two : List ℤ) → GivesLevels n setting values erased room one r → GivesLevels n setting values erased room two s → (r ≡ s) × (one ≡ two)
+  levels-determined (Ok _) (Ok _) one two a b = (refl, ext_get_or (pos 0) one two (a.1.as_long ∙ sym b.1.as_long) same)
     where
       same : (i : ℕ) → i < length one → get_or one i (pos 0) ≡ get_or two i (pos 0)
       same i h =
           let l : i < length values = omega (arith, a.1.as_long) in
           sample-once setting (sample_at values erased i) (get_or one i (pos 0)) (get_or two i (pos 0)) (passed-number a.0 i (omega (arith, values-n n setting values erased room one a))) (a.1.each i l) (b.1.each i l)
-  levels-determined B.Written (B.Refused q) one two a b = absurd (never_both (block_conditions n setting values erased room) a.0 q b.0)
-  levels-determined (B.Refused p) B.Written one two a b = absurd (never_both (block_conditions n setting values erased room) b.0 p a.0)
-  levels-determined (B.Refused p) (B.Refused q) one two a b =
-      (ap B.Refused (refuses-once (block_conditions n setting values erased room) block-single p q a.0 b.0), a.1 ∙ sym b.1)
+  levels-determined (Ok _) (Err q) one two a b = absurd (never_both (block_conditions n setting values erased room) a.0 q b.0)
+  levels-determined (Err p) (Ok _) one two a b = absurd (never_both (block_conditions n setting values erased room) b.0 p a.0)
+  levels-determined (Err p) (Err q) one two a b =
+      (ap Err (refuses-once (block_conditions n setting values erased room) block-single p q a.0 b.0), a.1 ∙ sym b.1)

@@ -1,4 +1,5 @@
 -- What the two calls reply, value by value: order and negation, of single samples and of heard positions of blocks.
+use Rattle.std.proofs.Common.{Ok}
 use Prim.Native.Nat.{ℕ, ◌<◌}
 use lib.Dec.{T}
 use lib.Ieee.{Float, binary32, fits, is_nan, le, nan, neg}
@@ -10,8 +11,6 @@ use mathlib.Core.Path.{◌≡◌, ap, refl, subst}
 use Rattle.levels.proofs.BlockLevels.{heard-level}
 use Rattle.levels.proofs.LevelsDetermined.{passed-number}
 use Rattle.levels.proofs.LevelsOrdered.{greater-value-no-lower-level, negated}
-use Rattle.levels.specs.declared.Level.TheVariants as L
-use Rattle.levels.specs.declared.Levels.TheVariants as B
 use Rattle.levels.specs.declared.Sample.TheVariants.{Heard}
 use Rattle.levels.specs.declared.Setting.{Setting}
 use Rattle.levels.specs.Choosing.{LevelOf, sample_of}
@@ -32,10 +31,10 @@ negated-levels setting g f v y z n a b = go (ℤ_discrete z (neg_ℤ y))
 -- ---- `level_of`
 
 module _ (setting : Setting) (v w : Float) (y z : ℤ) where
-  pub level-replies-ordered : T (le v w) → GivesLevel setting (Heard v) (L.Is y) → GivesLevel setting (Heard w) (L.Is z) → y ≤ℤ z
+  pub level-replies-ordered : T (le v w) → GivesLevel setting (Heard v) (Ok y) → GivesLevel setting (Heard w) (Ok z) → y ≤ℤ z
   level-replies-ordered h a b = greater-value-no-lower-level setting v w y z h a.1 b.1
 
-  pub level-replies-negated : T (fits binary32 setting.step) → w ≡ neg v → GivesLevel setting (Heard v) (L.Is y) → GivesLevel setting (Heard w) (L.Is z) → z ≡ neg_ℤ y
+  pub level-replies-negated : T (fits binary32 setting.step) → w ≡ neg v → GivesLevel setting (Heard v) (Ok y) → GivesLevel setting (Heard w) (Ok z) → z ≡ neg_ℤ y
   level-replies-negated f e a b =
       negated-levels setting (λ g. a.0.0 BadSetting (g, refl)) f v y z (λ t. a.0.1.0 (NotANumber 0) (t, refl)) a.1
       (subst (λ (x : Float). LevelOf setting x z) e b.1)
@@ -43,7 +42,7 @@ module _ (setting : Setting) (v w : Float) (y z : ℤ) where
 -- ---- `levels_of`: a heard position of a block, and one of the same or of another block under the same setting
 
 module _ (setting : Setting) (n m : ℕ) (values others : List Float) (erased gone : ℕ) (room room' place place' : List ℤ)
-    (one : GivesLevels n setting values erased room room' B.Written) (two : GivesLevels m setting others gone place place' B.Written)
+    (one : GivesLevels n setting values erased room room' (Ok tt)) (two : GivesLevels m setting others gone place place' (Ok tt))
     (i j : ℕ) (i-in : i < n) (j-in : j < m) (i-heard : bit erased i ≡ 0) (j-heard : bit gone j ≡ 0) where
   at_i : LevelOf setting (get_or values i nan) (get_or room' i (pos 0))
   at_i = heard-level n setting values erased room room' one i i-in i-heard

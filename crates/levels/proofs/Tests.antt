@@ -1,12 +1,13 @@
 -- What the tests of a setting and of a sample find.
-use Prim.Native.Nat.{ℕ, zero, suc, ◌*◌, ◌≤◌}
+use Prim.Native.Nat.{ℕ, zero, suc, ◌≤◌}
 use borrow.Author.Tests.{leb-false, leb-true}
-use lib.Dec.{T, eqb, eqb_refl, leb}
-use lib.Ieee.{Float, down, fin, inf, is_nan, lt, nan, ne, up}
+use lib.Dec.{T, leb}
+use lib.Ieee.{Float, fin, inf, lt, nan}
 use lib.Ieee.Scale.{finite}
-use mathlib.Core.Bool.{Bool, true, false, not, true≢false, ◌&&◌}
-use mathlib.Core.Path.{◌≡◌, ap, refl, subst, sym, ◌∙◌}
+use mathlib.Core.Bool.{Bool, true, false, true≢false}
+use mathlib.Core.Path.{◌≡◌, refl, subst, sym, ◌∙◌}
 use native.Mathlib.Omega.{arith}
+use Rattle.std.specs.Float.{float_is_finite}
 use Rattle.levels.specs.declared.Sample.TheVariants.{Erased}
 use Rattle.levels.specs.declared.Setting.{Setting}
 use Rattle.levels.specs.Choosing.{nought, sample_of, times}
@@ -38,36 +39,12 @@ pub erased-is : (value : Float) (mark : ℕ) → (mark ≡ 0 → ⊥) → Erased
 erased-is value zero h = absurd (h refl)
 erased-is value (suc mark) h = refl
 
--- ---- finite values are those between the infinities
-
--- under the one, a value is finite exactly if it is over the other
-pub under-infinity : (x : Float) → lt x (inf false) ≡ true → lt (inf true) x ≡ finite x
-unfolding lt
-under-infinity nan h = refl
-under-infinity (inf true) h = refl
-under-infinity (inf false) h = absurd (true≢false (sym h))
-under-infinity (fin s m e) h = refl
-
--- a value that is not under the greater infinity is not finite
-pub not-under-infinity : (x : Float) → lt x (inf false) ≡ false → false ≡ finite x
-unfolding lt
-not-under-infinity nan h = refl
-not-under-infinity (inf s) h = refl
-not-under-infinity (fin s m e) h = absurd (true≢false h)
-
--- a test that passes is true
-T_true : (b : Bool) → T b → b ≡ true
-T_true true t = refl
-T_true false t = absurd t
-
--- a value differs from itself exactly if it is not a number
-pub differs-is : (x : Float) → ne x x ≡ is_nan x
-unfolding ne is_nan
-differs-is nan = refl
-differs-is (inf true) = refl
-differs-is (inf false) = refl
-differs-is (fin true m e) = ap (λ (b : Bool). not (b && true)) (T_true (eqb (m * up e * down e) (m * up e * down e)) (eqb_refl (m * up e * down e)))
-differs-is (fin false m e) = ap (λ (b : Bool). not (b && true)) (T_true (eqb (m * up e * down e) (m * up e * down e)) (eqb_refl (m * up e * down e)))
+-- what the library's test says
+pub is-finite : (x : Float) → float_is_finite x ≡ finite x
+unfolding float_is_finite
+is-finite nan = refl
+is-finite (inf s) = refl
+is-finite (fin s m e) = refl
 
 -- what the test of a step says, either way
 pub above : (step : Float) → lt nought step ≡ true → T (lt nought step)

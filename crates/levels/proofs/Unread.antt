@@ -1,4 +1,5 @@
 -- Marks at n or beyond and values at erased positions mean nothing: blocks with the same samples before n get the same reply and levels.
+use Rattle.std.proofs.Common.{Result, Ok, Err}
 use Prim.Native.Nat.{ℕ, ◌<◌}
 use lib.Dec.{T}
 use lib.Ieee.{Float}
@@ -9,8 +10,6 @@ use mathlib.Core.Logic.{◌⊎◌, inl, inr}
 use mathlib.Core.Path.{◌≡◌, subst, sym, ◌∙◌}
 use native.Mathlib.Omega.{arith}
 use Rattle.levels.proofs.BlockLevels.{values-n}
-use Rattle.levels.specs.declared.Levels.{Levels}
-use Rattle.levels.specs.declared.Levels.TheVariants as B
 use Rattle.levels.specs.declared.Sample.{Sample}
 use Rattle.levels.specs.declared.Setting.{Setting}
 use Rattle.levels.specs.Choosing.{LevelOfSample, sample_at}
@@ -79,8 +78,8 @@ module _ (n : ℕ) (setting : Setting) (values others : List Float) (erased gone
   )
 
   -- a reply with its room that meets the promise for the one block meets it for the other
-  pub unread : (r : Levels) → GivesLevels n setting values erased room room' r → GivesLevels n setting others gone room room' r
-  unread B.Written a = (
+  pub unread : (r : Result (Unit {0}) Refusal) → GivesLevels n setting values erased room room' r → GivesLevels n setting others gone room room' r
+  unread (Ok _) a = (
     passes-alike (block_conditions n setting values erased room) (block_conditions n setting others gone room) conditions-alike a.0,
     record {
       as_long = a.1.as_long ∙ s.as_many;
@@ -89,5 +88,5 @@ module _ (n : ℕ) (setting : Setting) (values others : List Float) (erased gone
           subst (λ (x : Sample). LevelOfSample setting x (get_or room' i (pos 0))) (s.samples i (omega (arith, values-n n setting values erased room room' a))) (a.1.each i l);
     },
   )
-  unread (B.Refused q) a =
+  unread (Err q) a =
       (refuses-alike (block_conditions n setting values erased room) (block_conditions n setting others gone room) conditions-alike q a.0, a.1)

@@ -1,15 +1,11 @@
 -- What the two calls reply, and when they refuse.
-use Rattle.std.specs.Prelude.{ℕ, ◌≤◌, ◌<◌, T, Float, ℤ, length, Bool, false, List, [], ◌∷◌, ◌⊎◌, ◌≡◌}
+use Rattle.std.specs.Prelude.{ℕ, ◌≤◌, ◌<◌, T, Float, ℤ, length, Bool, false, List, [], ◌∷◌, ◌⊎◌, ◌≡◌, Result, Ok, Err}
 use Rattle.std.specs.Float.Ieee.{is_nan, lt}
 use Rattle.std.specs.Float.Ieee.Scale.{finite}
 use Rattle.plates.specs.declared.Refusal.{Refusal}
 use Rattle.plates.specs.declared.Refusal.TheVariants.{BadSetting, NotANumber, SampleCount}
 use Rattle.plates.specs.Prepare.{bad_length}
 use Rattle.plates.specs.Refusals.{Refuses, Passes}
-use Rattle.levels.specs.declared.Level.{Level}
-use Rattle.levels.specs.declared.Level.TheVariants as L
-use Rattle.levels.specs.declared.Levels.{Levels}
-use Rattle.levels.specs.declared.Levels.TheVariants as B
 use Rattle.levels.specs.declared.Sample.{Sample}
 use Rattle.levels.specs.declared.Sample.TheVariants.{Heard, Erased}
 use Rattle.levels.specs.declared.Setting.{Setting}
@@ -62,12 +58,12 @@ block_conditions n setting values erased room =
 -- ---- the replies
 
 -- a single sample
-abbrev pub GivesLevel : Setting → Sample → Level → Type 0
-GivesLevel setting sample (L.Is level) = Passes (sample_conditions setting sample) × LevelOfSample setting sample level
-GivesLevel setting sample (L.Refused q) = Refuses (sample_conditions setting sample) q
+abbrev pub GivesLevel : Setting → Sample → Result ℤ Refusal → Type 0
+GivesLevel setting sample (Ok level) = Passes (sample_conditions setting sample) × LevelOfSample setting sample level
+GivesLevel setting sample (Err q) = Refuses (sample_conditions setting sample) q
 
 -- a block, with its room before and after: the first refusal in order with the room unchanged, or the n levels in the room
-abbrev pub GivesLevels : ℕ → Setting → List Float → ℕ → List ℤ → List ℤ → Levels → Type 0
-GivesLevels n setting values erased room room' B.Written =
+abbrev pub GivesLevels : ℕ → Setting → List Float → ℕ → List ℤ → List ℤ → Result (Unit {0}) Refusal → Type 0
+GivesLevels n setting values erased room room' (Ok _) =
     Passes (block_conditions n setting values erased room) × LevelsOf setting values erased room'
-GivesLevels n setting values erased room room' (B.Refused q) = Refuses (block_conditions n setting values erased room) q × (room' ≡ room)
+GivesLevels n setting values erased room room' (Err q) = Refuses (block_conditions n setting values erased room) q × (room' ≡ room)

@@ -1,5 +1,5 @@
 -- What the library's own functions test and find on the way to a level.
-use Rattle.std.specs.Prelude.{ℕ, ◌+◌, ◌≤◌, ◌<◌, T, Float, ℤ, length, Bool, true, false, List, ◌⊎◌, ◌≡◌}
+use Rattle.std.specs.Prelude.{ℕ, ◌+◌, ◌≤◌, ◌<◌, T, Float, ℤ, length, Bool, true, false, List, MatchOption, Option, ◌⊎◌, ◌≡◌}
 use Rattle.std.specs.Float.Ieee.{le}
 use Rattle.levels.specs.declared.Sample.{Sample}
 use Rattle.levels.specs.declared.Setting.{Setting}
@@ -19,11 +19,19 @@ ZeroOrMore value = T (le nought value)
 abbrev pub IsNumber : Sample → Type 0
 IsNumber sample = T (not_a_number sample) → ⊥
 
--- r is the first position whose value is heard and not a number, and the number of values where there is none
-pub record FirstNotANumber (values : List Float) (erased r : ℕ) : Type 0 where
-  pub most : r ≤ length values
-  pub before : (i : ℕ) → i < r → IsNumber (sample_at values erased i)
-  pub here : r < length values → T (not_a_number (sample_at values erased r))
+-- all values before i are numbers where they are heard
+abbrev pub NumbersTo : List Float → ℕ → ℕ → Type 0
+NumbersTo values erased i = (j : ℕ) → j < i → IsNumber (sample_at values erased j)
+
+-- r is the first position whose value is heard and not a number
+pub record NotANumberAt (values : List Float) (erased r : ℕ) : Type 0 where
+  pub there : r < length values
+  pub before : NumbersTo values erased r
+  pub here : T (not_a_number (sample_at values erased r))
+
+-- the reply is that position; None where there is none
+abbrev pub FirstNotANumber : List Float → ℕ → Option ℕ → Type 0
+FirstNotANumber values erased r = MatchOption r (NumbersTo values erased (length values)) (NotANumberAt values erased)
 
 -- r is the one that is so many levels higher where that is permitted and reached, and else the level
 abbrev pub Raised : Setting → Float → ℕ → ℕ → ℕ → Type 0

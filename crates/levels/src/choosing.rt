@@ -5,8 +5,7 @@ ghost use Rattle.levels.specs.Giving.{Good};
 ghost use Rattle.levels.specs.Testing.{IsNumber, Raised, Writable, ZeroOrMore};
 
 use crate::settings::times_step;
-use crate::values::sample_of;
-use crate::{Sample, Setting};
+use crate::{Sample, Setting, sample_of};
 
 // The level, or the one that is so many levels higher where it is permitted and reached.
 fn raised(setting: Setting, value: f32, level: u8, more: u8) -> u8
@@ -23,7 +22,7 @@ fn raised(setting: Setting, value: f32, level: u8, more: u8) -> u8
     level
 }
 
-// The level of a value of zero or more: each turn halves the span of levels in which it lies.
+// The level of a value of zero or more: each turn halves the span of levels in which it lies. (A `while`: it counts no index.)
 fn largest(setting: Setting, value: f32) -> u8
     requires { Good setting × ZeroOrMore value }
     ensures { Largest setting value result }
@@ -64,10 +63,7 @@ pub fn write_levels(setting: Setting, values: &[f32], erased: u64, room: &mut [i
     requires { Writable setting values.now erased room.old }
     ensures { LevelsOf setting values.now erased room.new }
 {
-    let mut i = 0;
-    while i < values.len() {
-        let level = level_of_sample(setting, sample_of(values[i], words::bit_at(erased, i)));
-        room[i] = level;
-        i += 1;
+    for (i, value) in values.iter().enumerate() {
+        room[i] = level_of_sample(setting, sample_of(*value, words::bit_at(erased, i)));
     }
 }

@@ -1,6 +1,8 @@
 // Levels of single-precision samples: of a single one, and of the n samples of a block.
 #![tactic(auto)]
 
+ghost use Rattle.std.specs.Prelude.{◌≡◌};
+ghost use Rattle.levels.specs.Choosing.{sample_of};
 ghost use Rattle.levels.specs.Giving.{GivesLevel, GivesLevels};
 
 use crate::values::{first_not_a_number, is_not_a_number};
@@ -24,31 +26,27 @@ pub enum Sample {
     Erased,
 }
 
-// The level of a sample, or why there is none.
-#[derive(Clone, Copy)]
-pub enum Level {
-    Is(i16),
-    Refused(Refusal),
-}
-
-// Whether the levels of a block are in their room, or why not.
-#[derive(Clone, Copy)]
-pub enum Levels {
-    Written,
-    Refused(Refusal),
+// The sample of a value and its mark: erased unless the mark is 0.
+pub fn sample_of(value: f32, mark: u64) -> Sample
+    ensures { result ≡ sample_of value mark }
+{
+    if mark == 0 {
+        return Sample::Heard(value);
+    }
+    Sample::Erased
 }
 
 // The level of a single sample.
-pub fn level_of(setting: Setting, sample: Sample) -> Level
+pub fn level_of(setting: Setting, sample: Sample) -> Result<i16, Refusal>
     ensures { GivesLevel setting sample result }
 {
     if !settings::is_good(setting) {
-        return Level::Refused(Refusal::BadSetting);
+        return Err(Refusal::BadSetting);
     }
     if is_not_a_number(sample) {
-        return Level::Refused(Refusal::NotANumber(0));
+        return Err(Refusal::NotANumber(0));
     }
-    Level::Is(choosing::level_of_sample(setting, sample))
+    Ok(choosing::level_of_sample(setting, sample))
 }
 
 // The levels of a block of n values, of which those at the marked positions are erased.
@@ -58,28 +56,27 @@ pub fn levels_of(
     values: &[f32],
     erased: u64,
     room: &mut [i16],
-) -> Levels
+) -> Result<(), Refusal>
     ensures { GivesLevels n setting values.now erased room.old room.new result }
 {
     if n == 0 {
-        return Levels::Refused(Refusal::Length);
+        return Err(Refusal::Length);
     }
     if 64 < n {
-        return Levels::Refused(Refusal::Length);
+        return Err(Refusal::Length);
     }
     if !settings::is_good(setting) {
-        return Levels::Refused(Refusal::BadSetting);
+        return Err(Refusal::BadSetting);
     }
     if values.len() != n {
-        return Levels::Refused(Refusal::SampleCount);
+        return Err(Refusal::SampleCount);
     }
     if room.len() != n {
-        return Levels::Refused(Refusal::SampleCount);
+        return Err(Refusal::SampleCount);
     }
-    let first = first_not_a_number(values, erased);
-    if first < n {
-        return Levels::Refused(Refusal::NotANumber(first));
+    if let Some(first) = first_not_a_number(values, erased) {
+        return Err(Refusal::NotANumber(first));
     }
     choosing::write_levels(setting, values, erased, &mut *room);
-    Levels::Written
+    Ok(())
 }

@@ -27,18 +27,18 @@ returns-then-room-n c =
     let good = good-passed (c.is_good.ensures.yes_is c.if-not-is_good.false) in
     (inr (fits, inr (good, inl (inr c.if-room-n.true, refl))), refl)
 
-pub returns-then-first-n : goal.returns-then-first-n
-returns-then-first-n c =
+pub returns-in-Some : goal.returns-in-Some
+returns-in-Some c =
     let fits = length-passed c.if-n-eq0.false c.if-n-gt64.false in
     let good = good-passed (c.is_good.ensures.yes_is c.if-not-is_good.false) in
     let args = c.args in
     let count = count-passed args.values.now args.room.now c.if-values-n.false c.if-room-n.false in
-    (inr (fits, inr (good, inr (count, inl (number-refused c.first_not_a_number-first.ensures c.if-values-n.false c.if-first-n.true)))), refl)
+    (inr (fits, inr (good, inr (count, inl (number-refused _ _ c.if-values-n.false c.in-Some.ensures)))), refl)
 
 pub write_levels-requires : goal.write_levels-requires
 write_levels-requires c =
     let good = c.is_good.ensures.yes_is c.if-not-is_good.false in
-    writable c.first_not_a_number-first.ensures c.if-values-n.false c.if-first-n.false good c.if-room-n.false
+    writable _ _ c.if-values-n.false c.in_default.ensures good c.if-room-n.false
 
 pub returns : goal.returns
 returns c =
@@ -46,5 +46,5 @@ returns c =
     let good = good-passed (c.is_good.ensures.yes_is c.if-not-is_good.false) in
     let args = c.args in
     let count = count-passed args.values.now args.room.now c.if-values-n.false c.if-room-n.false in
-    let numbers = numbers-passed c.first_not_a_number-first.ensures c.if-values-n.false c.if-first-n.false in
+    let numbers = numbers-passed _ _ c.if-values-n.false c.in_default.ensures in
     ((fits, (good, (count, (numbers, tt)))), c.write_levels.ensures)

@@ -13,8 +13,8 @@ use Rattle.levels.proofs.choosing.write_levels.Goals as goal
 pub loop-i-init : goal.loop-i-init
 loop-i-init c = (omega arith, c.requires.as_long, λ j h. absurd (omega arith))
 
-pub level_of_sample-level-requires : goal.level_of_sample-level-requires
-level_of_sample-level-requires c =
+pub level_of_sample-requires : goal.level_of_sample-requires
+level_of_sample-requires c =
     let l = c.loop-i in
     let same = c.sample_of.ensures ∙ ap (sample_of _) c.bit_at.ensures in
     (c.requires.good, subst IsNumber (sym same) (c.requires.numbers l.i c.loop-i-test.true))
@@ -27,7 +27,7 @@ loop-i-preserved c =
       omega (arith, taken),
       length-set l.room l.i _ ∙ l.invariant.1,
       one_more c.args.setting c.args.values.now c.args.erased l.room l.i _ (omega (arith, taken, l.invariant.1)) l.invariant.2
-          (rw (to_z-of_z {w = w16} (record { sfits = c.level_of_sample-level.type_inv })) (subst (λ (x : Sample). LevelOfSample c.args.setting x c.level_of_sample-level.result) same c.level_of_sample-level.ensures)),
+          (rw (to_z-of_z {w = w16} (record { sfits = c.level_of_sample.type_inv })) (subst (λ (x : Sample). LevelOfSample c.args.setting x c.level_of_sample.result) same c.level_of_sample.ensures)),
     )
 
 pub shape_of-room : goal.shape_of-room

@@ -16,9 +16,9 @@ pub returns-then-is_not_a_number : goal.returns-then-is_not_a_number
 returns-then-is_not_a_number c =
     let l = c.loop-i in
     record {
-      most = l.invariant.0;
+      there = c.loop-i-test.true;
       before = l.invariant.1;
-      here = λ h. found (c.is_not_a_number.ensures ∙ ap not_a_number (c.sample_of.ensures ∙ ap (sample_of _) c.bit_at.ensures)) c.if-is_not_a_number.true;
+      here = found (c.is_not_a_number.ensures ∙ ap not_a_number (c.sample_of.ensures ∙ ap (sample_of _) c.bit_at.ensures)) c.if-is_not_a_number.true;
     }
 
 pub loop-i-preserved : goal.loop-i-preserved
@@ -31,4 +31,4 @@ loop-i-preserved c =
 
 pub returns : goal.returns
 returns c =
-    record { most = c.loop-i.invariant.0; before = c.loop-i.invariant.1; here = λ h. absurd (omega (arith, h, c.loop-i-test.false)) }
+    λ j h. c.loop-i.invariant.1 j (omega (arith, h, c.loop-i-test.false))

@@ -1,8 +1,8 @@
--- `levels::values::sample_of` meets its contract.
+-- `levels::sample_of` meets its contract.
 use mathlib.Core.Path.{ap, sym}
 use Rattle.levels.specs.Choosing.{sample_of}
 use Rattle.levels.proofs.Tests.{erased-is}
-use Rattle.levels.proofs.values.sample_of.Goals as goal
+use Rattle.levels.proofs.sample_of.Goals as goal
 
 pub returns-then-mark-eq0 : goal.returns-then-mark-eq0
 returns-then-mark-eq0 c = sym (ap (sample_of c.args.value) c.if-mark-eq0.true)
