@@ -1,4 +1,5 @@
 -- The replies of `encode` and `read_back`, case by case.
+use Rattle.std.proofs.Common.{Ok, Err}
 use lib.Bits.{bit_xor, xor_zero_r}
 use lib.ListN.{length}
 use mathlib.Core.Bool.{Bool, false, true}
@@ -7,8 +8,6 @@ use mathlib.Core.Path.{ap, refl, subst, sym, ◌∙◌, ◌≡◌}
 use native.Mathlib.Omega.{arith}
 use Prim.Native.Nat.{◌<◌, ◌^◌, ℕ, ◌≤◌}
 use Rattle.coding.proofs.PlateWords.{makes_word}
-use Rattle.coding.specs.declared.Encoded.TheVariants as E
-use Rattle.coding.specs.declared.ReadBack.TheVariants as R
 use Rattle.coding.specs.Coding.{Encodes, ReadsBack}
 use Rattle.coding.specs.declared.Reading.{Reading}
 use Rattle.coding.specs.TakingOff.{Headed, Reaches, Read}
@@ -66,7 +65,7 @@ module _ {plate : Plate} (given : IsPrepared plate) (word : ℕ) (r : Reading) (
 -- the rows are taken off the word plus mask
 module _ {plate : Plate} (given : IsPrepared plate) (word : ℕ) (r : Reading)
     (read : Read plate.rows plate.k (bit_xor word plate.mask) plate.k r) where
-  read-information : r.rest ≡ 0 → ReadsBack plate word (R.Information r.information)
+  read-information : r.rest ≡ 0 → ReadsBack plate word (Ok r.information)
   read-information e =
       let codeword = read-codeword given (bit_xor word plate.mask) r read e in (
         ((λ q b. b.0 given), ((λ q b. b.0 (record { by = r.information; sum = codeword })), tt)),
@@ -74,21 +73,21 @@ module _ {plate : Plate} (given : IsPrepared plate) (word : ℕ) (r : Reading)
         makes_word plate r.information word codeword,
       )
 
-  read-refused : (r.rest ≡ 0 → ⊥) → ReadsBack plate word (R.Refused NoCodeword)
+  read-refused : (r.rest ≡ 0 → ⊥) → ReadsBack plate word (Err NoCodeword)
   read-refused n = inr ((λ q b. b.0 given), inl (read-no-codeword given (bit_xor word plate.mask) r read n, refl))
 
 -- the mask is added to the sum of the rows
 encoded-word : {plate : Plate} {information sum : ℕ} → IsPrepared plate → information < 2 ^ plate.k → sum ≡ sum_of (rows_of plate) information
-    → Encodes plate information (E.Word (bit_xor sum plate.mask))
+    → Encodes plate information (Ok (bit_xor sum plate.mask))
 encoded-word {plate} given short e =
     (((λ q b. b.0 given), ((λ q b. omega (arith, b.0, short)), tt)), ap (λ (x : ℕ). bit_xor x plate.mask) e)
 
 -- by the test of the plate: it is refused where that says no
 module _ {plate : Plate} {p : Bool} (t : Tests plate p) where
-  pub encode-refused : {information : ℕ} → p ≡ false → Encodes plate information (E.Refused NotPrepared)
+  pub encode-refused : {information : ℕ} → p ≡ false → Encodes plate information (Err NotPrepared)
   encode-refused e = inl (t.no_is e, refl)
 
-  pub read-back-refused : (word : ℕ) → p ≡ false → ReadsBack plate word (R.Refused NotPrepared)
+  pub read-back-refused : (word : ℕ) → p ≡ false → ReadsBack plate word (Err NotPrepared)
   read-back-refused word e = inl (t.no_is e, refl)
 
   module _ (e : p ≡ true) where
@@ -105,15 +104,15 @@ module _ {plate : Plate} {p : Bool} (t : Tests plate p) where
     rows-headed = plate-headed (sound given)
 
     module _ {information : ℕ} {r : Bool} (o : Reaches information plate.k r) where
-      pub over-refused : r ≡ true → Encodes plate information (E.Refused InformationBeyond)
+      pub over-refused : r ≡ true → Encodes plate information (Err InformationBeyond)
       over-refused e = inr ((λ q b. b.0 given), inl (o.yes_is e, refl))
 
-      pub encoded : {sum : ℕ} → r ≡ false → sum ≡ sum_of (rows_of plate) information → Encodes plate information (E.Word (bit_xor sum plate.mask))
+      pub encoded : {sum : ℕ} → r ≡ false → sum ≡ sum_of (rows_of plate) information → Encodes plate information (Ok (bit_xor sum plate.mask))
       encoded e s = encoded-word given (o.no_is e) s
 
     module _ (word : ℕ) {r : Reading} (read : Read plate.rows plate.k (bit_xor word plate.mask) plate.k r) where
-      pub no_word : (r.rest ≡ 0 → ⊥) → ReadsBack plate word (R.Refused NoCodeword)
+      pub no_word : (r.rest ≡ 0 → ⊥) → ReadsBack plate word (Err NoCodeword)
       no_word = read-refused given word r read
 
-      pub informed : r.rest ≡ 0 → ReadsBack plate word (R.Information r.information)
+      pub informed : r.rest ≡ 0 → ReadsBack plate word (Ok r.information)
       informed = read-information given word r read

@@ -1,14 +1,12 @@
 -- Determined: two replies that meet the promise of `encode`, or of `read_back`, are equal.
+use Rattle.std.proofs.Common.{Result, Ok, Err}
+use Rattle.plates.specs.declared.Refusal.{Refusal}
 use lib.ListN.{length}
 use mathlib.Core.Path.{ap, refl, subst, sym, ◌∙◌, ◌≡◌}
 use native.Mathlib.Decide.{ℕ_discrete}
 use Prim.Native.Nat.{◌<◌, ◌^◌, ℕ}
 use Rattle.coding.proofs.PlateWords.{same-codeword}
-use Rattle.coding.specs.declared.Encoded.TheVariants as E
-use Rattle.coding.specs.declared.ReadBack.TheVariants as R
 use Rattle.coding.specs.Coding.{Encodes, ReadsBack, encode_conditions, read_conditions, word_of}
-use Rattle.coding.specs.declared.Encoded.{Encoded}
-use Rattle.coding.specs.declared.ReadBack.{ReadBack}
 use Rattle.plates.proofs.Refusing.{Single, never_both, refuses-once}
 use Rattle.plates.proofs.SoundIsPrepared.{sound, used-rows}
 use Rattle.plates.specs.declared.Plate.{Plate}
@@ -29,11 +27,11 @@ module _ (plate : Plate) (information : ℕ) where
   encode-single : Single (encode_conditions plate information)
   encode-single = ((λ p q x y. x.1 ∙ sym y.1), ((λ p q x y. x.1 ∙ sym y.1), tt))
 
-  pub encode-determined : (r s : Encoded) → Encodes plate information r → Encodes plate information s → r ≡ s
-  encode-determined (E.Word a) (E.Word b) x y = ap E.Word (x.1 ∙ sym y.1)
-  encode-determined (E.Word a) (E.Refused q) x y = absurd (never_both (encode_conditions plate information) x.0 q y)
-  encode-determined (E.Refused p) (E.Word b) x y = absurd (never_both (encode_conditions plate information) y.0 p x)
-  encode-determined (E.Refused p) (E.Refused q) x y = ap E.Refused (refuses-once (encode_conditions plate information) encode-single p q x y)
+  pub encode-determined : (r s : Result ℕ Refusal) → Encodes plate information r → Encodes plate information s → r ≡ s
+  encode-determined (Ok a) (Ok b) x y = ap Ok (x.1 ∙ sym y.1)
+  encode-determined (Ok a) (Err q) x y = absurd (never_both (encode_conditions plate information) x.0 q y)
+  encode-determined (Err p) (Ok b) x y = absurd (never_both (encode_conditions plate information) y.0 p x)
+  encode-determined (Err p) (Err q) x y = ap Err (refuses-once (encode_conditions plate information) encode-single p q x y)
 
 module _ (plate : Plate) (word : ℕ) where
   read-single : Single (read_conditions plate word)
@@ -43,12 +41,12 @@ module _ (plate : Plate) (word : ℕ) where
   not-unsound : Passes (read_conditions plate word) → (IsPrepared plate → ⊥) → ⊥
   not-unsound p n = p.0 NotPrepared (n, refl)
 
-  pub read-back-determined : (r s : ReadBack) → ReadsBack plate word r → ReadsBack plate word s → r ≡ s
-  read-back-determined (R.Information u) (R.Information v) x y = ap R.Information (same (ℕ_discrete u v))
+  pub read-back-determined : (r s : Result ℕ Refusal) → ReadsBack plate word r → ReadsBack plate word s → r ≡ s
+  read-back-determined (Ok u) (Ok v) x y = ap Ok (same (ℕ_discrete u v))
     where
       same : Dec (u ≡ v) → u ≡ v
       same (yes e) = e
       same (no d) = absurd (not-unsound x.0 (λ p. d (information-same plate (sound p) u v x.1 y.1 (x.2 ∙ sym y.2))))
-  read-back-determined (R.Information u) (R.Refused q) x y = absurd (never_both (read_conditions plate word) x.0 q y)
-  read-back-determined (R.Refused p) (R.Information v) x y = absurd (never_both (read_conditions plate word) y.0 p x)
-  read-back-determined (R.Refused p) (R.Refused q) x y = ap R.Refused (refuses-once (read_conditions plate word) read-single p q x y)
+  read-back-determined (Ok u) (Err q) x y = absurd (never_both (read_conditions plate word) x.0 q y)
+  read-back-determined (Err p) (Ok v) x y = absurd (never_both (read_conditions plate word) y.0 p x)
+  read-back-determined (Err p) (Err q) x y = ap Err (refuses-once (read_conditions plate word) read-single p q x y)

@@ -1,4 +1,6 @@
 -- Encode and read back undo each other, and read back refuses exactly the words that are no words of the plate.
+use Rattle.std.proofs.Common.{Result, Ok, Err}
+use Rattle.plates.specs.declared.Refusal.{Refusal}
 use lib.Bits.{bit_xor, xor_lt}
 use lib.ListN.{get_or, length}
 use mathlib.Core.Logic.{inl, inr, ◌↔◌}
@@ -7,11 +9,7 @@ use native.Mathlib.Omega.{arith}
 use Prim.Native.Nat.{◌<◌, ◌^◌, ℕ, ◌≤◌}
 use Rattle.coding.proofs.CodingDetermined.{encode-determined, read-back-determined}
 use Rattle.coding.proofs.PlateWords.{made-is-word, makes_word, mask-twice}
-use Rattle.coding.specs.declared.Encoded.TheVariants as E
-use Rattle.coding.specs.declared.ReadBack.TheVariants as R
 use Rattle.coding.specs.Coding.{Encodes, ReadsBack, word_of}
-use Rattle.coding.specs.declared.Encoded.{Encoded}
-use Rattle.coding.specs.declared.ReadBack.{ReadBack}
 use Rattle.plates.proofs.OneDimension.{sum-trim, trim, trim-lt}
 use Rattle.plates.proofs.SoundIsPrepared.{sound, used-row, used-rows}
 use Rattle.plates.specs.declared.Plate.{Plate}
@@ -24,16 +22,16 @@ use Rattle.words.specs.Word.{bit}
 
 module _ (plate : Plate) (prepared : IsPrepared plate) where
   -- encode then read back returns the information, for every information below 2 ^ k
-  pub encode-then-read : (u : ℕ) → u < 2 ^ plate.k → (r : Encoded) → Encodes plate u r
-      → (r ≡ E.Word (word_of plate u)) × ((s : ReadBack) → ReadsBack plate (word_of plate u) s → s ≡ R.Information u)
-  encode-then-read u h r x = (encoded, λ s y. read-back-determined plate (word_of plate u) s (R.Information u) y is_read)
+  pub encode-then-read : (u : ℕ) → u < 2 ^ plate.k → (r : Result ℕ Refusal) → Encodes plate u r
+      → (r ≡ Ok (word_of plate u)) × ((s : Result ℕ Refusal) → ReadsBack plate (word_of plate u) s → s ≡ Ok u)
+  encode-then-read u h r x = (encoded, λ s y. read-back-determined plate (word_of plate u) s (Ok u) y is_read)
     where
-      encoded : r ≡ E.Word (word_of plate u)
+      encoded : r ≡ Ok (word_of plate u)
       encoded =
-          encode-determined plate u r (E.Word (word_of plate u)) x
+          encode-determined plate u r (Ok (word_of plate u)) x
           (((λ p b. b.0 prepared), ((λ p b. omega (arith, b.0)), tt)), refl)
 
-      is_read : ReadsBack plate (word_of plate u) (R.Information u)
+      is_read : ReadsBack plate (word_of plate u) (Ok u)
       is_read = (((λ p b. b.0 prepared), ((λ p b. b.0 (made-is-word plate u)), tt)), h, refl)
 
   -- the information of a word of the plate
@@ -46,20 +44,20 @@ module _ (plate : Plate) (prepared : IsPrepared plate) where
       )
 
   -- read back then encode returns the word, for every word of the plate
-  pub read-then-encode : (w : ℕ) → IsWord plate w → (s : ReadBack) → ReadsBack plate w s
-      → (u : ℕ) × (s ≡ R.Information u) × ((r : Encoded) → Encodes plate u r → r ≡ E.Word w)
+  pub read-then-encode : (w : ℕ) → IsWord plate w → (s : Result ℕ Refusal) → ReadsBack plate w s
+      → (u : ℕ) × (s ≡ Ok u) × ((r : Result ℕ Refusal) → Encodes plate u r → r ≡ Ok w)
   read-then-encode w g s y =
       let i = information-of w g in (
         i.0,
-        read-back-determined plate w s (R.Information i.0) y (((λ p b. b.0 prepared), ((λ p b. b.0 g), tt)), i.1, i.2),
-        λ r x. (encode-then-read i.0 i.1 r x).0 ∙ ap E.Word i.2,
+        read-back-determined plate w s (Ok i.0) y (((λ p b. b.0 prepared), ((λ p b. b.0 g), tt)), i.1, i.2),
+        λ r x. (encode-then-read i.0 i.1 r x).0 ∙ ap Ok i.2,
       )
 
   -- read back refuses exactly the words that are no words of the plate
-  pub read-refuses : (w : ℕ) (s : ReadBack) → ReadsBack plate w s → (s ≡ R.Refused NoCodeword) ↔ (IsWord plate w → ⊥)
-  read-refuses w s y = ((λ e g. no_word e g), λ n. read-back-determined plate w s (R.Refused NoCodeword) y (inr ((λ p b. b.0 prepared), inl (n, refl))))
+  pub read-refuses : (w : ℕ) (s : Result ℕ Refusal) → ReadsBack plate w s → (s ≡ Err NoCodeword) ↔ (IsWord plate w → ⊥)
+  read-refuses w s y = ((λ e g. no_word e g), λ n. read-back-determined plate w s (Err NoCodeword) y (inr ((λ p b. b.0 prepared), inl (n, refl))))
     where
-      no_word : s ≡ R.Refused NoCodeword → IsWord plate w → ⊥
+      no_word : s ≡ Err NoCodeword → IsWord plate w → ⊥
       no_word e g = let c = (read-then-encode w g s y).1 in let z : ◌≡◌ {A = ℕ} 0 1 = cc in omega arith
 
   -- a codeword has no one at n or beyond

@@ -1,5 +1,5 @@
 -- What encode and read back reply.
-use Rattle.std.specs.Prelude.{ℕ, ◌^◌, ◌≤◌, ◌<◌, List, [], ◌∷◌, ◌≡◌}
+use Rattle.std.specs.Prelude.{ℕ, ◌^◌, ◌≤◌, ◌<◌, List, [], ◌∷◌, ◌≡◌, Result, Ok, Err}
 use Rattle.std.specs.Int.Bits.{bit_xor}
 use Rattle.words.specs.Sum.{sum_of}
 use Rattle.plates.specs.declared.Plate.{Plate}
@@ -7,10 +7,6 @@ use Rattle.plates.specs.declared.Refusal.{Refusal}
 use Rattle.plates.specs.declared.Refusal.TheVariants.{InformationBeyond, NoCodeword}
 use Rattle.plates.specs.Prepare.{IsWord, not_prepared, rows_of}
 use Rattle.plates.specs.Refusals.{Refuses, Passes}
-use Rattle.coding.specs.declared.Encoded.{Encoded}
-use Rattle.coding.specs.declared.Encoded.TheVariants as E
-use Rattle.coding.specs.declared.ReadBack.{ReadBack}
-use Rattle.coding.specs.declared.ReadBack.TheVariants as R
 
 -- 13: the information has a one at k or beyond
 abbrev pub overlong : Plate → ℕ → Refusal → Type 0
@@ -31,12 +27,12 @@ abbrev pub word_of : Plate → ℕ → ℕ
 word_of plate information = bit_xor (sum_of (rows_of plate) information) plate.mask
 
 -- encode: the word that the information makes
-abbrev pub Encodes : Plate → ℕ → Encoded → Type 0
-Encodes plate information (E.Word word) = Passes (encode_conditions plate information) × (word ≡ word_of plate information)
-Encodes plate information (E.Refused q) = Refuses (encode_conditions plate information) q
+abbrev pub Encodes : Plate → ℕ → Result ℕ Refusal → Type 0
+Encodes plate information (Ok word) = Passes (encode_conditions plate information) × (word ≡ word_of plate information)
+Encodes plate information (Err q) = Refuses (encode_conditions plate information) q
 
 -- read back: the information, with no one at k or beyond, that encodes to the word
-abbrev pub ReadsBack : Plate → ℕ → ReadBack → Type 0
-ReadsBack plate word (R.Information information) =
+abbrev pub ReadsBack : Plate → ℕ → Result ℕ Refusal → Type 0
+ReadsBack plate word (Ok information) =
     Passes (read_conditions plate word) × (information < 2 ^ plate.k) × (word_of plate information ≡ word)
-ReadsBack plate word (R.Refused q) = Refuses (read_conditions plate word) q
+ReadsBack plate word (Err q) = Refuses (read_conditions plate word) q

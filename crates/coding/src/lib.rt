@@ -5,24 +5,10 @@ ghost use Rattle.std.specs.Int.Bits.{bit_xor};
 ghost use Rattle.std.specs.Prelude.{length, take, ◌≡◌, ◌^◌, ◌≤◌, ◌<◌};
 ghost use Rattle.coding.specs.Coding.{Encodes, ReadsBack};
 ghost use Rattle.coding.specs.TakingOff.{Headed, Read, ReadOn, Reaches};
-ghost use Rattle.plates.specs.Prepare.{of_parts};
+ghost use Rattle.plates.specs.Prepare.{lent};
 ghost use Rattle.words.specs.Sum.{sum_of, taken};
 
-use plates::Refusal;
-
-// The word of the plate that information makes, or why there is none.
-#[derive(Clone, Copy)]
-pub enum Encoded {
-    Word(u64),
-    Refused(Refusal),
-}
-
-// The information that makes a word of the plate, or why there is none.
-#[derive(Clone, Copy)]
-pub enum ReadBack {
-    Information(u64),
-    Refused(Refusal),
-}
+use plates::{Parts, Refusal};
 
 // What is left of a word once the rows before a place are taken off it, and the information that they make.
 #[derive(Clone, Copy)]
@@ -48,9 +34,7 @@ fn sum_rows(rows: &[u64], k: usize, information: u64) -> u64
     ensures { result ≡ sum_of (take k rows.now) information }
 {
     let mut sum = 0;
-    let mut j = k;
-    while 0 < j {
-        j -= 1;
+    for j in (0..k).rev() {
         sum = with_row(sum, rows[j], words::bit_at(information, j));
     }
     sum
@@ -79,10 +63,8 @@ fn take_rows(rows: &[u64], k: usize, word: u64) -> Reading
         information: 0,
         rest: word,
     };
-    let mut j = 0;
-    while j < k {
+    for j in 0..k {
         reading = take_off(reading, rows[j], j);
-        j += 1;
     }
     reading
 }
@@ -98,42 +80,28 @@ fn reaches(word: u64, k: usize) -> bool
 }
 
 // Encodes information: bit j takes row j, and the mask is added.
-pub fn encode_parts<'a>(
-    n: usize,
-    k: usize,
-    mask: u64,
-    rows: &'a [u64],
-    profile: &'a [u64],
-    information: u64,
-) -> Encoded
-    ensures { Encodes (of_parts n k mask rows.now profile.now) information result }
+pub fn encode_parts<'a>(plate: Parts<'a>, information: u64) -> Result<u64, Refusal>
+    ensures { Encodes (lent plate.entry) information result }
 {
-    if !plates::parts_prepared(n, k, mask, rows, profile) {
-        return Encoded::Refused(Refusal::NotPrepared);
+    if !plates::parts_prepared(plate) {
+        return Err(Refusal::NotPrepared);
     }
-    if reaches(information, k) {
-        return Encoded::Refused(Refusal::InformationBeyond);
+    if reaches(information, plate.k) {
+        return Err(Refusal::InformationBeyond);
     }
-    Encoded::Word(sum_rows(rows, k, information) ^ mask)
+    Ok(sum_rows(plate.rows, plate.k, information) ^ plate.mask)
 }
 
 // Reads a word of the plate back: the information that encodes to it.
-pub fn read_back_parts<'a>(
-    n: usize,
-    k: usize,
-    mask: u64,
-    rows: &'a [u64],
-    profile: &'a [u64],
-    word: u64,
-) -> ReadBack
-    ensures { ReadsBack (of_parts n k mask rows.now profile.now) word result }
+pub fn read_back_parts<'a>(plate: Parts<'a>, word: u64) -> Result<u64, Refusal>
+    ensures { ReadsBack (lent plate.entry) word result }
 {
-    if !plates::parts_prepared(n, k, mask, rows, profile) {
-        return ReadBack::Refused(Refusal::NotPrepared);
+    if !plates::parts_prepared(plate) {
+        return Err(Refusal::NotPrepared);
     }
-    let reading = take_rows(rows, k, word ^ mask);
+    let reading = take_rows(plate.rows, plate.k, word ^ plate.mask);
     if reading.rest != 0 {
-        return ReadBack::Refused(Refusal::NoCodeword);
+        return Err(Refusal::NoCodeword);
     }
-    ReadBack::Information(reading.information)
+    Ok(reading.information)
 }

@@ -1,4 +1,4 @@
--- `coding::sum_rows` meets its contract. The loop's invariant: the sum is that of the rows from j on. The measure is j.
+-- `coding::sum_rows` meets its contract. The loop's invariant: the sum is that of the rows from j on.
 use borrow.Author.Rules.{rules}
 use lib.Bits.{bit_xor}
 use lib.ListN.{get_or}

@@ -1,4 +1,4 @@
--- `coding::take_rows` meets its contract. The loop's invariant: the rows before j are taken off. The measure is what is left of k.
+-- `coding::take_rows` meets its contract. The loop's invariant: the rows before j are taken off.
 use borrow.Author.Rules.{rules}
 use mathlib.Core.Path.{◌≡◌, subst}
 use native.Mathlib.Numerals.{add-one}
