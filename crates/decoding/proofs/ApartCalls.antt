@@ -1,7 +1,8 @@
 -- The replies of `best_metric_parts` and `best_word_parts`, case by case.
+use Rattle.std.proofs.Common.{Result, Ok, Err}
 use lib.Bits.{bit_xor}
-use lib.IntN.{nat_abs, pos, ℤ}
-use lib.ListN.{drop, get_or, length, replicate}
+use lib.IntN.{pos, ℤ}
+use lib.ListN.{drop, length, replicate}
 use lib.Signed.{◌≤ℤ◌}
 use mathlib.Core.List.{◌++◌, List, []}
 use mathlib.Core.Logic.{inl, inr}
@@ -9,6 +10,7 @@ use mathlib.Core.Path.{refl, subst, sym, ◌∙◌, ◌≡◌}
 use native.Mathlib.Omega.{arith}
 use Prim.Native.Nat.{◌<◌, ℕ, ◌≤◌}
 use Rattle.decoding.proofs.BestWord.{best-word}
+use Rattle.decoding.proofs.MetricBounds.{Within}
 use Rattle.decoding.proofs.MaskedWords.{rest_of}
 use Rattle.decoding.proofs.PlateSizes.{plate_sizes}
 use Rattle.decoding.proofs.SampleLimits.{within-passes}
@@ -17,10 +19,9 @@ use Rattle.decoding.specs.Apart.{BestSelection, BestMetric, Chooses, Measures, m
 use Rattle.decoding.specs.Backward.{word_from}
 use Rattle.decoding.specs.declared.Answer.{Answer}
 use Rattle.decoding.specs.declared.apart.Measure.{Measure}
-use Rattle.decoding.specs.declared.Decoded.{Decoded}
 use Rattle.decoding.specs.Decode.{Best, Decodes, SampleOver, metric_need}
 use Rattle.decoding.specs.Metric.{limit, metric_of}
-use Rattle.decoding.specs.Searching.{FirstOver, MetricSearched}
+use Rattle.decoding.specs.Searching.{IsFirstOver, MetricSearched}
 use Rattle.decoding.specs.Sweeping.{RoomsFit, undecided}
 use Rattle.decoding.specs.Turning.{turned_by}
 use Rattle.plates.specs.declared.Plate.{Plate}
@@ -29,34 +30,27 @@ use Rattle.plates.specs.declared.Refusal.TheVariants.{MetricRoom, NotPrepared, S
 use Rattle.plates.specs.Prepare.{IsPrepared, rows_of}
 use Rattle.plates.specs.Refusals.{Passes}
 use Rattle.trellises.specs.SectionOf.{section_of}
-use Rattle.decoding.specs.declared.apart.Chosen.TheVariants as C
-use Rattle.decoding.specs.declared.apart.Measured.TheVariants as M
-use Rattle.decoding.specs.declared.Decoded.TheVariants as D
 
 -- ---- the metric
 
 module _ (plate : Plate) (samples metrics : List ℤ) where
-  pub refused-5 : (IsPrepared plate → ⊥) → Measures plate samples metrics metrics (M.Refused NotPrepared)
+  pub refused-5 : (IsPrepared plate → ⊥) → Measures plate samples metrics metrics (Err NotPrepared)
   refused-5 n = (inl (n, refl), refl)
 
   module _ (given : IsPrepared plate) where
-    pub refused-6 : (length samples ≡ plate.n → ⊥) → Measures plate samples metrics metrics (M.Refused SampleCount)
+    pub refused-6 : (length samples ≡ plate.n → ⊥) → Measures plate samples metrics metrics (Err SampleCount)
     refused-6 n = (inr ((λ q b. b.0 given), inl (n, refl)), refl)
 
-    module _ (size : length samples ≡ plate.n) (over : ℕ) (found : FirstOver samples over) where
-      pub refused-7 : over < plate.n → Measures plate samples metrics metrics (M.Refused (SampleRange over))
-      refused-7 h =
-          let k : over < length samples = omega (arith, size) in
-          (inr ((λ q b. b.0 given), inr ((λ q b. b.0 size), inl (record { position = over; there = k; over = found.here k; first = found.before; is = refl }))), refl)
+    module _ (size : length samples ≡ plate.n) where
+      pub refused-7 : {over : ℕ} → IsFirstOver samples over → Measures plate samples metrics metrics (Err (SampleRange over))
+      refused-7 {over} found =
+          (inr ((λ q b. b.0 given), inr ((λ q b. b.0 size), inl (record { position = over; there = found.there; over = found.here; first = found.before; is = refl }))), refl)
 
-      module _ (none : (over < plate.n) → ⊥) where
-        samples-within : (i : ℕ) → i < length samples → nat_abs (get_or samples i (pos 0)) ≤ limit
-        samples-within i k = found.before i (omega (arith, k, size))
-
+      module _ (samples-within : Within limit samples) where
         no-sample-over : (q : Refusal) → SampleOver samples q → ⊥
         no-sample-over = within-passes samples samples-within
 
-        pub refused-8 : length metrics < metric_need plate → Measures plate samples metrics metrics (M.Refused MetricRoom)
+        pub refused-8 : length metrics < metric_need plate → Measures plate samples metrics metrics (Err MetricRoom)
         refused-8 h = (inr ((λ q b. b.0 given), inr ((λ q b. b.0 size), inr (no-sample-over, inl (h, refl)))), refl)
 
         module _ (metric_room : metric_need plate ≤ length metrics) where
@@ -68,7 +62,7 @@ module _ (plate : Plate) (samples metrics : List ℤ) where
 
           pub measured : (metrics' : List ℤ) (m : Measure) → MetricSearched plate.rows (plate_sizes plate given) samples metrics metrics' m
               → (d : ℕ) → d ≡ metric_need plate → (metrics'' : List ℤ) → metrics'' ≡ replicate d (pos 0) ++ drop d metrics'
-              → Measures plate samples metrics metrics'' (M.Found m)
+              → Measures plate samples metrics metrics'' (Ok m)
           measured metrics' m f d e metrics'' x = (
             passes,
             best-metric,
@@ -109,9 +103,9 @@ module _ (plate : Plate) (samples metrics : List ℤ) (decisions : List ℕ) whe
     comparisons = b.comparisons;
   }
 
-  module _ (metrics' : List ℤ) (decisions' : List ℕ) (r : Decoded) (d : Decodes plate samples metrics decisions metrics' decisions' r) where
-    pub chosen : (a : Answer) → r ≡ D.Found a → Chooses plate samples metrics decisions metrics' decisions' (C.Found (record { word = a.word; counts = a.counts }))
+  module _ (metrics' : List ℤ) (decisions' : List ℕ) (r : Result Answer Refusal) (d : Decodes plate samples metrics decisions metrics' decisions' r) where
+    pub chosen : (a : Answer) → r ≡ Ok a → Chooses plate samples metrics decisions metrics' decisions' (Ok (record { word = a.word; counts = a.counts }))
     chosen a e = let x = subst (Decodes plate samples metrics decisions metrics' decisions') e d in (x.0, chosen_of a x.1, x.2)
 
-    pub refused : (q : Refusal) → r ≡ D.Refused q → Chooses plate samples metrics decisions metrics' decisions' (C.Refused q)
+    pub refused : (q : Refusal) → r ≡ Err q → Chooses plate samples metrics decisions metrics' decisions' (Err q)
     refused q e = subst (Decodes plate samples metrics decisions metrics' decisions') e d

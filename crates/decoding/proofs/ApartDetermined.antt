@@ -1,4 +1,6 @@
 -- Determined: two replies of `best_metric_parts`, and two of `best_word_parts`, with the rooms, that meet their promise are equal.
+use Rattle.std.proofs.Common.{Result, Ok, Err}
+use Rattle.plates.specs.declared.Refusal.{Refusal}
 use lib.IntN.{ℤ}
 use lib.Signed.{◌≤ℤ◌}
 use mathlib.Core.List.{List, []}
@@ -8,17 +10,13 @@ use Rattle.decoding.proofs.DecodeDetermined.{answer-same, counts_same, sample-on
 use Rattle.decoding.proofs.IntegerOrder.{≤ℤ-antisym}
 use Rattle.decoding.specs.Apart.{BestMetric, BestSelection, Chooses, Measures, metric_conditions}
 use Rattle.decoding.specs.declared.Answer.{Answer}
-use Rattle.decoding.specs.declared.apart.Chosen.{Chosen}
 use Rattle.decoding.specs.declared.apart.Measure.{Measure}
-use Rattle.decoding.specs.declared.apart.Measured.{Measured}
 use Rattle.decoding.specs.declared.apart.Selection.{Selection}
 use Rattle.decoding.specs.declared.Counts.{Counts}
 use Rattle.decoding.specs.Decode.{Best, decode_conditions}
 use Rattle.decoding.specs.Metric.{metric_of}
 use Rattle.plates.proofs.Refusing.{Single, never_both, refuses-once}
 use Rattle.plates.specs.declared.Plate.{Plate}
-use Rattle.decoding.specs.declared.apart.Chosen.TheVariants as C
-use Rattle.decoding.specs.declared.apart.Measured.TheVariants as M
 
 -- ---- the metric
 
@@ -34,12 +32,12 @@ module _ (plate : Plate) (samples metrics : List ℤ) where
       (subst (λ (z : ℤ). z ≤ℤ m.metric) (sym y.metric) (x.greatest y.word y.codeword)))
       (counts_same (x.additions ∙ sym y.additions) (x.comparisons ∙ sym y.comparisons))
 
-  pub metric-determined : (r s : Measured) (m n : List ℤ) → Measures plate samples metrics m r → Measures plate samples metrics n s → (r ≡ s) × (m ≡ n)
-  metric-determined (M.Found a) (M.Found b) m n x y = (ap M.Found (measure-same a b x.1 y.1), x.2 ∙ sym y.2)
-  metric-determined (M.Found a) (M.Refused q) m n x y = absurd (never_both (metric_conditions plate samples metrics) x.0 q y.0)
-  metric-determined (M.Refused p) (M.Found b) m n x y = absurd (never_both (metric_conditions plate samples metrics) y.0 p x.0)
-  metric-determined (M.Refused p) (M.Refused q) m n x y =
-      (ap M.Refused (refuses-once (metric_conditions plate samples metrics) single-metric p q x.0 y.0), x.1 ∙ sym y.1)
+  pub metric-determined : (r s : Result Measure Refusal) (m n : List ℤ) → Measures plate samples metrics m r → Measures plate samples metrics n s → (r ≡ s) × (m ≡ n)
+  metric-determined (Ok a) (Ok b) m n x y = (ap Ok (measure-same a b x.1 y.1), x.2 ∙ sym y.2)
+  metric-determined (Ok a) (Err q) m n x y = absurd (never_both (metric_conditions plate samples metrics) x.0 q y.0)
+  metric-determined (Err p) (Ok b) m n x y = absurd (never_both (metric_conditions plate samples metrics) y.0 p x.0)
+  metric-determined (Err p) (Err q) m n x y =
+      (ap Err (refuses-once (metric_conditions plate samples metrics) single-metric p q x.0 y.0), x.1 ∙ sym y.1)
 
 -- ---- the word
 
@@ -56,11 +54,11 @@ module _ (plate : Plate) (samples metrics : List ℤ) (decisions : List ℕ) whe
       ap (λ (a : Answer). record { word = a.word; counts = a.counts })
       (answer-same plate samples metrics decisions (answer_of samples c) (answer_of samples d) (answer-best plate samples c x) (answer-best plate samples d y))
 
-  pub word-determined : (r s : Chosen) (m n : List ℤ) (d e : List ℕ) → Chooses plate samples metrics decisions m d r → Chooses plate samples metrics decisions n e s
+  pub word-determined : (r s : Result Selection Refusal) (m n : List ℤ) (d e : List ℕ) → Chooses plate samples metrics decisions m d r → Chooses plate samples metrics decisions n e s
       → (r ≡ s) × (m ≡ n) × (d ≡ e)
-  word-determined (C.Found a) (C.Found b) m n d e x y =
-      (ap C.Found (selection-same a b x.1 y.1), x.2.metrics_zero ∙ sym y.2.metrics_zero, x.2.decisions_zero ∙ sym y.2.decisions_zero)
-  word-determined (C.Found a) (C.Refused q) m n d e x y = absurd (never_both (decode_conditions plate samples metrics decisions) x.0 q y.0)
-  word-determined (C.Refused p) (C.Found b) m n d e x y = absurd (never_both (decode_conditions plate samples metrics decisions) y.0 p x.0)
-  word-determined (C.Refused p) (C.Refused q) m n d e x y =
-      (ap C.Refused (refuses-once (decode_conditions plate samples metrics decisions) (single plate samples metrics decisions) p q x.0 y.0), x.1 ∙ sym y.1, x.2 ∙ sym y.2)
+  word-determined (Ok a) (Ok b) m n d e x y =
+      (ap Ok (selection-same a b x.1 y.1), x.2.metrics_zero ∙ sym y.2.metrics_zero, x.2.decisions_zero ∙ sym y.2.decisions_zero)
+  word-determined (Ok a) (Err q) m n d e x y = absurd (never_both (decode_conditions plate samples metrics decisions) x.0 q y.0)
+  word-determined (Err p) (Ok b) m n d e x y = absurd (never_both (decode_conditions plate samples metrics decisions) y.0 p x.0)
+  word-determined (Err p) (Err q) m n d e x y =
+      (ap Err (refuses-once (decode_conditions plate samples metrics decisions) (single plate samples metrics decisions) p q x.0 y.0), x.1 ∙ sym y.1, x.2 ∙ sym y.2)

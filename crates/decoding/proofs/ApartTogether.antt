@@ -1,4 +1,5 @@
 -- The metric call and the word call together say what `decode` says of the same plate and samples.
+use Rattle.std.proofs.Common.{Ok}
 use lib.IntN.{ℤ}
 use lib.ListN.{length}
 use lib.Signed.{◌≤ℤ◌}
@@ -18,9 +19,6 @@ use Rattle.plates.specs.declared.Plate.{Plate}
 use Rattle.plates.specs.declared.Refusal.{Refusal}
 use Rattle.plates.specs.declared.Refusal.TheVariants.{DecisionRoom}
 use Rattle.plates.specs.Refusals.{Refuses}
-use Rattle.decoding.specs.declared.apart.Chosen.TheVariants as C
-use Rattle.decoding.specs.declared.apart.Measured.TheVariants as M
-use Rattle.decoding.specs.declared.Decoded.TheVariants as D
 
 module _ (plate : Plate) (samples : List ℤ) where
   -- the best metric is the best word's
@@ -31,13 +29,13 @@ module _ (plate : Plate) (samples : List ℤ) where
 
   module _ (room room' metrics metrics' : List ℤ) (decisions decisions' : List ℕ) where
     -- the metric and the counts of decode's answer, whatever the rooms of the two calls
-    pub metric-agrees : (m : Measure) (a : Answer) → Measures plate samples room room' (M.Found m) → Decodes plate samples metrics decisions metrics' decisions' (D.Found a)
+    pub metric-agrees : (m : Measure) (a : Answer) → Measures plate samples room room' (Ok m) → Decodes plate samples metrics decisions metrics' decisions' (Ok a)
         → (m.metric ≡ a.metric) × (m.counts ≡ a.counts)
     metric-agrees m a x y = (metric-of-word m a x.1 y.1, counts_same (x.1.additions ∙ sym y.1.additions) (x.1.comparisons ∙ sym y.1.comparisons))
 
     -- the two replies make up a reply of decode, with the rooms that the word call leaves; their counts are the same
-    pub together : (m : Measure) (c : Selection) → Measures plate samples room room' (M.Found m) → Chooses plate samples metrics decisions metrics' decisions' (C.Found c)
-        → Decodes plate samples metrics decisions metrics' decisions' (D.Found (record { word = c.word; metric = m.metric; counts = c.counts })) × (m.counts ≡ c.counts)
+    pub together : (m : Measure) (c : Selection) → Measures plate samples room room' (Ok m) → Chooses plate samples metrics decisions metrics' decisions' (Ok c)
+        → Decodes plate samples metrics decisions metrics' decisions' (Ok (record { word = c.word; metric = m.metric; counts = c.counts })) × (m.counts ≡ c.counts)
     together m c x y = (
       (
         y.0,
@@ -51,7 +49,7 @@ module _ (plate : Plate) (samples : List ℤ) where
   module _ (metrics : List ℤ) (decisions : List ℕ) where
     -- the word and the counts of decode's answer, whatever the rooms of the two calls
     pub word-agrees : (room room' metrics' : List ℤ) (words words' decisions' : List ℕ) (c : Selection) (a : Answer)
-        → Chooses plate samples room words room' words' (C.Found c) → Decodes plate samples metrics decisions metrics' decisions' (D.Found a)
+        → Chooses plate samples room words room' words' (Ok c) → Decodes plate samples metrics decisions metrics' decisions' (Ok a)
         → (c.word ≡ a.word) × (c.counts ≡ a.counts)
     word-agrees room room' metrics' words words' decisions' c a x y =
         let e = answer-same plate samples metrics decisions (answer_of samples c) a (answer-best plate samples c x.1) y.1 in

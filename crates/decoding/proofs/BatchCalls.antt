@@ -1,4 +1,5 @@
 -- The replies of `decode_blocks`, case by case.
+use Rattle.std.proofs.Common.{Ok, Err}
 use lib.IntN.{pos, ℤ}
 use lib.ListN.{drop, length, replicate}
 use mathlib.Core.List.{◌++◌, List}
@@ -14,13 +15,12 @@ use Rattle.decoding.proofs.SampleLimits.{within-passes}
 use Rattle.decoding.proofs.ZeroedRooms.{zeroed}
 use Rattle.decoding.specs.Batch.{Blocks, DecodesBlocks, EachBest, answer_at, block_at, blocks_conditions}
 use Rattle.decoding.specs.Batching.{BlocksFit, BlocksPut}
-use Rattle.decoding.specs.declared.batch.Batch.TheVariants.{Found, Refused}
 use Rattle.decoding.specs.declared.Counts.{Counts}
 use Rattle.decoding.specs.declared.sweep.Sizes.{Sizes}
 use Rattle.decoding.specs.Decode.{Best, SampleOver, decision_need, metric_need, metric_room}
 use Rattle.decoding.specs.Metric.{limit}
 use Rattle.decoding.specs.Needs.{SizesOf}
-use Rattle.decoding.specs.Searching.{FirstOver}
+use Rattle.decoding.specs.Searching.{IsFirstOver}
 use Rattle.decoding.specs.Sweeping.{SizesFit}
 use Rattle.plates.specs.declared.Plate.{Plate}
 use Rattle.plates.specs.declared.Refusal.{Refusal}
@@ -66,7 +66,7 @@ module _ (plate : Plate) (given : IsPrepared plate) {samples : List ℤ} {words 
 module _ (plate : Plate) (samples : List ℤ) (words : List ℕ) (scores metrics : List ℤ) (decisions : List ℕ) where
   -- a refusal, with all that is lent unchanged
   abbrev Unchanged : Refusal → Type 0
-  Unchanged q = DecodesBlocks plate samples words scores metrics decisions words scores metrics decisions (Refused q)
+  Unchanged q = DecodesBlocks plate samples words scores metrics decisions words scores metrics decisions (Err q)
 
   pub refused-5 : (IsPrepared plate → ⊥) → Unchanged NotPrepared
   refused-5 n = (inl (n, refl), refl, refl, refl, refl)
@@ -75,17 +75,14 @@ module _ (plate : Plate) (samples : List ℤ) (words : List ℕ) (scores metrics
     pub refused-6 : (Blocks plate.n samples words scores → ⊥) → Unchanged SampleCount
     refused-6 n = (inr ((λ q b. b.0 given), inl (n, refl)), refl, refl, refl, refl)
 
-    module _ (blocks : Blocks plate.n samples words scores) {over : ℕ} (found : FirstOver samples over) where
-      pub refused-7 : over < length samples → Unchanged (SampleRange over)
-      refused-7 h =
-          let x : SampleOver samples (SampleRange over) = record { position = over; there = h; over = found.here h; first = found.before; is = refl } in
+    module _ (blocks : Blocks plate.n samples words scores) where
+      pub refused-7 : {over : ℕ} → IsFirstOver samples over → Unchanged (SampleRange over)
+      refused-7 {over} found =
+          let x : SampleOver samples (SampleRange over) = record { position = over; there = found.there; over = found.here; first = found.before; is = refl } in
           (inr ((λ q b. b.0 given), inr ((λ q b. b.0 blocks), inl x)), refl, refl, refl, refl)
 
-      module _ (none : length samples ≤ over) {z : Sizes}
-          (of : SizesOf plate.n plate.k plate.mask plate.rows plate.profile z) where
-        samples-within : Within limit samples
-        samples-within i k = found.before i (omega (arith, k, found.most, none))
-
+      module _ (samples-within : Within limit samples) {z : Sizes}
+          (of : SizesOf plate z) where
         no-sample-over : (q : Refusal) → SampleOver samples q → ⊥
         no-sample-over = within-passes samples samples-within
 
@@ -135,7 +132,7 @@ module _ (plate : Plate) (samples : List ℤ) (words : List ℕ) (scores metrics
                 → BlocksPut plate.rows z samples words scores metrics decisions (length words) words' scores' metrics' decisions' counts
                 → (metrics'' : List ℤ) → metrics'' ≡ replicate (z.half + z.half) (pos 0) ++ drop (z.half + z.half) metrics'
                 → (decisions'' : List ℕ) → decisions'' ≡ replicate (plate.n * z.words) 0 ++ drop (plate.n * z.words) decisions'
-                → DecodesBlocks plate samples words scores metrics decisions words' scores' metrics'' decisions'' (Found counts)
+                → DecodesBlocks plate samples words scores metrics decisions words' scores' metrics'' decisions'' (Ok counts)
             batched {words'} {scores'} {metrics'} {decisions'} {counts} put metrics'' x decisions'' y =
                 let done =
                 subst (λ (y : Sizes). BlocksPut plate.rows y samples words scores metrics decisions (length words) words' scores' metrics' decisions' counts)

@@ -1,5 +1,6 @@
 -- Determined: two replies of a batch, with all that is lent, that meet its promise are equal; and each answer is the one that `decode` gives of its
 -- block.
+use Rattle.std.proofs.Common.{Result, Ok, Err}
 use lib.IntN.{pos, ℤ}
 use lib.ListN.{length}
 use lib.Seq.{ext_get_or}
@@ -14,10 +15,7 @@ use Rattle.decoding.proofs.MetricBounds.{Within}
 use Rattle.decoding.proofs.SampleLimits.{none_over, within-passes}
 use Rattle.decoding.specs.Batch.{Blocks, DecodesBlocks, EachBest, answer_at, block_at, block_count, blocks_conditions}
 use Rattle.decoding.specs.declared.Answer.{Answer}
-use Rattle.decoding.specs.declared.batch.Batch.{Batch}
-use Rattle.decoding.specs.declared.batch.Batch.TheVariants.{Found, Refused}
 use Rattle.decoding.specs.declared.Counts.{Counts}
-use Rattle.decoding.specs.declared.Decoded.{Decoded}
 use Rattle.decoding.specs.Decode.{Decodes, decode_conditions}
 use Rattle.decoding.specs.Metric.{limit}
 use Rattle.plates.proofs.Refusing.{Single, never_both, refuses-once}
@@ -25,7 +23,6 @@ use Rattle.plates.specs.declared.Plate.{Plate}
 use Rattle.plates.specs.declared.Refusal.{Refusal}
 use Rattle.plates.specs.declared.Refusal.TheVariants.{SampleCount}
 use Rattle.plates.specs.Refusals.{Passes}
-use Rattle.decoding.specs.declared.Decoded.TheVariants as D
 
 module _ (plate : Plate) (samples : List ℤ) (words : List ℕ) (scores metrics : List ℤ) (decisions : List ℕ) where
   abbrev conditions : List (Refusal → Type 0)
@@ -58,20 +55,20 @@ module _ (plate : Plate) (samples : List ℤ) (words : List ℕ) (scores metrics
         ext_get_or (pos 0) scores' scores'' (x.scores_size ∙ sym y.scores_size)
         (λ b h. ap (λ (a : Answer). a.metric) (answers-same b (omega (arith, h, x.scores_size))))
 
-  pub blocks-determined : (r s : Batch) (w x : List ℕ) (v y m n : List ℤ) (d e : List ℕ)
+  pub blocks-determined : (r s : Result Counts Refusal) (w x : List ℕ) (v y m n : List ℤ) (d e : List ℕ)
       → DecodesBlocks plate samples words scores metrics decisions w v m d r
       → DecodesBlocks plate samples words scores metrics decisions x y n e s → (r ≡ s) × (w ≡ x) × (v ≡ y) × (m ≡ n) × (d ≡ e)
-  blocks-determined (Found a) (Found b) w x v y m n d e p q = (
-    ap Found (batch-counts p.1 q.1 (length words) refl),
+  blocks-determined (Ok a) (Ok b) w x v y m n d e p q = (
+    ap Ok (batch-counts p.1 q.1 (length words) refl),
     batch-words p.1 q.1,
     batch-scores p.1 q.1,
     p.2.metrics_zero ∙ sym q.2.metrics_zero,
     p.2.decisions_zero ∙ sym q.2.decisions_zero,
   )
-  blocks-determined (Found a) (Refused q) w x v y m n d e h k = absurd (never_both conditions h.0 q k.0)
-  blocks-determined (Refused p) (Found b) w x v y m n d e h k = absurd (never_both conditions k.0 p h.0)
-  blocks-determined (Refused p) (Refused q) w x v y m n d e h k =
-      (ap Refused (refuses-once conditions single p q h.0 k.0), h.1 ∙ sym k.1, h.2 ∙ sym k.2, h.3 ∙ sym k.3, h.4 ∙ sym k.4)
+  blocks-determined (Ok a) (Err q) w x v y m n d e h k = absurd (never_both conditions h.0 q k.0)
+  blocks-determined (Err p) (Ok b) w x v y m n d e h k = absurd (never_both conditions k.0 p h.0)
+  blocks-determined (Err p) (Err q) w x v y m n d e h k =
+      (ap Err (refuses-once conditions single p q h.0 k.0), h.1 ∙ sym k.1, h.2 ∙ sym k.2, h.3 ∙ sym k.3, h.4 ∙ sym k.4)
 
   -- ---- each answer is decode's
 
@@ -97,11 +94,11 @@ module _ (plate : Plate) (samples : List ℤ) (words : List ℕ) (scores metrics
       within = block_within blocks limit (none_over samples h.1.1.0) b l
 
   pub each-decoded : (counts : Counts) (w : List ℕ) (v m : List ℤ) (d : List ℕ)
-      → DecodesBlocks plate samples words scores metrics decisions w v m d (Found counts)
-      → (b : ℕ) → b < length words → (r : Decoded) (n : List ℤ) (e : List ℕ)
+      → DecodesBlocks plate samples words scores metrics decisions w v m d (Ok counts)
+      → (b : ℕ) → b < length words → (r : Result Answer Refusal) (n : List ℤ) (e : List ℕ)
       → Decodes plate (block_at plate.n samples b) metrics decisions n e r
-      → r ≡ D.Found (answer_at w v counts b)
-  each-decoded counts w v m d p b h (D.Found a) n e x =
-      ap D.Found (answer-same plate (block_at plate.n samples b) metrics decisions a (answer_at w v counts b) x.1 (p.1.each b h))
-  each-decoded counts w v m d p b h (D.Refused q) n e x =
+      → r ≡ Ok (answer_at w v counts b)
+  each-decoded counts w v m d p b h (Ok a) n e x =
+      ap Ok (answer-same plate (block_at plate.n samples b) metrics decisions a (answer_at w v counts b) x.1 (p.1.each b h))
+  each-decoded counts w v m d p b h (Err q) n e x =
       absurd (never_both (decode_conditions plate (block_at plate.n samples b) metrics decisions) (block-passes p.0 b h) q x.0)

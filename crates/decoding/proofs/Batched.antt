@@ -69,25 +69,22 @@ module _ {z : Sizes} {samples : List ℤ} {words : List ℕ} {scores metrics : L
   part-is b = ap (λ (x : ℕ). take x (drop (b * z.n) samples)) (add-sub_cancel_left (b * z.n) z.n)
 
   module _ {table : List ℕ} {b : ℕ} {words' : List ℕ} {scores' metrics' : List ℤ} {decisions' : List ℕ} {counts : Counts}
-      (done : BlocksPut table z samples words scores metrics decisions b words' scores' metrics' decisions' counts) (h : b < length words') where
-    pub there : b < length words
-    there = omega (arith, done.words_size, h)
-
+      (done : BlocksPut table z samples words scores metrics decisions b words' scores' metrics' decisions' counts) (h : b < length words) where
     pub block_inside : b * z.n + z.n ≤ length samples
-    block_inside = block-end fit.blocks b there
+    block_inside = block-end fit.blocks b h
 
     pub block-fits : BlockFits z (take (b * z.n + z.n - b * z.n) (drop (b * z.n) samples)) b words' scores' metrics' decisions'
     block-fits = record {
       rooms = subst (λ (ys : List ℤ). RoomsFit z ys metrics' decisions') (sym (part-is b)) rooms;
       wanted = fit.wanted;
-      word_there = h;
-      score_there = omega (arith, done.scores_size, done.words_size, fit.blocks.scores_are, h);
+      word_there = omega (arith, done.words_size, h);
+      score_there = omega (arith, done.scores_size, fit.blocks.scores_are, h);
     }
       where
         rooms : RoomsFit z (block_at z.n samples b) metrics' decisions'
         rooms = record {
-          size = block_size fit.blocks b there;
-          within = block_within fit.blocks gain_limit fit.within b there;
+          size = block_size fit.blocks b h;
+          within = block_within fit.blocks gain_limit fit.within b h;
           metric_room = omega (arith, fit.metric_room, done.kept.metrics_size);
           decision_room = omega (arith, fit.decision_room, done.kept.decisions_size);
         }
@@ -97,7 +94,7 @@ module _ {z : Sizes} {samples : List ℤ} {words : List ℕ} {scores metrics : L
         decisions'' counts'') where
       here : SearchedAs table z (block_at z.n samples b) (get_or words'' b 0) (get_or scores'' b (pos 0))
       here = subst (λ (ys : List ℤ). SearchedAs table z ys (get_or words'' b 0) (get_or scores'' b (pos 0))) (part-is b) (record {
-        word_is = ap (λ (l : List ℕ). get_or l b 0) put.words_are ∙ get_or-set_same words' b put.answer.word 0 h ∙ put.searched.word;
+        word_is = ap (λ (l : List ℕ). get_or l b 0) put.words_are ∙ get_or-set_same words' b put.answer.word 0 block-fits.word_there ∙ put.searched.word;
         metric_is =
             ap (λ (l : List ℤ). get_or l b (pos 0)) put.scores_are ∙ get_or-set_same scores' b put.answer.metric (pos 0) block-fits.score_there
             ∙ put.searched.metric;

@@ -1,63 +1,50 @@
 -- The replies of `decode`, case by case.
-use lib.IntN.{nat_abs, pos, ℤ}
-use lib.ListN.{drop, get_or, length, replicate}
+use Rattle.std.proofs.Common.{Ok, Err}
+use lib.IntN.{pos, ℤ}
+use lib.ListN.{drop, length, replicate}
 use mathlib.Core.List.{◌++◌, List}
 use mathlib.Core.Logic.{inl, inr}
-use mathlib.Core.Path.{refl, subst, ◌≡◌}
+use mathlib.Core.Path.{refl, ◌≡◌}
 use native.Mathlib.Omega.{arith}
 use Prim.Native.Nat.{◌<◌, ℕ, ◌≤◌}
 use Rattle.decoding.proofs.BestWord.{best-word}
+use Rattle.decoding.proofs.MetricBounds.{Within}
 use Rattle.decoding.proofs.PlateSizes.{plate_sizes}
 use Rattle.decoding.proofs.SampleLimits.{within-passes}
 use Rattle.decoding.proofs.ZeroedRooms.{zeroed}
 use Rattle.decoding.specs.declared.Answer.{Answer}
-use Rattle.decoding.specs.declared.Decoded.{Decoded}
-use Rattle.decoding.specs.declared.Decoded.TheVariants.{Found, Refused}
 use Rattle.decoding.specs.Decode.{Decodes, SampleOver, decision_need, decode_conditions, metric_need}
 use Rattle.decoding.specs.Metric.{limit}
-use Rattle.decoding.specs.Searching.{FirstOver, Searched}
+use Rattle.decoding.specs.Searching.{IsFirstOver, Searched}
 use Rattle.decoding.specs.Sweeping.{RoomsFit}
 use Rattle.plates.specs.declared.Plate.{Plate}
 use Rattle.plates.specs.declared.Refusal.{Refusal}
 use Rattle.plates.specs.declared.Refusal.TheVariants.{DecisionRoom, MetricRoom, NotPrepared, SampleCount, SampleRange}
-use Rattle.plates.specs.Prepare.{IsPrepared, of_parts}
+use Rattle.plates.specs.Prepare.{IsPrepared}
 use Rattle.plates.specs.Refusals.{Passes}
 
--- what a plate's parts are replied is what the plate is, where the profile was widened
-pub by_parts : (plate : Plate) (samples metrics : List ℤ) (decisions : List ℕ) (metrics' : List ℤ) (decisions' : List ℕ) (r : Decoded) {profile : List ℕ}
-    → profile ≡ plate.profile
-    → Decodes (of_parts plate.n plate.k plate.mask plate.rows profile) samples metrics decisions metrics' decisions' r
-    → Decodes plate samples metrics decisions metrics' decisions' r
-by_parts plate samples metrics decisions metrics' decisions' r same d =
-    subst (λ (p : List ℕ). Decodes (of_parts plate.n plate.k plate.mask plate.rows p) samples metrics decisions metrics' decisions' r)
-    same d
-
 module _ (plate : Plate) (samples metrics : List ℤ) (decisions : List ℕ) where
-  pub refused-5 : (IsPrepared plate → ⊥) → Decodes plate samples metrics decisions metrics decisions (Refused NotPrepared)
+  pub refused-5 : (IsPrepared plate → ⊥) → Decodes plate samples metrics decisions metrics decisions (Err NotPrepared)
   refused-5 n = (inl (n, refl), refl, refl)
 
   module _ (given : IsPrepared plate) where
-    pub refused-6 : (length samples ≡ plate.n → ⊥) → Decodes plate samples metrics decisions metrics decisions (Refused SampleCount)
+    pub refused-6 : (length samples ≡ plate.n → ⊥) → Decodes plate samples metrics decisions metrics decisions (Err SampleCount)
     refused-6 n = (inr ((λ q b. b.0 given), inl (n, refl)), refl, refl)
 
-    module _ (size : length samples ≡ plate.n) (over : ℕ) (found : FirstOver samples over) where
-      pub refused-7 : over < plate.n → Decodes plate samples metrics decisions metrics decisions (Refused (SampleRange over))
-      refused-7 h =
-          let k : over < length samples = omega (arith, size) in
-          (inr ((λ q b. b.0 given), inr ((λ q b. b.0 size), inl (record { position = over; there = k; over = found.here k; first = found.before; is = refl }))), refl, refl)
+    module _ (size : length samples ≡ plate.n) where
+      pub refused-7 : {over : ℕ} → IsFirstOver samples over → Decodes plate samples metrics decisions metrics decisions (Err (SampleRange over))
+      refused-7 {over} found =
+          (inr ((λ q b. b.0 given), inr ((λ q b. b.0 size), inl (record { position = over; there = found.there; over = found.here; first = found.before; is = refl }))), refl, refl)
 
-      module _ (none : (over < plate.n) → ⊥) where
-        pub samples-within : (i : ℕ) → i < length samples → nat_abs (get_or samples i (pos 0)) ≤ limit
-        samples-within i k = found.before i (omega (arith, k, size))
-
+      module _ (samples-within : Within limit samples) where
         no-sample-over : (q : Refusal) → SampleOver samples q → ⊥
         no-sample-over = within-passes samples samples-within
 
-        pub refused-8 : length metrics < metric_need plate → Decodes plate samples metrics decisions metrics decisions (Refused MetricRoom)
+        pub refused-8 : length metrics < metric_need plate → Decodes plate samples metrics decisions metrics decisions (Err MetricRoom)
         refused-8 h = (inr ((λ q b. b.0 given), inr ((λ q b. b.0 size), inr (no-sample-over, inl (h, refl)))), refl, refl)
 
         module _ (metric_room : metric_need plate ≤ length metrics) where
-          pub refused-9 : length decisions < decision_need plate → Decodes plate samples metrics decisions metrics decisions (Refused DecisionRoom)
+          pub refused-9 : length decisions < decision_need plate → Decodes plate samples metrics decisions metrics decisions (Err DecisionRoom)
           refused-9 h = (inr ((λ q b. b.0 given), inr ((λ q b. b.0 size), inr (no-sample-over, inr ((λ q b. omega (arith, b.0, metric_room)), inl (h, refl))))), refl, refl)
 
           module _ (decision_room : decision_need plate ≤ length decisions) where
@@ -69,7 +56,7 @@ module _ (plate : Plate) (samples metrics : List ℤ) (decisions : List ℕ) whe
 
             pub decoded : (metrics' : List ℤ) (decisions' : List ℕ) (a : Answer) → Searched plate.rows (plate_sizes plate given) samples metrics decisions metrics' decisions' a
                 → (m d : ℕ) → m ≡ metric_need plate → d ≡ decision_need plate → (metrics'' : List ℤ) → metrics'' ≡ replicate m (pos 0) ++ drop m metrics' → (decisions'' : List ℕ) → decisions'' ≡ replicate d 0 ++ drop d decisions'
-                → Decodes plate samples metrics decisions metrics'' decisions'' (Found a)
+                → Decodes plate samples metrics decisions metrics'' decisions'' (Ok a)
             decoded metrics' decisions' a f m d em ed metrics'' x decisions'' y = (
               passes,
               best-word plate given samples size a f.word f.metric f.counts,

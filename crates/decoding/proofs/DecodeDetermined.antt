@@ -1,4 +1,5 @@
 -- Determined: two replies of `decode`, with both rooms, that meet its promise are equal.
+use Rattle.std.proofs.Common.{Result, Ok, Err}
 use lib.IntN.{ℤ}
 use lib.Signed.{◌≤ℤ◌}
 use mathlib.Core.List.{List}
@@ -9,8 +10,6 @@ use Prim.Native.Nat.{◌<◌, ℕ}
 use Rattle.decoding.proofs.IntegerOrder.{≤ℤ-antisym}
 use Rattle.decoding.specs.declared.Answer.{Answer}
 use Rattle.decoding.specs.declared.Counts.{Counts}
-use Rattle.decoding.specs.declared.Decoded.{Decoded}
-use Rattle.decoding.specs.declared.Decoded.TheVariants.{Found, Refused}
 use Rattle.decoding.specs.Decode.{Best, Decodes, SampleOver, decode_conditions}
 use Rattle.decoding.specs.Metric.{metric_of}
 use Rattle.plates.proofs.OnePlate.{not-both}
@@ -61,11 +60,11 @@ module _ (plate : Plate) (samples metrics : List ℤ) (decisions : List ℕ) whe
       ap₂ (λ (w : ℕ) (m : ℤ). record { word = w; metric = m; counts = a.counts }) e (x.metric ∙ ap (metric_of samples) e ∙ sym y.metric)
       ∙ ap (λ (k : Counts). record { word = b.word; metric = b.metric; counts = k }) (counts_same (x.additions ∙ sym y.additions) (x.comparisons ∙ sym y.comparisons))
 
-  pub decode-determined : (r s : Decoded) (m n : List ℤ) (d e : List ℕ) → Decodes plate samples metrics decisions m d r → Decodes plate samples metrics decisions n e s
+  pub decode-determined : (r s : Result Answer Refusal) (m n : List ℤ) (d e : List ℕ) → Decodes plate samples metrics decisions m d r → Decodes plate samples metrics decisions n e s
       → (r ≡ s) × (m ≡ n) × (d ≡ e)
-  decode-determined (Found a) (Found b) m n d e x y =
-      (ap Found (answer-same a b x.1 y.1), x.2.metrics_zero ∙ sym y.2.metrics_zero, x.2.decisions_zero ∙ sym y.2.decisions_zero)
-  decode-determined (Found a) (Refused q) m n d e x y = absurd (never_both conditions x.0 q y.0)
-  decode-determined (Refused p) (Found b) m n d e x y = absurd (never_both conditions y.0 p x.0)
-  decode-determined (Refused p) (Refused q) m n d e x y =
-      (ap Refused (refuses-once conditions single p q x.0 y.0), x.1 ∙ sym y.1, x.2 ∙ sym y.2)
+  decode-determined (Ok a) (Ok b) m n d e x y =
+      (ap Ok (answer-same a b x.1 y.1), x.2.metrics_zero ∙ sym y.2.metrics_zero, x.2.decisions_zero ∙ sym y.2.decisions_zero)
+  decode-determined (Ok a) (Err q) m n d e x y = absurd (never_both conditions x.0 q y.0)
+  decode-determined (Err p) (Ok b) m n d e x y = absurd (never_both conditions y.0 p x.0)
+  decode-determined (Err p) (Err q) m n d e x y =
+      (ap Err (refuses-once conditions single p q x.0 y.0), x.1 ∙ sym y.1, x.2 ∙ sym y.2)

@@ -1,22 +1,23 @@
 -- The replies of `firmness_parts`, case by case.
-use lib.IntN.{nat_abs, pos, ℤ}
-use lib.ListN.{drop, get_or, length, replicate}
+use Rattle.std.proofs.Common.{Ok, Err}
+use lib.IntN.{pos, ℤ}
+use lib.ListN.{drop, length, replicate}
 use mathlib.Core.List.{◌++◌, List}
 use mathlib.Core.Logic.{inl, inr}
 use mathlib.Core.Path.{refl, ◌≡◌}
 use native.Mathlib.Omega.{arith}
 use Prim.Native.Nat.{◌<◌, ℕ, ◌≤◌}
 use Rattle.decoding.proofs.FirmnessRead.{flag-of}
+use Rattle.decoding.proofs.MetricBounds.{Within}
 use Rattle.decoding.proofs.PlateSizes.{plate_sizes}
 use Rattle.decoding.proofs.SampleLimits.{within-passes}
 use Rattle.decoding.proofs.ZeroedRooms.{zeroed}
-use Rattle.decoding.specs.declared.firmness.Flagged.TheVariants.{Found, Refused}
 use Rattle.decoding.specs.declared.firmness.Reading.{Reading}
 use Rattle.decoding.specs.Decode.{SampleOver, decision_need, metric_need}
 use Rattle.decoding.specs.Firmness.{TellsFirmness, firmness_conditions}
 use Rattle.decoding.specs.Forcing.{ReadAt}
 use Rattle.decoding.specs.Metric.{limit}
-use Rattle.decoding.specs.Searching.{FirstOver}
+use Rattle.decoding.specs.Searching.{IsFirstOver}
 use Rattle.decoding.specs.Sweeping.{RoomsFit}
 use Rattle.plates.specs.declared.Plate.{Plate}
 use Rattle.plates.specs.declared.Refusal.{Refusal}
@@ -25,38 +26,34 @@ use Rattle.plates.specs.Prepare.{IsPrepared}
 use Rattle.plates.specs.Refusals.{Passes}
 
 module _ (plate : Plate) (samples : List ℤ) (position : ℕ) (metrics : List ℤ) (decisions : List ℕ) where
-  pub refused-5 : (IsPrepared plate → ⊥) → TellsFirmness plate samples position metrics decisions metrics decisions (Refused NotPrepared)
+  pub refused-5 : (IsPrepared plate → ⊥) → TellsFirmness plate samples position metrics decisions metrics decisions (Err NotPrepared)
   refused-5 n = (inl (n, refl), refl, refl)
 
   module _ (given : IsPrepared plate) where
-    pub refused-6 : (length samples ≡ plate.n → ⊥) → TellsFirmness plate samples position metrics decisions metrics decisions (Refused SampleCount)
+    pub refused-6 : (length samples ≡ plate.n → ⊥) → TellsFirmness plate samples position metrics decisions metrics decisions (Err SampleCount)
     refused-6 n = (inr ((λ q b. b.0 given), inl (n, refl)), refl, refl)
 
-    module _ (size : length samples ≡ plate.n) (over : ℕ) (found : FirstOver samples over) where
-      pub refused-7 : over < plate.n → TellsFirmness plate samples position metrics decisions metrics decisions (Refused (SampleRange over))
-      refused-7 h =
-          let k : over < length samples = omega (arith, size) in
-          (inr ((λ q b. b.0 given), inr ((λ q b. b.0 size), inl (record { position = over; there = k; over = found.here k; first = found.before; is = refl }))), refl, refl)
+    module _ (size : length samples ≡ plate.n) where
+      pub refused-7 : {over : ℕ} → IsFirstOver samples over → TellsFirmness plate samples position metrics decisions metrics decisions (Err (SampleRange over))
+      refused-7 {over} found =
+          (inr ((λ q b. b.0 given), inr ((λ q b. b.0 size), inl (record { position = over; there = found.there; over = found.here; first = found.before; is = refl }))), refl, refl)
 
-      module _ (none : plate.n ≤ over) where
-        samples-within : (i : ℕ) → i < length samples → nat_abs (get_or samples i (pos 0)) ≤ limit
-        samples-within i k = found.before i (omega (arith, k, size))
-
+      module _ (samples-within : Within limit samples) where
         no-sample-over : (q : Refusal) → SampleOver samples q → ⊥
         no-sample-over = within-passes samples samples-within
 
-        pub refused-21 : plate.n ≤ position → TellsFirmness plate samples position metrics decisions metrics decisions (Refused PositionBeyond)
+        pub refused-21 : plate.n ≤ position → TellsFirmness plate samples position metrics decisions metrics decisions (Err PositionBeyond)
         refused-21 h = (inr ((λ q b. b.0 given), inr ((λ q b. b.0 size), inr (no-sample-over, inl (h, refl)))), refl, refl)
 
         module _ (there : position < plate.n) where
           not_beyond : (q : Refusal) → (plate.n ≤ position) × (q ≡ PositionBeyond) → ⊥
           not_beyond q b = omega (arith, b.0)
 
-          pub refused-8 : length metrics < metric_need plate → TellsFirmness plate samples position metrics decisions metrics decisions (Refused MetricRoom)
+          pub refused-8 : length metrics < metric_need plate → TellsFirmness plate samples position metrics decisions metrics decisions (Err MetricRoom)
           refused-8 h = (inr ((λ q b. b.0 given), inr ((λ q b. b.0 size), inr (no-sample-over, inr (not_beyond, inl (h, refl))))), refl, refl)
 
           module _ (metric_room : metric_need plate ≤ length metrics) where
-            pub refused-9 : length decisions < decision_need plate → TellsFirmness plate samples position metrics decisions metrics decisions (Refused DecisionRoom)
+            pub refused-9 : length decisions < decision_need plate → TellsFirmness plate samples position metrics decisions metrics decisions (Err DecisionRoom)
             refused-9 h =
                 (inr ((λ q b. b.0 given), inr ((λ q b. b.0 size), inr (no-sample-over, inr (not_beyond, inr ((λ q b. omega (arith, b.0, metric_room)), inl (h, refl)))))), refl, refl)
 
@@ -70,7 +67,7 @@ module _ (plate : Plate) (samples : List ℤ) (position : ℕ) (metrics : List �
 
               pub judged : (metrics' : List ℤ) (decisions' : List ℕ) (reading : Reading) → ReadAt plate.rows (plate_sizes plate given) samples position metrics decisions metrics' decisions' reading
                   → (m d : ℕ) → m ≡ metric_need plate → d ≡ decision_need plate → (metrics'' : List ℤ) → metrics'' ≡ replicate m (pos 0) ++ drop m metrics' → (decisions'' : List ℕ) → decisions'' ≡ replicate d 0 ++ drop d decisions'
-                  → TellsFirmness plate samples position metrics decisions metrics'' decisions'' (Found (record { position = position; reading = reading }))
+                  → TellsFirmness plate samples position metrics decisions metrics'' decisions'' (Ok (record { position = position; reading = reading }))
               judged metrics' decisions' reading f m d em ed metrics'' x decisions'' y = (
                 passes,
                 flag-of plate given samples size samples-within position there reading f.reads,

@@ -1,4 +1,5 @@
 -- Determined: two replies of `firmness_parts`, with both rooms, that meet its promise are equal.
+use Rattle.std.proofs.Common.{Result, Ok, Err}
 use lib.IntN.{◌-ℤ◌, pos, ℤ}
 use lib.Signed.{◌≤ℤ◌}
 use mathlib.Core.Bool.{Bool, false, false≢true, true, true≢false}
@@ -10,8 +11,6 @@ use Rattle.decoding.proofs.DecodeDetermined.{sample-once}
 use Rattle.decoding.proofs.IntegerOrder.{≤ℤ-antisym}
 use Rattle.decoding.proofs.MaskedWords.{mask_word}
 use Rattle.decoding.specs.declared.firmness.Flag.{Flag}
-use Rattle.decoding.specs.declared.firmness.Flagged.{Flagged}
-use Rattle.decoding.specs.declared.firmness.Flagged.TheVariants.{Found, Refused}
 use Rattle.decoding.specs.declared.firmness.Reading.{Reading}
 use Rattle.decoding.specs.declared.firmness.Reading.TheVariants.{Fixed, Open}
 use Rattle.decoding.specs.Firmness.{Always, BestAmong, FlagOf, TellsFirmness, Margin, Means, firmness_conditions, is_fixed, value}
@@ -60,11 +59,11 @@ module _ (plate : Plate) (samples : List ℤ) (position : ℕ) where
     single =
         ((λ p q x y. x.1 ∙ sym y.1), ((λ p q x y. x.1 ∙ sym y.1), (sample-once plate samples metrics decisions, ((λ p q x y. x.1 ∙ sym y.1), ((λ p q x y. x.1 ∙ sym y.1), ((λ p q x y. x.1 ∙ sym y.1), tt))))))
 
-    pub firmness-determined : (r s : Flagged) (m n : List ℤ) (d e : List ℕ) → TellsFirmness plate samples position metrics decisions m d r → TellsFirmness plate samples position metrics decisions n e s
+    pub firmness-determined : (r s : Result Flag Refusal) (m n : List ℤ) (d e : List ℕ) → TellsFirmness plate samples position metrics decisions m d r → TellsFirmness plate samples position metrics decisions n e s
         → (r ≡ s) × (m ≡ n) × (d ≡ e)
-    firmness-determined (Found f) (Found g) m n d e x y =
-        (ap Found (flag_same f g x.1 y.1), x.2.metrics_zero ∙ sym y.2.metrics_zero, x.2.decisions_zero ∙ sym y.2.decisions_zero)
-    firmness-determined (Found f) (Refused q) m n d e x y = absurd (never_both conditions x.0 q y.0)
-    firmness-determined (Refused p) (Found g) m n d e x y = absurd (never_both conditions y.0 p x.0)
-    firmness-determined (Refused p) (Refused q) m n d e x y =
-        (ap Refused (refuses-once conditions single p q x.0 y.0), x.1 ∙ sym y.1, x.2 ∙ sym y.2)
+    firmness-determined (Ok f) (Ok g) m n d e x y =
+        (ap Ok (flag_same f g x.1 y.1), x.2.metrics_zero ∙ sym y.2.metrics_zero, x.2.decisions_zero ∙ sym y.2.decisions_zero)
+    firmness-determined (Ok f) (Err q) m n d e x y = absurd (never_both conditions x.0 q y.0)
+    firmness-determined (Err p) (Ok g) m n d e x y = absurd (never_both conditions y.0 p x.0)
+    firmness-determined (Err p) (Err q) m n d e x y =
+        (ap Err (refuses-once conditions single p q x.0 y.0), x.1 ∙ sym y.1, x.2 ∙ sym y.2)

@@ -1,4 +1,5 @@
 -- What a margin says: its sign is the bit that decoding gives, and it lies within twice 64 times the limit either way.
+use Rattle.std.proofs.Common.{Ok}
 use lib.IntN.{+ℤ_invr, ◌-ℤ◌, nat_abs, neg_ℤ, pos, ℤ}
 use lib.ListN.{length}
 use lib.Signed.{◌<ℤ◌, ◌≤ℤ◌, clash_ℤ}
@@ -16,7 +17,6 @@ use Rattle.decoding.proofs.MetricBounds.{Within, metric-within}
 use Rattle.decoding.proofs.SampleLimits.{none_over}
 use Rattle.decoding.specs.declared.Answer.{Answer}
 use Rattle.decoding.specs.declared.firmness.Flag.{Flag}
-use Rattle.decoding.specs.declared.firmness.Flagged.TheVariants.{Found}
 use Rattle.decoding.specs.declared.firmness.Reading.{Reading}
 use Rattle.decoding.specs.declared.firmness.Reading.TheVariants.{Fixed, Open}
 use Rattle.decoding.specs.Decode.{Best}
@@ -99,7 +99,7 @@ margin-limit-is = refl
 
 -- a margin that is replied lies within it
 pub margin-bounds : (plate : Plate) (samples : List ℤ) (position : ℕ) (metrics : List ℤ) (decisions : List ℕ) (metrics' : List ℤ) (decisions' : List ℕ) (flag : Flag)
-    → TellsFirmness plate samples position metrics decisions metrics' decisions' (Found flag) → is_fixed flag.reading ≡ false → nat_abs (value flag.reading) ≤ margin_limit
+    → TellsFirmness plate samples position metrics decisions metrics' decisions' (Ok flag) → is_fixed flag.reading ≡ false → nat_abs (value flag.reading) ≤ margin_limit
 margin-bounds plate samples position metrics decisions metrics' decisions' flag j e =
     omega (arith, margin-size plate samples position (value flag.reading) (none_over samples j.0.1.1.0) (subst (λ (f : Bool). Means (IsWord plate) samples position f (value flag.reading)) e j.1.reading), mul-le-mul_left limit few)
   where

@@ -36,7 +36,6 @@ pub mod PassedBack
 pub mod TakenRows
 pub mod WalkSection
 pub mod WalkEnds
-pub mod Filled
 pub mod WidestStates
 pub mod SumsAdded
 pub mod StatesEntered

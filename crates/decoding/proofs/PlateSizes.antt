@@ -59,7 +59,7 @@ module _ (plate : Plate) (given : IsPrepared plate) where
   pub entry-widest : widest_entry plate.profile plate.n ≡ widest plate
   entry-widest = widest-same plate.profile (rows_of plate) plate.n (sound given).profile
 
-  pub sizes-are : (z : Sizes) → SizesOf plate.n plate.k plate.mask plate.rows plate.profile z → z ≡ plate_sizes
+  pub sizes-are : (z : Sizes) → SizesOf plate z → z ≡ plate_sizes
   sizes-are z o =
       ap₂ (λ (a b : ℕ). record { n = a; k = b; half = z.half; words = z.words; rest = z.rest }) o.n_is o.k_is
       ∙ ap (λ (a : ℕ). record { n = plate.n; k = plate.k; half = z.half; words = z.words; rest = a }) o.rest_is
@@ -100,7 +100,7 @@ module _ (plate : Plate) (given : IsPrepared plate) where
   decision-need-small = le_trans (mul-le-mul_left plate.n (words-few (widest plate) widest-small)) (mul-le-mul_right 64 (sound given).short)
 
   -- the needs of sizes that were found
-  module _ {z : Sizes} (of : SizesOf plate.n plate.k plate.mask plate.rows plate.profile z) where
+  module _ {z : Sizes} (of : SizesOf plate z) where
     pub metrics-fit : z.half + z.half < 2 ^ 64
     metrics-fit = omega (arith, ap (λ (y : Sizes). y.half) (sizes-are z of), plate-sizes-fit.half_small)
 

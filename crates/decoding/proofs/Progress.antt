@@ -161,27 +161,20 @@ module _ (M : List ℤ) (from to : ℕ) (D : List ℕ) (c : Section) (y : ℤ) (
           comparisons = omega (arith, b.part.comparisons, u.comparisons);
         }
 
--- ---- a section taken with a gain as the machine keeps it
+-- ---- a section taken
 
 module _ {M : List ℤ} {from to : ℕ} {D : List ℕ} {c : Section} {y : ℤ} {k : Counts} (h : StepFits M from to D c y k) where
   gain-kept : kept y ≡ y
   gain-kept = back y (omega (arith, h.gain))
-
-  -- the gain as the machine keeps it is the gain
-  pub asked : StepFits M from to D c (kept y) k
-  asked = rw gain-kept h
-
-  pub stepped : {M₁ : List ℤ} {D₁ : List ℕ} {k₁ : Counts} → Stepped M from to D c (kept y) k M₁ D₁ k₁ → Stepped M from to D c y k M₁ D₁ k₁
-  stepped s = rw gain-kept at s
 
   -- it has one decision word
   module _ (l : c.live < 6) {n : ℕ} (e : n ≡ 2 ^ c.live) where
     count-le : n ≤ 64
     count-le = omega (arith, pow_mono {i = c.live} {j = 6} (omega arith))
 
-    pub one-word-fits : {w : ℕ} → Pattern c.column w → RunFits M from to c (kept y) w 0 n k
+    pub one-word-fits : {w : ℕ} → Pattern c.column w → RunFits M from to c y w 0 n k
     one-word-fits p = record {
-      ready = step-ready M from to D c (kept y) k asked;
+      ready = step-ready M from to D c y k h;
       word = count-le;
       states = omega arith;
       pattern = λ i g. p.bits i (omega (arith, count-le)) ∙ ap (bit_of c) (sym (zero-add i));
@@ -189,11 +182,11 @@ module _ {M : List ℤ} {from to : ℕ} {D : List ℕ} {c : Section} {y : ℤ} {
       comparisons = omega (arith, h.comparisons);
     }
 
-    pub one_word : {M₁ : List ℤ} {D₁ : List ℕ} {r : Run} → Part M from to c (kept y) 0 n k M₁ r → D₁ ≡ set D 0 r.word
+    pub one_word : {M₁ : List ℤ} {D₁ : List ℕ} {r : Run} → Part M from to c y 0 n k M₁ r → D₁ ≡ set D 0 r.word
         → Stepped M from to D c y k M₁ D₁ r.counts
     one_word {M₁} {D₁} {r} p s =
         let f : 0 * 64 + n ≡ 2 ^ c.live = omega arith in
-        let b : Block M from to D c y 0 n k M₁ D₁ r.counts = record { word = r.word; part = rw gain-kept at p; stored = s } in
+        let b : Block M from to D c y 0 n k M₁ D₁ r.counts = record { word = r.word; part = p; stored = s } in
         upto_all M from to D c y k h M₁ D₁ r.counts
         (rw f at (upto-more M from to D c y k h 0 M D k (upto-none M from to D c y k) n count-le (omega arith) M₁ D₁ r.counts b))
 
@@ -214,47 +207,44 @@ fill-asks h s t m = rw (gain-kept h) (record { signs_size = s; ties_size = t; ma
 
 module _ {M : List ℤ} {from to : ℕ} {D : List ℕ} {c : Section} {y : ℤ} {k : Counts} (wide : 6 ≤ c.live) (h : StepFits M from to D c y k) where
   pub words-none : {words : ℕ} → words ≡ 2 ^ (c.live - 6) → {near far : List ℤ} → length near ≡ 32 → length far ≡ 32
-      → WordsDone M from to D c (kept y) words k 0 M D near far k
-  words-none {words} e n f = record { count = word_count c.live words wide e; near_size = n; far_size = f; done = upto-none M from to D c (kept y) k }
+      → WordsDone M from to D c y words k 0 M D near far k
+  words-none {words} e n f = record { count = word_count c.live words wide e; near_size = n; far_size = f; done = upto-none M from to D c y k }
 
   module _ {words at : ℕ} {M₁ : List ℤ} {D₁ : List ℕ} {near far : List ℤ} {k₁ : Counts}
-      (s : WordsDone M from to D c (kept y) words k at M₁ D₁ near far k₁) where
+      (s : WordsDone M from to D c y words k at M₁ D₁ near far k₁) where
     pub words-all : words ≤ at → Stepped M from to D c y k M₁ D₁ k₁
     words-all l =
         let e : at * 64 ≡ 2 ^ c.live = omega (arith, s.count, s.done.within) in
-        rw (gain-kept h) at (upto_all M from to D c (kept y) k (asked h) M₁ D₁ k₁ (rw e at s.done))
+        upto_all M from to D c y k h M₁ D₁ k₁ (rw e at s.done)
 
     -- the next decision word
     module _ (l : at < words) where
       next-within : at * 64 + 64 ≤ 2 ^ c.live
       next-within = omega (arith, s.count)
 
-      pub next_small : at + 1 < 2 ^ 64
-      next_small = omega (arith, next-within, live-le c h.section)
-
       -- v is the lower half of its pattern, by which the tables are filled
       pub word-prepared : {w v : ℕ} → Pattern c.column w → v ≡ w % 2 ^ 32 → {weights : List ℕ} {signs ties : List ℤ} → Weights weights
-          → Tables v (kept y) signs ties → BlockReady c (kept y) weights signs ties near far
+          → Tables v (kept y) signs ties → BlockReady c y weights signs ties near far
       word-prepared {w} {v} p e m t = record {
         wide = wide;
         masks = m;
         word = v;
         pattern = λ i g. ap (λ (x : ℕ). bit x i) e ∙ low_word w i g ∙ p.bits i (omega arith);
-        tables = t;
+        tables = rw (gain-kept h) at t;
         near_size = s.near_size;
         far_size = s.far_size;
       }
 
-      pub word_fits : {w : ℕ} → Pattern c.column w → BlockFits M₁ from to c (kept y) w at 64 k₁
-      word_fits {w} p = block-fits M from to D c (kept y) k (asked h) at M₁ D₁ k₁ s.done w 64 p (omega arith) next-within
+      pub word_fits : {w : ℕ} → Pattern c.column w → BlockFits M₁ from to c y w at 64 k₁
+      word_fits {w} p = block-fits M from to D c y k h at M₁ D₁ k₁ s.done w 64 p (omega arith) next-within
 
-      pub words_more : {M₂ : List ℤ} {D₂ : List ℕ} {near' far' : List ℤ} {k₂ : Counts} → WordDone M₁ from to D₁ c (kept y) at k₁ M₂ D₂ near' far' k₂
-          → WordsDone M from to D c (kept y) words k (at + 1) M₂ D₂ near' far' k₂
+      pub words_more : {M₂ : List ℤ} {D₂ : List ℕ} {near' far' : List ℤ} {k₂ : Counts} → WordDone M₁ from to D₁ c y at k₁ M₂ D₂ near' far' k₂
+          → WordsDone M from to D c y words k (at + 1) M₂ D₂ near' far' k₂
       words_more {M₂} {D₂} {near'} {far'} {k₂} b =
           let e : (at + 1) * 64 ≡ at * 64 + 64 = omega arith in
           record {
             count = s.count;
             near_size = b.near_size;
             far_size = b.far_size;
-            done = rw e (upto-more M from to D c (kept y) k (asked h) at M₁ D₁ k₁ s.done 64 (omega arith) next-within M₂ D₂ k₂ b.block);
+            done = rw e (upto-more M from to D c y k h at M₁ D₁ k₁ s.done 64 (omega arith) next-within M₂ D₂ k₂ b.block);
           }

@@ -8,7 +8,6 @@ use mathlib.Core.Path.{refl, ◌∙◌, ◌≡◌}
 use native.Mathlib.Nat.{le_trans, mul-le-mul_left, mul-le-mul_right}
 use native.Mathlib.Omega.{arith}
 use Prim.Native.Nat.{◌%◌, ◌*◌, ◌+◌, ◌-◌, ◌/◌, ◌<◌, ◌^◌, ℕ, ◌≤◌}
-use Rattle.decoding.proofs.Integers.{back, kept}
 use Rattle.decoding.proofs.Packed.{digit-masked, packed-below}
 use Rattle.decoding.proofs.Parts.{join, part-others, still-ready}
 use Rattle.decoding.proofs.Targets.{live-le}
@@ -75,24 +74,18 @@ pub record StatesFrom (M : List ℤ) (from to : ℕ) (c : Section) (y : ℤ) (lo
   pub done : Part M from to c y (lo + i) (n - i) k M₁ (record { word = v; counts = k₁ })
 
 module _ {M : List ℤ} {from to : ℕ} {c : Section} {y : ℤ} {w lo n : ℕ} {k : Counts} (h : RunFits M from to c y w lo n k) where
-  gain-kept : kept y ≡ y
-  gain-kept = back y (omega (arith, h.ready.gain))
-
-  ready : Ready M from to c (kept y)
-  ready = rw gain-kept h.ready
-
-  pub states-none : StatesFrom M from to c (kept y) lo n k n M 0 k
+  pub states-none : StatesFrom M from to c y lo n k n M 0 k
   states-none =
       let e : n - n ≡ 0 = omega arith in
-      record { within = omega arith; done = rw e (no-states M from to c (kept y) (lo + n) k) }
+      record { within = omega arith; done = rw e (no-states M from to c y (lo + n) k) }
 
-  module _ {i : ℕ} {M₁ : List ℤ} {v : ℕ} {k₁ : Counts} (s : StatesFrom M from to c (kept y) lo n k i M₁ v k₁) where
+  module _ {i : ℕ} {M₁ : List ℤ} {v : ℕ} {k₁ : Counts} (s : StatesFrom M from to c y lo n k i M₁ v k₁) where
     pub states-all : i ≤ 0 → Part M from to c y lo n k M₁ (record { word = v; counts = k₁ })
     states-all g =
         let z : i ≡ 0 = omega arith in
         let a : lo + 0 ≡ lo = omega arith in
         let b : n - 0 ≡ n = omega arith in
-        rw (z, a, b, gain-kept) at s.done
+        rw (z, a, b) at s.done
 
     -- what the next state below asks
     module _ (g : 0 < i) where
@@ -102,13 +95,13 @@ module _ {M : List ℤ} {from to : ℕ} {c : Section} {y : ℤ} {w lo n : ℕ} {
       pub next-shift : i - 1 < 64
       next-shift = omega (arith, s.within, h.word)
 
-      pub next_fits : StateFits M₁ from to c (kept y) (bit_and (w / 2 ^ (i - 1)) 1) (lo + (i - 1)) k₁
+      pub next_fits : StateFits M₁ from to c y (bit_and (w / 2 ^ (i - 1)) 1) (lo + (i - 1)) k₁
       next_fits = record {
-        ready = after-ready M from to c (kept y) ready lo n h.states k i 1 g s.within M₁ v k₁ s.done;
+        ready = after-ready M from to c y h.ready lo n h.states k i 1 g s.within M₁ v k₁ s.done;
         state = omega (arith, h.states, s.within);
         parity = digit-masked w (i - 1) ∙ h.pattern (i - 1) (omega (arith, s.within));
-        additions = omega (arith, adds-room M from to c (kept y) ready lo n h.states k i 1 g s.within M₁ v k₁ s.done, h.additions, h.word);
-        comparisons = omega (arith, compares-room M from to c (kept y) ready lo n h.states k i 1 g s.within M₁ v k₁ s.done, h.comparisons, h.word);
+        additions = omega (arith, adds-room M from to c y h.ready lo n h.states k i 1 g s.within M₁ v k₁ s.done, h.additions, h.word);
+        comparisons = omega (arith, compares-room M from to c y h.ready lo n h.states k i 1 g s.within M₁ v k₁ s.done, h.comparisons, h.word);
       }
 
       -- the word has room for one more bit
@@ -116,10 +109,10 @@ module _ {M : List ℤ} {from to : ℕ} {c : Section} {y : ℤ} {w lo n : ℕ} {
       word_room = omega (arith, s.done.short, pow_mono {i = n - i} {j = 63} (omega (arith, h.word)))
 
       -- that state done
-      pub states-more : {M₂ : List ℤ} {r : Run} → Part M₁ from to c (kept y) (lo + (i - 1)) 1 k₁ M₂ r
-          → StatesFrom M from to c (kept y) lo n k (i - 1) M₂ (bit_or (v * 2 % 2 ^ 64) r.word) r.counts
+      pub states-more : {M₂ : List ℤ} {r : Run} → Part M₁ from to c y (lo + (i - 1)) 1 k₁ M₂ r
+          → StatesFrom M from to c y lo n k (i - 1) M₂ (bit_or (v * 2 % 2 ^ 64) r.word) r.counts
       states-more {M₂} {r} q = record {
         within = omega (arith, s.within);
-        done = lower M from to c (kept y) ready lo n h.states k i 1 g s.within M₁ v k₁ s.done M₂ r _ q
+        done = lower M from to c y h.ready lo n h.states k i 1 g s.within M₁ v k₁ s.done M₂ r _ q
             (packed-below 1 v r.word word_room q.short);
       }

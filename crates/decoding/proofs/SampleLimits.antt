@@ -1,10 +1,6 @@
--- A sample is outside the limit exactly if it is above it or below its negation. Samples are not refused for one of them exactly if all are
--- within, and for their number only if they are n.
-use borrow.Author.Tests.{ltb-false, ltb-true}
-use lib.IntN.{nat_abs, negsuc, pos, ℤ}
+-- Samples are not refused for one of them exactly if all are within the limit, and for their number only if they are n.
+use lib.IntN.{nat_abs, pos, ℤ}
 use lib.ListN.{get_or, length}
-use lib.Signed.{lt_z}
-use mathlib.Core.Bool.{false, false≢true, true}
 use mathlib.Core.List.{List}
 use mathlib.Core.Logic.{inl, inr, ◌⊎◌}
 use mathlib.Core.Path.{refl, subst, sym, ◌≡◌}
@@ -15,19 +11,10 @@ use Prim.Native.Nat.{◌+◌, ◌<◌, suc, zero, ℕ, ◌≤◌}
 use Rattle.decoding.proofs.MetricBounds.{Within}
 use Rattle.decoding.specs.Decode.{SampleOver, sample_count}
 use Rattle.decoding.specs.Metric.{limit}
-use Rattle.decoding.specs.Searching.{IsOver}
 use Rattle.plates.specs.declared.Plate.{Plate}
 use Rattle.plates.specs.declared.Refusal.{Refusal}
 use Rattle.plates.specs.declared.Refusal.TheVariants.{SampleCount, SampleRange}
 use Rattle.words.proofs.Span.{lt-tri}
-
-pub over-high : (y : ℤ) → lt_z (pos limit) y ≡ true → limit < nat_abs y
-over-high (pos a) e = ltb-true limit a e
-over-high (negsuc a) e = absurd (false≢true e)
-
-pub over-low : (y : ℤ) → lt_z (pos limit) y ≡ false → IsOver y (lt_z y (negsuc 2046))
-over-low (pos a) e = record { yes_is = λ f. absurd (false≢true f); no_is = λ f. ltb-false limit a e }
-over-low (negsuc a) e = record { yes_is = λ f. omega (arith, ltb-true 2046 a f); no_is = λ f. omega (arith, ltb-false 2046 a f) }
 
 -- one more sample within the limit
 pub passed : (samples : List ℤ) (i : ℕ) → ((j : ℕ) → j < i → nat_abs (get_or samples j (pos 0)) ≤ limit) → nat_abs (get_or samples i (pos 0)) ≤ limit

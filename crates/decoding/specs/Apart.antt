@@ -1,5 +1,5 @@
 -- Decoding parted into two calls: the metric without the word, and the word without its metric.
-use Rattle.std.specs.Prelude.{ℕ, ℤ, pos, drop, replicate, ◌≤ℤ◌, List, [], ◌∷◌, ◌++◌, ◌⊎◌, ◌≡◌}
+use Rattle.std.specs.Prelude.{ℕ, ℤ, pos, drop, replicate, ◌≤ℤ◌, List, [], ◌∷◌, ◌++◌, ◌⊎◌, ◌≡◌, Result, Ok, Err}
 use Rattle.words.specs.Word.{Earlier}
 use Rattle.plates.specs.declared.Plate.{Plate}
 use Rattle.plates.specs.declared.Refusal.{Refusal}
@@ -7,14 +7,10 @@ use Rattle.plates.specs.Prepare.{IsWord, not_prepared}
 use Rattle.plates.specs.Refusals.{Refuses, Passes}
 use Rattle.trellises.specs.Branching.{trellis_of}
 use Rattle.decoding.specs.declared.apart.Selection.{Selection}
-use Rattle.decoding.specs.declared.apart.Chosen.{Chosen}
 use Rattle.decoding.specs.declared.apart.Measure.{Measure}
-use Rattle.decoding.specs.declared.apart.Measured.{Measured}
 use Rattle.decoding.specs.Decode.{SampleOver, Zeroed, decode_conditions, metric_need, metric_room, sample_count}
 use Rattle.decoding.specs.Metric.{metric_of}
 use Rattle.decoding.specs.Totals.{branch_total, entering_less_one}
-use Rattle.decoding.specs.declared.apart.Chosen.TheVariants as C
-use Rattle.decoding.specs.declared.apart.Measured.TheVariants as M
 
 -- ---- the metric
 
@@ -37,9 +33,9 @@ BestMetric plate samples m = BestMetricIn (IsWord plate) plate samples m
 
 -- What the metric call replies: the first refusal in order with the room unchanged, or the best metric with the needed room, the first so
 -- many places, all zero and the rest unchanged
-abbrev pub Measures : Plate → List ℤ → List ℤ → List ℤ → Measured → Type 0
-Measures plate samples metrics metrics' (M.Refused q) = Refuses (metric_conditions plate samples metrics) q × (metrics' ≡ metrics)
-Measures plate samples metrics metrics' (M.Found m) =
+abbrev pub Measures : Plate → List ℤ → List ℤ → List ℤ → Result Measure Refusal → Type 0
+Measures plate samples metrics metrics' (Err q) = Refuses (metric_conditions plate samples metrics) q × (metrics' ≡ metrics)
+Measures plate samples metrics metrics' (Ok m) =
     Passes (metric_conditions plate samples metrics) × BestMetric plate samples m
     × (metrics' ≡ replicate (metric_need plate) (pos 0) ++ drop (metric_need plate) metrics)
 
@@ -58,8 +54,8 @@ abbrev pub BestSelection : Plate → List ℤ → Selection → Type 0
 BestSelection plate samples c = BestSelectionIn (IsWord plate) plate samples c
 
 -- What the word call replies: the first refusal in order, 5 to 9, with both rooms unchanged, or the best word with the needed room zeroed
-abbrev pub Chooses : Plate → List ℤ → List ℤ → List ℕ → List ℤ → List ℕ → Chosen → Type 0
-Chooses plate samples metrics decisions metrics' decisions' (C.Refused q) =
+abbrev pub Chooses : Plate → List ℤ → List ℤ → List ℕ → List ℤ → List ℕ → Result Selection Refusal → Type 0
+Chooses plate samples metrics decisions metrics' decisions' (Err q) =
     Refuses (decode_conditions plate samples metrics decisions) q × (metrics' ≡ metrics) × (decisions' ≡ decisions)
-Chooses plate samples metrics decisions metrics' decisions' (C.Found c) =
+Chooses plate samples metrics decisions metrics' decisions' (Ok c) =
     Passes (decode_conditions plate samples metrics decisions) × BestSelection plate samples c × Zeroed plate metrics metrics' decisions decisions'

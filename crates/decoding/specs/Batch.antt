@@ -1,13 +1,11 @@
 -- Many blocks of one plate in one call: what is replied, and what is left in the words and metrics lent and in the working rooms.
-use Rattle.std.specs.Prelude.{ℕ, ◌*◌, ◌<◌, ℤ, pos, drop, get_or, length, take, List, [], ◌∷◌, ◌≡◌}
+use Rattle.std.specs.Prelude.{ℕ, ◌*◌, ◌<◌, ℤ, pos, drop, get_or, length, take, List, [], ◌∷◌, ◌≡◌, Result, Ok, Err}
 use Rattle.plates.specs.declared.Plate.{Plate}
 use Rattle.plates.specs.declared.Refusal.{Refusal}
 use Rattle.plates.specs.declared.Refusal.TheVariants.{SampleCount}
 use Rattle.plates.specs.Prepare.{not_prepared}
 use Rattle.plates.specs.Refusals.{Refuses, Passes}
 use Rattle.decoding.specs.declared.Answer.{Answer}
-use Rattle.decoding.specs.declared.batch.Batch.{Batch}
-use Rattle.decoding.specs.declared.batch.Batch.TheVariants.{Found, Refused}
 use Rattle.decoding.specs.declared.Counts.{Counts}
 use Rattle.decoding.specs.Decode.{Best, SampleOver, Zeroed, decision_room, metric_room}
 
@@ -45,10 +43,10 @@ pub record EachBest (plate : Plate) (samples : List ℤ) (count : ℕ) (words : 
   pub none : count ≡ 0 → counts ≡ record { additions = 0; comparisons = 0 }
 
 -- What a batch replies: the first refusal in order with all that is lent unchanged, or every answer with the needed room zeroed
-abbrev pub DecodesBlocks : Plate → List ℤ → List ℕ → List ℤ → List ℤ → List ℕ → List ℕ → List ℤ → List ℤ → List ℕ → Batch → Type 0
-DecodesBlocks plate samples words scores metrics decisions words' scores' metrics' decisions' (Refused q) =
+abbrev pub DecodesBlocks : Plate → List ℤ → List ℕ → List ℤ → List ℤ → List ℕ → List ℕ → List ℤ → List ℤ → List ℕ → Result Counts Refusal → Type 0
+DecodesBlocks plate samples words scores metrics decisions words' scores' metrics' decisions' (Err q) =
     Refuses (blocks_conditions plate samples words scores metrics decisions) q
     × (words' ≡ words) × (scores' ≡ scores) × (metrics' ≡ metrics) × (decisions' ≡ decisions)
-DecodesBlocks plate samples words scores metrics decisions words' scores' metrics' decisions' (Found counts) =
+DecodesBlocks plate samples words scores metrics decisions words' scores' metrics' decisions' (Ok counts) =
     Passes (blocks_conditions plate samples words scores metrics decisions)
     × EachBest plate samples (length words) words' scores' counts × Zeroed plate metrics metrics' decisions decisions'

@@ -1,5 +1,5 @@
 -- What decoding replies, and what it leaves in the working rooms.
-use Rattle.std.specs.Prelude.{ℕ, zero, suc, ◌*◌, ◌/◌, ◌^◌, ◌≤◌, ◌<◌, max, ℤ, pos, nat_abs, length, get_or, drop, replicate, ◌≤ℤ◌, List, [], ◌∷◌, ◌++◌, ◌⊎◌, ◌≡◌}
+use Rattle.std.specs.Prelude.{ℕ, zero, suc, ◌*◌, ◌/◌, ◌^◌, ◌≤◌, ◌<◌, max, ℤ, pos, nat_abs, length, get_or, drop, replicate, ◌≤ℤ◌, List, [], ◌∷◌, ◌++◌, ◌⊎◌, ◌≡◌, Result, Ok, Err}
 use Rattle.words.specs.Word.{Earlier}
 use Rattle.plates.specs.declared.Plate.{Plate}
 use Rattle.plates.specs.declared.Refusal.{Refusal}
@@ -8,8 +8,6 @@ use Rattle.plates.specs.Prepare.{IsWord, not_prepared, rows_of}
 use Rattle.plates.specs.Profile.{live_at}
 use Rattle.plates.specs.Refusals.{Refuses, Passes}
 use Rattle.trellises.specs.Branching.{trellis_of}
-use Rattle.decoding.specs.declared.Decoded.{Decoded}
-use Rattle.decoding.specs.declared.Decoded.TheVariants.{Found, Refused}
 use Rattle.decoding.specs.declared.Answer.{Answer}
 use Rattle.decoding.specs.Metric.{limit, metric_of}
 use Rattle.decoding.specs.Totals.{branch_total, entering_less_one}
@@ -85,8 +83,8 @@ pub record Zeroed (plate : Plate) (metrics metrics' : List ℤ) (decisions decis
   pub decisions_zero : decisions' ≡ replicate (decision_need plate) 0 ++ drop (decision_need plate) decisions
 
 -- What decoding replies: the first refusal in order with both rooms unchanged, or the best with the needed room zeroed
-abbrev pub Decodes : Plate → List ℤ → List ℤ → List ℕ → List ℤ → List ℕ → Decoded → Type 0
-Decodes plate samples metrics decisions metrics' decisions' (Refused q) =
+abbrev pub Decodes : Plate → List ℤ → List ℤ → List ℕ → List ℤ → List ℕ → Result Answer Refusal → Type 0
+Decodes plate samples metrics decisions metrics' decisions' (Err q) =
     Refuses (decode_conditions plate samples metrics decisions) q × (metrics' ≡ metrics) × (decisions' ≡ decisions)
-Decodes plate samples metrics decisions metrics' decisions' (Found a) =
+Decodes plate samples metrics decisions metrics' decisions' (Ok a) =
     Passes (decode_conditions plate samples metrics decisions) × Best plate samples a × Zeroed plate metrics metrics' decisions decisions'

@@ -1,5 +1,5 @@
 -- How firmly one position was received: the values of a reading, what each of them means, and what judging a position replies.
-use Rattle.std.specs.Prelude.{ℕ, ◌≤◌, ℤ, pos, ◌-ℤ◌, ◌<ℤ◌, ◌≤ℤ◌, Bool, true, false, List, [], ◌∷◌, ◌≡◌}
+use Rattle.std.specs.Prelude.{ℕ, ◌≤◌, ℤ, pos, ◌-ℤ◌, ◌<ℤ◌, ◌≤ℤ◌, Bool, true, false, List, [], ◌∷◌, ◌≡◌, Result, Ok, Err}
 use Rattle.words.specs.Word.{bit}
 use Rattle.plates.specs.declared.Plate.{Plate}
 use Rattle.plates.specs.declared.Refusal.{Refusal}
@@ -7,8 +7,6 @@ use Rattle.plates.specs.declared.Refusal.TheVariants.{PositionBeyond}
 use Rattle.plates.specs.Prepare.{IsWord, not_prepared}
 use Rattle.plates.specs.Refusals.{Refuses, Passes}
 use Rattle.decoding.specs.declared.firmness.Flag.{Flag}
-use Rattle.decoding.specs.declared.firmness.Flagged.{Flagged}
-use Rattle.decoding.specs.declared.firmness.Flagged.TheVariants.{Found, Refused}
 use Rattle.decoding.specs.declared.firmness.Reading.{Reading}
 use Rattle.decoding.specs.declared.firmness.Reading.TheVariants.{Fixed, Open}
 use Rattle.decoding.specs.Decode.{SampleOver, Zeroed, decision_room, metric_room, sample_count}
@@ -76,9 +74,9 @@ firmness_conditions plate samples position metrics decisions =
 
 -- What judging a position replies: the first refusal in order with both rooms unchanged, or the flag among the plate's words with the needed
 -- room zeroed
-abbrev pub TellsFirmness : Plate → List ℤ → ℕ → List ℤ → List ℕ → List ℤ → List ℕ → Flagged → Type 0
-TellsFirmness plate samples position metrics decisions metrics' decisions' (Refused q) =
+abbrev pub TellsFirmness : Plate → List ℤ → ℕ → List ℤ → List ℕ → List ℤ → List ℕ → Result Flag Refusal → Type 0
+TellsFirmness plate samples position metrics decisions metrics' decisions' (Err q) =
     Refuses (firmness_conditions plate samples position metrics decisions) q × (metrics' ≡ metrics) × (decisions' ≡ decisions)
-TellsFirmness plate samples position metrics decisions metrics' decisions' (Found flag) =
+TellsFirmness plate samples position metrics decisions metrics' decisions' (Ok flag) =
     Passes (firmness_conditions plate samples position metrics decisions) × FlagOf (IsWord plate) samples position flag
     × Zeroed plate metrics metrics' decisions decisions'

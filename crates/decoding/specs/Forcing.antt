@@ -1,5 +1,5 @@
 -- A position forced to a bit, and what the parts of a judgement find by it.
-use Rattle.std.specs.Prelude.{ℕ, ◌^◌, ◌≤◌, ◌<◌, ℤ, nat_abs, pos, ◌+ℤ◌, ◌-ℤ◌, get_or, set, take, List, ◌≡◌}
+use Rattle.std.specs.Prelude.{ℕ, ◌^◌, ◌≤◌, ◌<◌, ℤ, nat_abs, pos, ◌+ℤ◌, ◌-ℤ◌, get_or, set, take, Bool, true, false, List, ◌≡◌}
 use Rattle.words.specs.Word.{bit}
 use Rattle.trellises.specs.declared.Section.{Section}
 use Rattle.trellises.specs.SectionOf.{section_of}
@@ -21,12 +21,6 @@ abbrev pub best_with : (ℕ → Section) → ℕ → List ℤ → ℕ → ℕ �
 best_with sections rest samples position b =
     best sections (turned_by rest (set samples position (signed b (pos forcing)))) 0 0 -ℤ pos forcing +ℤ signed b (get_or samples position (pos 0))
 
--- r is the first of k rows with a one at the position, or k
-pub record FirstWith (rows : List ℕ) (k position r : ℕ) : Type 0 where
-  pub most : r ≤ k
-  pub before : (j : ℕ) → j < r → bit (get_or rows j 0) position ≡ 0
-  pub here : r < k → bit (get_or rows r 0) position ≡ 1
-
 -- the best metric with the position forced, which is small, and the rooms behind the needed places kept
 pub record BestForced (table : List ℕ) (z : Sizes) (samples : List ℤ) (position b : ℕ) (metrics : List ℤ) (decisions : List ℕ)
     (metrics' : List ℤ) (decisions' : List ℕ) (m : ℤ) : Type 0 where
@@ -39,6 +33,11 @@ pub record RowWith (table : List ℕ) (k position : ℕ) : Type 0 where
   pub row : ℕ
   pub there : row < k
   pub one : bit (get_or table row 0) position ≡ 1
+
+-- r says whether one of the first k rows has a one at the position
+pub record HasOne (table : List ℕ) (k position : ℕ) (r : Bool) : Type 0 where
+  pub yes_is : r ≡ true → RowWith table k position
+  pub no_is : r ≡ false → (j : ℕ) → j < k → bit (get_or table j 0) position ≡ 0
 
 -- the reading by the rows and by both forced metrics: the rest's bit is fixed where no row has a one
 abbrev pub ByForcing : List ℕ → Sizes → List ℤ → ℕ → Reading → Type 0

@@ -1,5 +1,5 @@
 -- What the parts of a decode find: the first sample outside the limit, and the best word.
-use Rattle.std.specs.Prelude.{ℕ, ◌+◌, ◌≤◌, ◌<◌, ℤ, pos, nat_abs, length, get_or, take, Bool, true, false, List, ◌≡◌}
+use Rattle.std.specs.Prelude.{ℕ, ◌+◌, ◌≤◌, ◌<◌, ℤ, pos, nat_abs, length, get_or, take, Bool, true, false, Option, None, Some, List, ◌≡◌}
 use Rattle.std.specs.Int.Bits.{bit_xor}
 use Rattle.trellises.specs.SectionOf.{section_of}
 use Rattle.decoding.specs.declared.Answer.{Answer}
@@ -15,11 +15,16 @@ pub record IsOver (y : ℤ) (r : Bool) : Type 0 where
   pub yes_is : r ≡ true → limit < nat_abs y
   pub no_is : r ≡ false → nat_abs y ≤ limit
 
--- r is the first position whose sample is outside the limit, or the number of samples
-pub record FirstOver (samples : List ℤ) (r : ℕ) : Type 0 where
-  pub most : r ≤ length samples
-  pub before : (i : ℕ) → i < r → nat_abs (get_or samples i (pos 0)) ≤ limit
-  pub here : r < length samples → limit < nat_abs (get_or samples r (pos 0))
+-- position i has the first sample that is outside the limit
+pub record IsFirstOver (samples : List ℤ) (i : ℕ) : Type 0 where
+  pub there : i < length samples
+  pub before : (j : ℕ) → j < i → nat_abs (get_or samples j (pos 0)) ≤ limit
+  pub here : limit < nat_abs (get_or samples i (pos 0))
+
+-- r is the first position whose sample is outside the limit, where there is one
+abbrev pub FirstOver : List ℤ → Option ℕ → Type 0
+FirstOver samples None = (i : ℕ) → i < length samples → nat_abs (get_or samples i (pos 0)) ≤ limit
+FirstOver samples (Some i) = IsFirstOver samples i
 
 -- the codeword read off plus rest, the best metric and the counts, with the samples turned by the rest, and the rooms behind the needed
 -- places kept

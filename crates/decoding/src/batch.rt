@@ -5,22 +5,15 @@ ghost use Rattle.decoding.specs.Batching.{AreBlocks, BlockFits, BlockPut, Blocks
 ghost use Rattle.decoding.specs.LiveRows.{EndsAre};
 ghost use Rattle.decoding.specs.Searching.{Searched};
 ghost use Rattle.decoding.specs.Sweeping.{RoomsFit, SizesFit};
-ghost use Rattle.plates.specs.Prepare.{IsPrepared, of_parts};
+ghost use Rattle.plates.specs.Prepare.{IsPrepared, lent};
 
 use crate::live::ending_rows;
-use crate::rooms::{clear_decisions, clear_metrics, sizes_of};
+use crate::rooms::sizes_of;
 use crate::samples::first_over;
 use crate::sweep::{Forced, Sizes, sweep};
 use crate::walk::read_off;
 use crate::{Answer, Counts};
-use plates::Refusal;
-
-// What the steps counted for each of the blocks, or why none is decoded.
-#[derive(Clone, Copy)]
-pub enum Batch {
-    Found(Counts),
-    Refused(Refusal),
-}
+use plates::{Parts, Refusal};
 
 // Whether so many samples are as many blocks of n as there are words lent, and the metrics lent are as many.
 fn are_blocks(samples: usize, n: usize, words: usize, scores: usize) -> bool
@@ -56,23 +49,12 @@ fn search_block(
         position: sizes.n,
         gain: 0,
     };
-    let at = sweep(
-        rows,
-        sizes,
-        ends,
-        samples,
-        none,
-        &mut *metrics,
-        &mut *decisions,
-    );
-    let word = read_off(rows, sizes, ends, samples, &*decisions);
-    let from = at.from;
-    let metric = metrics[from];
-    let counts = at.counts;
+    let at = sweep(rows, sizes, ends, samples, none, metrics, decisions);
+    let word = read_off(rows, sizes, ends, samples, decisions);
     Answer {
         word,
-        metric,
-        counts,
+        metric: metrics[at.from],
+        counts: at.counts,
     }
 }
 
@@ -93,10 +75,9 @@ fn put_block(
     requires block_fits { BlockFits sizes block.now at found.old scores.old metrics.old decisions.old }
     ensures { BlockPut rows.now sizes block.now at found.old scores.old metrics.old decisions.old found.new scores.new metrics.new decisions.new result }
 {
-    let answer = search_block(rows, sizes, ends, block, &mut *metrics, &mut *decisions);
-    let metric = answer.metric;
+    let answer = search_block(rows, sizes, ends, block, metrics, decisions);
     found[at] = answer.word;
-    scores[at] = metric;
+    scores[at] = answer.metric;
     answer.counts
 }
 
@@ -119,8 +100,7 @@ fn put_blocks(
         additions: 0,
         comparisons: 0,
     };
-    let mut at = 0;
-    while at < found.len() {
+    for at in 0..found.len() {
         let begin = at * sizes.n;
         let end = begin + sizes.n;
         counts = put_block(
@@ -129,82 +109,64 @@ fn put_blocks(
             &ends,
             &samples[begin..end],
             at,
-            &mut *found,
-            &mut *scores,
-            &mut *metrics,
-            &mut *decisions,
+            found,
+            scores,
+            metrics,
+            decisions,
         );
-        at += 1;
     }
     counts
 }
 
 // The blocks of a prepared plate.
 fn blocks_prepared<'a>(
-    n: usize,
-    k: usize,
-    mask: u64,
-    rows: &'a [u64],
-    profile: &'a [u64],
+    plate: Parts<'a>,
     samples: &[i16],
     found: &mut [u64],
     scores: &mut [i32],
     metrics: &mut [i32],
     decisions: &mut [u64],
-) -> Batch
-    requires { IsPrepared (of_parts n k mask rows.now profile.now) }
-    ensures { DecodesBlocks (of_parts n k mask rows.now profile.now) samples.now found.old scores.old metrics.old decisions.old found.new scores.new metrics.new decisions.new result }
+) -> Result<Counts, Refusal>
+    requires { IsPrepared (lent plate) }
+    ensures { DecodesBlocks (lent plate.entry) samples.now found.old scores.old metrics.old decisions.old found.new scores.new metrics.new decisions.new result }
 {
-    if !are_blocks(samples.len(), n, found.len(), scores.len()) {
-        return Batch::Refused(Refusal::SampleCount);
+    if !are_blocks(samples.len(), plate.n, found.len(), scores.len()) {
+        return Err(Refusal::SampleCount);
     }
-    let over = first_over(samples);
-    if over < samples.len() {
-        return Batch::Refused(Refusal::SampleRange(over));
+    if let Some(over) = first_over(samples) {
+        return Err(Refusal::SampleRange(over));
     }
-    let sizes = sizes_of(n, k, mask, rows, profile);
+    let sizes = sizes_of(plate);
     let metric_need = sizes.half + sizes.half;
-    let decision_need = n * sizes.words;
+    let decision_need = plate.n * sizes.words;
     if metrics.len() < metric_need {
-        return Batch::Refused(Refusal::MetricRoom);
+        return Err(Refusal::MetricRoom);
     }
     if decisions.len() < decision_need {
-        return Batch::Refused(Refusal::DecisionRoom);
+        return Err(Refusal::DecisionRoom);
     }
     let counts = put_blocks(
-        rows,
-        sizes,
-        samples,
-        found,
-        scores,
-        &mut *metrics,
-        &mut *decisions,
+        plate.rows, sizes, samples, found, scores, metrics, decisions,
     );
-    clear_metrics(&mut *metrics, metric_need);
-    clear_decisions(&mut *decisions, decision_need);
-    Batch::Found(counts)
+    metrics[..metric_need].fill(0);
+    decisions[..decision_need].fill(0);
+    Ok(counts)
 }
 
 // Decodes every block of a run of samples, n of them a block: each block's word and metric go to their places in what is lent for them. The
 // counts, which are the same for each block, are 0 where there is none.
 pub fn decode_blocks<'a>(
-    n: usize,
-    k: usize,
-    mask: u64,
-    rows: &'a [u64],
-    profile: &'a [u64],
+    plate: Parts<'a>,
     samples: &[i16],
     found: &mut [u64],
     scores: &mut [i32],
     metrics: &mut [i32],
     decisions: &mut [u64],
-) -> Batch
-    ensures { DecodesBlocks (of_parts n k mask rows.now profile.now) samples.now found.old scores.old metrics.old decisions.old found.new scores.new metrics.new decisions.new result }
+) -> Result<Counts, Refusal>
+    ensures { DecodesBlocks (lent plate.entry) samples.now found.old scores.old metrics.old decisions.old found.new scores.new metrics.new decisions.new result }
 {
-    if plates::parts_prepared(n, k, mask, rows, profile) {
-        return blocks_prepared(
-            n, k, mask, rows, profile, samples, found, scores, metrics, decisions,
-        );
+    if plates::parts_prepared(plate) {
+        return blocks_prepared(plate, samples, found, scores, metrics, decisions);
     }
-    Batch::Refused(Refusal::NotPrepared)
+    Err(Refusal::NotPrepared)
 }

@@ -3,9 +3,8 @@ ghost use Rattle.std.specs.Prelude.{cond, false, true, ◌≡◌, ◌%◌, ◌*�
 ghost use Rattle.decoding.specs.Halves.{StripDone, StripFits};
 ghost use Rattle.decoding.specs.Picking.{LoneFits, LoneTaken, Lones, LonesFit, PickFits, PickTaken, Picks, PicksFit};
 
-use crate::states::Run;
+use crate::states::{Run, Step};
 use crate::{Counts, choices, patterns, states, strips};
-use trellises::Section;
 
 // What was picked: a one for each state that took its second branch, and the counts with theirs.
 #[derive(Clone, Copy)]
@@ -37,16 +36,17 @@ fn pick(
     requires { PickFits metrics.old at near.now far.now weights.now signs.now ties.now side i picked }
     ensures { PickTaken metrics.old at near.now far.now signs.now ties.now side i picked metrics.new result }
 {
-    let counts = picked.counts;
-    let choice = choices::choose(near[i], far[i], signs[side + i], ties[side + i], counts);
-    let place = at + i;
-    let metric = choice.metric;
-    metrics[place] = metric;
-    let word = picked.word | weighed(choice.second, weights[i]);
-    let raised = choice.counts;
+    let choice = choices::choose(
+        near[i],
+        far[i],
+        signs[side + i],
+        ties[side + i],
+        picked.counts,
+    );
+    metrics[at + i] = choice.metric;
     Picked {
-        word,
-        counts: raised,
+        word: picked.word | weighed(choice.second, weights[i]),
+        counts: choice.counts,
     }
 }
 
@@ -66,21 +66,10 @@ fn picks(
     ensures { Picks metrics.old at near.now far.now signs.now ties.now side 32 counts metrics.new result }
 {
     let mut picked = Picked { word: 0, counts };
-    let mut i = 0;
-    while i < 32 {
+    for i in 0..32 {
         picked = pick(
-            &mut *metrics,
-            at,
-            near,
-            far,
-            weights,
-            signs,
-            ties,
-            side,
-            i,
-            picked,
+            metrics, at, near, far, weights, signs, ties, side, i, picked,
         );
-        i += 1;
     }
     picked
 }
@@ -99,9 +88,7 @@ fn take_only(
     ensures { LoneTaken metrics.old at near.now signs.now side i counts metrics.new result }
 {
     let choice = choices::alone(near[i], signs[side + i], counts);
-    let place = at + i;
-    let metric = choice.metric;
-    metrics[place] = metric;
+    metrics[at + i] = choice.metric;
     choice.counts
 }
 
@@ -118,10 +105,8 @@ fn take_only_each(
     ensures { Lones metrics.old at near.now signs.now side 32 counts metrics.new result }
 {
     let mut raised = counts;
-    let mut i = 0;
-    while i < 32 {
-        raised = take_only(&mut *metrics, at, near, signs, side, i, raised);
-        i += 1;
+    for i in 0..32 {
+        raised = take_only(metrics, at, near, signs, side, i, raised);
     }
     raised
 }
@@ -136,10 +121,7 @@ fn side_of(bits: u64) -> usize
 // A strip of 32 states from `first` on, whose bits are the lowest of `bits`. What the gain adds is in the tables.
 fn strip(
     metrics: &mut [i32],
-    from: usize,
-    to: usize,
-    section: Section,
-    gain: i32,
+    step: Step,
     weights: &[u32; 32],
     signs: &[i32; 64],
     ties: &[i32; 64],
@@ -149,27 +131,24 @@ fn strip(
     far: &mut [i32; 32],
     counts: Counts,
 ) -> Run
-    requires { StripFits metrics.old from to section gain weights.now signs.now ties.now bits first 32 near.old far.old counts }
-    ensures { StripDone metrics.old from to section gain first 32 counts metrics.new near.new far.new result }
+    requires { StripFits metrics.old step.from step.to step.section step.gain weights.now signs.now ties.now bits first 32 near.old far.old counts }
+    ensures { StripDone metrics.old step.from step.to step.section step.gain first 32 counts metrics.new near.new far.new result }
 {
-    let place = states::place(section);
+    let place = step.place();
     let side = side_of(bits);
     let word = patterns::lower_half(bits) as u64;
-    let at = to + first;
-    strips::fetch(&*metrics, from, place, first, &mut *near);
-    if section.begins {
-        let second = first + states::power(section.live);
-        strips::fetch(&*metrics, from, place, second, &mut *far);
-        let picked = picks(
-            metrics, at, &*near, &*far, weights, signs, ties, side, counts,
-        );
-        let raised = picked.counts;
+    let at = step.to + first;
+    strips::fetch(metrics, step.from, place, first, near);
+    if step.section.begins {
+        let second = first + states::power(step.section.live);
+        strips::fetch(metrics, step.from, place, second, far);
+        let picked = picks(metrics, at, near, far, weights, signs, ties, side, counts);
         return Run {
             word: word ^ (picked.word as u64),
-            counts: raised,
+            counts: picked.counts,
         };
     }
-    let raised = take_only_each(metrics, at, &*near, signs, side, counts);
+    let raised = take_only_each(metrics, at, near, signs, side, counts);
     Run {
         word,
         counts: raised,
@@ -179,10 +158,7 @@ fn strip(
 // The 64 states of a decision word from `first` on, whose bits are `bits`: the upper strip, then the lower.
 pub fn block(
     metrics: &mut [i32],
-    from: usize,
-    to: usize,
-    section: Section,
-    gain: i32,
+    step: Step,
     weights: &[u32; 32],
     signs: &[i32; 64],
     ties: &[i32; 64],
@@ -192,27 +168,23 @@ pub fn block(
     far: &mut [i32; 32],
     counts: Counts,
 ) -> Run
-    requires { StripFits metrics.old from to section gain weights.now signs.now ties.now bits first 64 near.old far.old counts }
-    ensures { StripDone metrics.old from to section gain first 64 counts metrics.new near.new far.new result }
+    requires { StripFits metrics.old step.from step.to step.section step.gain weights.now signs.now ties.now bits first 64 near.old far.old counts }
+    ensures { StripDone metrics.old step.from step.to step.section step.gain first 64 counts metrics.new near.new far.new result }
 {
     let mut word: u64 = 0;
     let mut raised = counts;
-    let mut i = 64;
-    while 0 < i {
-        i -= 32;
+    for half in (0..2).rev() {
+        let i = half * 32;
         let run = strip(
-            &mut *metrics,
-            from,
-            to,
-            section,
-            gain,
+            metrics,
+            step,
             weights,
             signs,
             ties,
             bits >> i,
             first + i,
-            &mut *near,
-            &mut *far,
+            near,
+            far,
             raised,
         );
         word = (word << 32) | run.word;

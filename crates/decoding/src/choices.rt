@@ -25,7 +25,7 @@ fn either(digit: u32, x: i32, y: i32) -> i32
 fn is_less(x: i32, y: i32) -> u32
     ensures { result ≡ cond (lt_z x y) 1 0 }
 {
-    if x < y { 1 } else { 0 }
+    u32::from(x < y)
 }
 
 // What a bit adds to a metric: the gain for 0, and its negation for 1.
@@ -41,7 +41,7 @@ pub fn tie_of(bit: u64) -> i32
     requires { bit < 2 }
     ensures { result ≡ pos bit }
 {
-    if bit == 0 { 0 } else { 1 }
+    bit as i32
 }
 
 // The only branch of a state: added.

@@ -17,10 +17,8 @@ pub fn rest_of(rows: &[u64], word: u64) -> u64
     ensures { result ≡ taken_off rows.now word }
 {
     let mut rest = word;
-    let mut j = 0;
-    while j < rows.len() {
-        rest = less_row(rows[j], rest);
-        j += 1;
+    for row in rows {
+        rest = less_row(*row, rest);
     }
     rest
 }

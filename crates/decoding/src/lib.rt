@@ -2,10 +2,10 @@
 #![tactic(auto)]
 
 ghost use Rattle.decoding.specs.Decode.{Decodes};
-ghost use Rattle.plates.specs.Prepare.{of_parts};
+ghost use Rattle.plates.specs.Prepare.{lent};
 
 use crate::prepared::decode_prepared;
-use plates::{Plate, Refusal};
+use plates::{Parts, Plate, Refusal};
 
 pub mod apart;
 pub mod batch;
@@ -41,46 +41,31 @@ pub struct Answer {
     pub counts: Counts,
 }
 
-// The answer of decoding, or why there is none.
-#[derive(Clone, Copy)]
-pub enum Decoded {
-    Found(Answer),
-    Refused(Refusal),
-}
-
 // The word of a prepared plate that has the greatest correlation with the samples, of equals the one with 0 at the first difference. The
 // plate is lent in parts: rows and profile are 64 and 65 words.
 pub fn decode_parts<'a>(
-    n: usize,
-    k: usize,
-    mask: u64,
-    rows: &'a [u64],
-    profile: &'a [u64],
+    plate: Parts<'a>,
     samples: &[i16],
     metrics: &mut [i32],
     decisions: &mut [u64],
-) -> Decoded
-    ensures { Decodes (of_parts n k mask rows.now profile.now) samples.now metrics.old decisions.old metrics.new decisions.new result }
+) -> Result<Answer, Refusal>
+    ensures { Decodes (lent plate.entry) samples.now metrics.old decisions.old metrics.new decisions.new result }
 {
-    if plates::parts_prepared(n, k, mask, rows, profile) {
-        return decode_prepared(n, k, mask, rows, profile, samples, metrics, decisions);
+    if plates::parts_prepared(plate) {
+        return decode_prepared(plate, samples, metrics, decisions);
     }
-    Decoded::Refused(Refusal::NotPrepared)
+    Err(Refusal::NotPrepared)
 }
 
 // The same of a plate by value.
-pub fn decode(plate: Plate, samples: &[i16], metrics: &mut [i32], decisions: &mut [u64]) -> Decoded
+pub fn decode(
+    plate: Plate,
+    samples: &[i16],
+    metrics: &mut [i32],
+    decisions: &mut [u64],
+) -> Result<Answer, Refusal>
     ensures { Decodes plate samples.now metrics.old decisions.old metrics.new decisions.new result }
 {
     let profile = plates::widened(plate.profile);
-    decode_parts(
-        plate.n,
-        plate.k,
-        plate.mask,
-        &plate.rows,
-        &profile,
-        samples,
-        metrics,
-        decisions,
-    )
+    decode_parts(plate.lend(&profile), samples, metrics, decisions)
 }

@@ -34,16 +34,14 @@ pub fn ending_rows(rows: &[u64], k: usize) -> [u8; 64]
     ensures { EndsAre (take k rows.now) result }
 {
     let mut ends = [0u8; 64];
-    let mut j = 0;
-    while j < k {
+    for j in 0..k {
         let last = words::last_one(rows[j]);
         ends[last] = (j + 1) as u8;
-        j += 1;
     }
     ends
 }
 
-// The bit of a row, by one more than the row; 0 where there is none.
+// The bit of a row, by one more than the row; 0 where there is none. (A number and no Option, here and below: 64 of them stand on the controller's stack.)
 pub fn mark_of(following: u8) -> u64
     requires { following ≤ 64 }
     ensures { result ≡ mark_of following }
@@ -120,7 +118,7 @@ fn rows_before(rows: &[u64], active: u64, next: usize, t: usize) -> Live
     }
 }
 
-// Position t of the active rows: the first of them has weight 1, the next 2, and so on.
+// Position t of the active rows: the first of them has weight 1, the next 2, and so on. (A `while`: it takes rows off a number and counts no index.)
 fn column_of(rows: &[u64], active: u64, t: usize) -> u64
     requires { (length rows.now ≡ 64) × (t < 64) × AllActive rows.now active t }
     ensures { result ≡ (held (section_of (rows_among rows.now active) t)).column }

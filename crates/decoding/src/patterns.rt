@@ -1,6 +1,6 @@
 // The bits of 64 states by one word: the parity of each with the column.
-ghost use Rattle.std.specs.Prelude.{◌≡◌, ◌%◌, ◌<◌, ◌^◌};
-ghost use Rattle.decoding.specs.Patterns.{HighPattern, LowPattern, Pattern, Turned, TurnFits};
+ghost use Rattle.std.specs.Prelude.{◌≡◌, ◌%◌, ◌^◌};
+ghost use Rattle.decoding.specs.Patterns.{Pattern, Turned, TurnFits};
 
 use words;
 
@@ -38,34 +38,11 @@ pub fn lower_half(word: u64) -> u32
     (word & LOWER_HALF) as u32
 }
 
-// The parities with the low three digits, by a column of three digits.
-fn low_parities(column: usize) -> u64
-    requires { column < 8 }
-    ensures { LowPattern column result }
-{
-    LOW[column]
-}
-
-// The parities with the high three digits.
-fn high_parities(column: usize) -> u64
-    requires { column < 8 }
-    ensures { HighPattern column result }
-{
-    HIGH[column]
-}
-
-// The lowest three digits of a column.
-fn three_digits(column: u64) -> usize
-    ensures { result ≡ column % 8 }
-{
-    (column & 7) as usize
-}
-
 // The parities of the states 0 to 63 with a column: three of its digits with three of the state's at a time.
 pub fn pattern(column: u64) -> u64
     ensures { Pattern column result }
 {
-    low_parities(three_digits(column)) ^ high_parities(three_digits(column >> 3))
+    LOW[(column % 8) as usize] ^ HIGH[(column / 8 % 8) as usize]
 }
 
 // The parities of 64 states from a multiple of 64 on: the same pattern, or its complement.

@@ -2,28 +2,23 @@
 ghost use Rattle.decoding.specs.Searching.{FirstOver, IsOver};
 
 // The greatest sample that is permitted; the least is its negation.
-const LIMIT: i16 = 2047;
+const LIMIT: u16 = 2047;
 
 // Whether a sample is outside the limit.
 fn is_over(sample: i16) -> bool
     ensures { IsOver sample result }
 {
-    if LIMIT < sample {
-        return true;
-    }
-    sample < 0 - LIMIT
+    LIMIT < sample.unsigned_abs()
 }
 
-// The first position whose sample is outside the limit; the number of samples where there is none.
-pub fn first_over(samples: &[i16]) -> usize
+// The first position whose sample is outside the limit.
+pub fn first_over(samples: &[i16]) -> Option<usize>
     ensures { FirstOver samples.now result }
 {
-    let mut i = 0;
-    while i < samples.len() {
-        if is_over(samples[i]) {
-            return i;
+    for (i, sample) in samples.iter().enumerate() {
+        if is_over(*sample) {
+            return Some(i);
         }
-        i += 1;
     }
-    i
+    None
 }

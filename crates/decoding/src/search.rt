@@ -29,23 +29,12 @@ pub fn search(
         position: sizes.n,
         gain: 0,
     };
-    let at = sweep(
-        rows,
-        sizes,
-        ends,
-        samples,
-        none,
-        &mut *metrics,
-        &mut *decisions,
-    );
-    let word = read_off(rows, sizes, ends, samples, &*decisions);
-    let from = at.from;
-    let metric = metrics[from];
-    let counts = at.counts;
+    let at = sweep(rows, sizes, ends, samples, none, metrics, decisions);
+    let word = read_off(rows, sizes, ends, samples, decisions);
     Answer {
         word,
-        metric,
-        counts,
+        metric: metrics[at.from],
+        counts: at.counts,
     }
 }
 
@@ -56,13 +45,7 @@ pub fn search_metric(rows: &[u64], sizes: Sizes, samples: &[i16], metrics: &mut 
     ensures { MetricSearched rows.now sizes samples.now metrics.old metrics.new result }
 {
     let ends = ending_rows(rows, sizes.k);
-    let undecided = Sizes {
-        n: sizes.n,
-        k: sizes.k,
-        half: sizes.half,
-        words: 0,
-        rest: sizes.rest,
-    };
+    let undecided = Sizes { words: 0, ..sizes };
     let none = Forced {
         position: sizes.n,
         gain: 0,
@@ -74,11 +57,11 @@ pub fn search_metric(rows: &[u64], sizes: Sizes, samples: &[i16], metrics: &mut 
         &ends,
         samples,
         none,
-        &mut *metrics,
+        metrics,
         &mut decisions,
     );
-    let from = at.from;
-    let metric = metrics[from];
-    let counts = at.counts;
-    Measure { metric, counts }
+    Measure {
+        metric: metrics[at.from],
+        counts: at.counts,
+    }
 }

@@ -32,11 +32,9 @@ fn doubles(metrics: &[i32], at: usize, into: &mut [i32; 32])
     requires { GatherFits metrics.now (doubled at) into.old }
     ensures { Gathered metrics.now (doubled at) 32 into.new }
 {
-    let mut i = 0;
-    while i < 32 {
+    for i in (0..32).step_by(4) {
         let f = at + i / 2;
-        move_four(metrics, f, f, f + 1, f + 1, &mut *into, i);
-        i += 4;
+        move_four(metrics, f, f, f + 1, f + 1, into, i);
     }
 }
 
@@ -45,11 +43,9 @@ fn pairs(metrics: &[i32], at: usize, into: &mut [i32; 32])
     requires { GatherFits metrics.now (paired at) into.old }
     ensures { Gathered metrics.now (paired at) 32 into.new }
 {
-    let mut i = 0;
-    while i < 32 {
+    for i in (0..32).step_by(4) {
         let f = at + i / 2;
-        move_four(metrics, f, f + 1, f, f + 1, &mut *into, i);
-        i += 4;
+        move_four(metrics, f, f + 1, f, f + 1, into, i);
     }
 }
 
@@ -58,11 +54,9 @@ fn runs(metrics: &[i32], from: usize, place: usize, x: usize, into: &mut [i32; 3
     requires { RunsFit from place x × GatherFits metrics.now (landing from place x) into.old }
     ensures { Gathered metrics.now (landing from place x) 32 into.new }
 {
-    let mut i = 0;
-    while i < 32 {
+    for i in (0..32).step_by(4) {
         let f = from + states::target(place, x + i);
-        move_four(metrics, f, f + 1, f + 2, f + 3, &mut *into, i);
-        i += 4;
+        move_four(metrics, f, f + 1, f + 2, f + 3, into, i);
     }
 }
 
@@ -71,11 +65,9 @@ fn copies(metrics: &[i32], at: usize, into: &mut [i32; 32])
     requires { GatherFits metrics.now (straight at) into.old }
     ensures { Gathered metrics.now (straight at) 32 into.new }
 {
-    let mut i = 0;
-    while i < 32 {
+    for i in (0..32).step_by(4) {
         let f = at + i;
-        move_four(metrics, f, f + 1, f + 2, f + 3, &mut *into, i);
-        i += 4;
+        move_four(metrics, f, f + 1, f + 2, f + 3, into, i);
     }
 }
 

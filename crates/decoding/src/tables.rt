@@ -16,7 +16,7 @@ pub const WEIGHTS: [u32; 32] = [
 fn digit(word: u32, mask: u32) -> u64
     ensures { result ≡ cond (eqb (bit_and word mask) 0) 0 1 }
 {
-    if word & mask == 0 { 0 } else { 1 }
+    u64::from(word & mask != 0)
 }
 
 // A bit's sign and tie, and those of the other bit 32 places on.
@@ -39,10 +39,8 @@ pub fn fill(signs: &mut [i32; 64], ties: &mut [i32; 64], weights: &[u32; 32], wo
     requires { FillFits signs.old ties.old weights.now gain }
     ensures { Tables word gain signs.new ties.new }
 {
-    let mut i = 0;
-    while i < 32 {
+    for i in 0..32 {
         let bit = digit(word, weights[i]);
-        enter(&mut *signs, &mut *ties, i, bit, gain);
-        i += 1;
+        enter(signs, ties, i, bit, gain);
     }
 }

@@ -118,10 +118,8 @@ pub fn read_off(
         count: 0,
         next: 0,
     };
-    let mut t = 0;
-    while t < sizes.n {
+    for t in 0..sizes.n {
         at = walk_section(rows, sizes, ends, samples, decisions, t, at);
-        t += 1;
     }
     at.word ^ sizes.rest
 }

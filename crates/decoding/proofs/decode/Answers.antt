@@ -1,9 +1,5 @@
--- `decoding::decode` meets its contract: widening the profile does not change the plate.
-use Rattle.decoding.proofs.DecodeCalls.{by_parts}
+-- `decoding::decode` meets its contract: it is the call over the plate's parts.
 use Rattle.decoding.proofs.decode.Goals as goal
 
 pub returns : goal.returns
-returns c =
-    let w = c.widened-profile in
-    let d = c.decode_parts in
-    by_parts c.args.plate c.args.samples.now c.args.metrics.now c.args.decisions.now _ _ d.result w.ensures d.ensures
+returns c = rw (c.lend.ensures.whole c.widened-profile.ensures) at c.decode_parts.ensures

@@ -1,5 +1,5 @@
 -- `decoding::decode_parts` meets its contract: refusal 5, or what decoding replies of a prepared plate.
-use Rattle.plates.specs.Prepare.{of_parts}
+use Rattle.plates.specs.Prepare.{lent}
 use Rattle.decoding.proofs.DecodeCalls.{refused-5}
 use Rattle.decoding.proofs.decode_parts.Goals as goal
 
@@ -8,6 +8,6 @@ decode_prepared-requires c = c.parts_prepared.ensures.yes_is c.if-parts_prepared
 
 pub returns : goal.returns
 returns c =
-    let plate = of_parts c.args.n c.args.k c.args.mask c.args.rows.now c.args.profile.now in
+    let plate = lent c.args.plate in
     refused-5 plate c.args.samples.now c.args.metrics.now c.args.decisions.now
     (c.parts_prepared.ensures.no_is c.if-parts_prepared.false)

@@ -1,16 +1,18 @@
 -- `decoding::apart::best_word_parts` meets its contract: the answer of decoding without its metric, or its refusal.
-use Rattle.plates.specs.Prepare.{of_parts}
+use Rattle.std.proofs.lemmas.Result.{err_from_is_err_and}
+use Rattle.plates.specs.Prepare.{lent}
 use Rattle.decoding.proofs.ApartCalls.{chosen, refused}
 use Rattle.decoding.proofs.apart.best_word_parts.Goals as goal
 
-pub returns-in-Found : goal.returns-in-Found
-returns-in-Found c =
-    let plate = of_parts c.args.n c.args.k c.args.mask c.args.rows.now c.args.profile.now in
+pub returns : goal.returns
+returns c =
+    let plate = lent c.args.plate in
     let d = c.decode_parts in
-    chosen plate c.args.samples.now c.args.metrics.now c.args.decisions.now _ _ d.result d.ensures _ c.in-Found.is
+    chosen plate c.args.samples.now c.args.metrics.now c.args.decisions.now _ _ d.result d.ensures _ c.in_ok-answer.was
 
-pub returns-in-Refused : goal.returns-in-Refused
-returns-in-Refused c =
-    let plate = of_parts c.args.n c.args.k c.args.mask c.args.rows.now c.args.profile.now in
+pub returns-in_err-answer : goal.returns-in_err-answer
+returns-in_err-answer c =
+    let plate = lent c.args.plate in
     let d = c.decode_parts in
-    refused plate c.args.samples.now c.args.metrics.now c.args.decisions.now _ _ d.result d.ensures _ c.in-Refused.is
+    let p = err_from_is_err_and c.from_residual.result c.from_residual.ensures.1 in
+    rw (p.1, p.2) (refused plate c.args.samples.now c.args.metrics.now c.args.decisions.now _ _ d.result d.ensures _ c.in_err-answer.was)

@@ -1,9 +1,9 @@
--- `decoding::batch::put_blocks` meets its contract. The loop's invariant: the first blocks are stored. The measure is how many are left.
+-- `decoding::batch::put_blocks` meets its contract. The loop's invariant: the first blocks are stored.
 use borrow.Author.Rules.{rules}
 use lib.ListN.{length}
 use mathlib.Core.Path.{◌≡◌}
 use native.Mathlib.Omega.{arith}
-use Rattle.decoding.proofs.Batched.{all-put, block-fits, block_inside, blocks-on, blocks_start, there}
+use Rattle.decoding.proofs.Batched.{all-put, block-fits, block_inside, blocks-on, blocks_start}
 use Rattle.decoding.proofs.batch.put_blocks.Goals as goal
 
 pub ending_rows-ends-requires : goal.ending_rows-ends-requires
@@ -32,19 +32,11 @@ put_block-counts-requires c =
       block_fits = block-fits c.requires.blocks_fit c.loop-at.invariant.1 c.loop-at-test.true;
     }
 
-pub overflow_add-at : goal.overflow_add-at
-overflow_add-at c =
-    let h = there c.requires.blocks_fit c.loop-at.invariant.1 c.loop-at-test.true in
-    search rules
-
-pub loop-at-smaller : goal.loop-at-smaller
-loop-at-smaller c = omega (arith, there c.requires.blocks_fit c.loop-at.invariant.1 c.loop-at-test.true)
-
 pub loop-at-preserved : goal.loop-at-preserved
 loop-at-preserved c =
     let i = c.loop-at.invariant.1 in
     let h = c.loop-at-test.true in
-    (omega (arith, there c.requires.blocks_fit i h), blocks-on c.requires.blocks_fit i h c.put_block-counts.ensures)
+    (omega arith, blocks-on c.requires.blocks_fit i h c.put_block-counts.ensures)
 
 pub shape_of-found : goal.shape_of-found
 shape_of-found c = c.loop-at.invariant.1.words_size
@@ -61,5 +53,5 @@ shape_of-decisions c = c.loop-at.invariant.1.kept.decisions_size
 pub returns : goal.returns
 returns c =
     let l = c.loop-at in
-    let e : l.at ≡ length c.args.found.now = omega (arith, c.loop-at-test.false, l.invariant.0, l.invariant.1.words_size) in
+    let e : l.at ≡ length c.args.found.now = omega (arith, c.loop-at-test.false, l.invariant.0) in
     all-put e l.invariant.1

@@ -1,11 +1,8 @@
--- `decoding::batch::put_blocks` meets its contract. The loop's invariant: the first blocks are stored. The measure is how many are left.
+-- `decoding::batch::put_blocks` meets its contract. The loop's invariant: the first blocks are stored.
 use lib.ListN.{length}
-use Prim.Native.Nat.{◌-◌, ◌≤◌}
+use Prim.Native.Nat.{◌≤◌}
 use Rattle.decoding.specs.Batching.{BlocksPut}
 use Rattle.decoding.proofs.batch.put_blocks.Given as goal
 
 abbrev pub invariant-loop-at : goal.invariant-loop-at
 invariant-loop-at l = (l.at ≤ length l.initial.found) × BlocksPut l.rows l.sizes l.samples l.initial.found l.initial.scores l.initial.metrics l.initial.decisions l.at l.found l.scores l.metrics l.decisions l.counts
-
-abbrev pub decreases-loop-at : goal.decreases-loop-at
-decreases-loop-at l = length l.initial.found - l.at

@@ -10,19 +10,19 @@ use Rattle.decoding.specs.Cosets.{taken_off}
 use Rattle.decoding.proofs.RestOfWords.{off_next}
 use Rattle.decoding.proofs.cosets.rest_of.Goals as goal
 
-pub loop-j-init : goal.loop-j-init
-loop-j-init c = (omega arith, refl)
+pub loop-row-init : goal.loop-row-init
+loop-row-init c = (omega arith, refl)
 
-pub loop-j-preserved : goal.loop-j-preserved
-loop-j-preserved c = (
-  omega (arith, c.loop-j-test.true),
-  ap (λ (x : ℕ). taken_off (drop x c.args.rows.now) c.less_row-rest.result) (add-one c.loop-j.j)
-      ∙ ap (taken_off (drop (suc c.loop-j.j) c.args.rows.now)) c.less_row-rest.ensures
-      ∙ sym (off_next c.args.rows.now c.loop-j.j c.loop-j.rest c.loop-j-test.true) ∙ c.loop-j.invariant.1,
+pub loop-row-preserved : goal.loop-row-preserved
+loop-row-preserved c = (
+  omega (arith, c.loop-row-test.true),
+  ap (λ (x : ℕ). taken_off (drop x c.args.rows.now) c.less_row-rest.result) (add-one c.loop-row.row-index)
+      ∙ ap (taken_off (drop (suc c.loop-row.row-index) c.args.rows.now)) c.less_row-rest.ensures
+      ∙ sym (off_next c.args.rows.now c.loop-row.row-index c.loop-row.rest c.loop-row-test.true) ∙ c.loop-row.invariant.1,
 )
 
 pub returns : goal.returns
 returns c =
-    let l = c.loop-j in
-    let none : drop l.j c.args.rows.now ≡ [] = drop_of_length-le c.args.rows.now {i = l.j} (omega (arith, c.loop-j-test.false)) in
+    let l = c.loop-row in
+    let none : drop l.row-index c.args.rows.now ≡ [] = drop_of_length-le c.args.rows.now {i = l.row-index} (omega (arith, c.loop-row-test.false)) in
     ap (λ (rows : List ℕ). taken_off rows l.rest) (sym none) ∙ l.invariant.1

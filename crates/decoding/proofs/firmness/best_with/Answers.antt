@@ -25,12 +25,12 @@ sweep-at-requires c =
       rooms_fit = rooms-forced c.args.rows.now c.args.sizes c.args.samples.now c.args.metrics.now c.args.decisions.now c.requires.sizes_fit c.requires.rooms_fit c.args.position c.args.bit c.requires.position_lt_n _ (sign-copy c.args.bit (pos forcing) _ (omega arith) c.sign_of.ensures);
     }
 
-pub offset_bounds-metrics-from : goal.offset_bounds-metrics-from
-offset_bounds-metrics-from c =
+pub offset_bounds-metrics-at : goal.offset_bounds-metrics-at
+offset_bounds-metrics-at c =
     record { fits = omega (arith, from-few c.args.rows.now c.args.sizes c.args.samples.now c.args.metrics.now c.args.decisions.now c.requires.sizes_fit c.requires.rooms_fit c.args.position c.args.bit c.requires.position_lt_n _ (sign-copy c.args.bit (pos forcing) _ (omega arith) c.sign_of.ensures) c.args.ends.now c.requires.ends_are _ _ _ c.sweep-at.ensures, c.requires.sizes_fit.half_small) }
 
-pub slice_copy_out-best : goal.slice_copy_out-best
-slice_copy_out-best c =
+pub slice_copy_out-result : goal.slice_copy_out-result
+slice_copy_out-result c =
     from-there c.args.rows.now c.args.sizes c.args.samples.now c.args.metrics.now c.args.decisions.now c.requires.sizes_fit c.requires.rooms_fit c.args.position c.args.bit c.requires.position_lt_n _ (sign-copy c.args.bit (pos forcing) _ (omega arith) c.sign_of.ensures) c.args.ends.now c.requires.ends_are _ _ _ c.sweep-at.ensures
 
 pub overflow_sub-result : goal.overflow_sub-result

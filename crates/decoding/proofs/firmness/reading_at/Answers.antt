@@ -5,10 +5,10 @@ use Rattle.decoding.proofs.SweepEnds.{rooms-kept}
 use Rattle.decoding.proofs.Undecided.{undecided-fits, undecided-rooms}
 use Rattle.decoding.proofs.firmness.reading_at.Goals as goal
 
-pub returns-then-sizes-row : goal.returns-then-sizes-row
-returns-then-sizes-row c =
+pub returns-then-not-has_one : goal.returns-then-not-has_one
+returns-then-not-has_one c =
     fixed-read c.args.rows.now c.args.sizes c.args.samples.now c.args.metrics.now c.args.decisions.now c.args.position
-    c.first_with-row.result c.first_with-row.ensures c.if-sizes-row.true c.bit_at.result c.bit_at.ensures
+    (c.has_one.ensures.no_is c.if-not-has_one.true) c.bit_at.result c.bit_at.ensures
 
 pub best_with-zero-requires : goal.best_with-zero-requires
 best_with-zero-requires c =
@@ -28,8 +28,8 @@ best_with-one-requires c =
       position_lt_n = c.requires.position_lt_n;
     }
 
-pub overflow_sub-margin : goal.overflow_sub-margin
-overflow_sub-margin c =
+pub overflow_sub-result : goal.overflow_sub-result
+overflow_sub-result c =
     margin-fits c.best_with-zero.result c.best_with-one.result c.best_with-zero.ensures.small c.best_with-one.ensures.small
 
 pub shape_of-metrics : goal.shape_of-metrics
@@ -40,4 +40,4 @@ shape_of-decisions c = c.best_with-one.ensures.kept.decisions_size ∙ c.best_wi
 
 pub returns : goal.returns
 returns c =
-    open-read c.args.rows.now c.args.sizes c.args.samples.now c.args.metrics.now c.args.decisions.now c.args.position c.first_with-row.result c.first_with-row.ensures c.if-sizes-row.false _ _ _ _ _ _ c.best_with-zero.ensures c.best_with-one.ensures
+    open-read c.args.rows.now c.args.sizes c.args.samples.now c.args.metrics.now c.args.decisions.now c.args.position (c.has_one.ensures.yes_is c.if-not-has_one.false) _ _ _ _ _ _ c.best_with-zero.ensures c.best_with-one.ensures

@@ -16,17 +16,17 @@ widest-half-requires c = omega (arith, (sound c.requires).short, (sound c.requir
 
 pub overflow_shl-half : goal.overflow_shl-half
 overflow_shl-half c =
-    omega (arith, c.widest-half.ensures, widest-most c.args.profile.now c.args.n (profile-fits _ c.requires))
+    omega (arith, c.widest-half.ensures, widest-most c.args.plate.profile.now c.args.plate.n (profile-fits _ c.requires))
 
 pub returns : goal.returns
 returns c =
     let w = c.widest-half in
-    let small : w.result < 64 = omega (arith, w.ensures, widest-most c.args.profile.now c.args.n (profile-fits _ c.requires)) in
+    let small : w.result < 64 = omega (arith, w.ensures, widest-most c.args.plate.profile.now c.args.plate.n (profile-fits _ c.requires)) in
     let half : (1 * 2 ^ w.result) % 2 ^ 64 ≡ 2 ^ w.result = shifted_one w.result small in
     record {
       n_is = refl;
       k_is = refl;
       half_is = half ∙ ap (λ (x : ℕ). 2 ^ x) w.ensures;
-      words_is = c.greater.ensures ∙ ap (λ (x : ℕ). max 1 (x / 64)) (half ∙ ap (λ (x : ℕ). 2 ^ x) w.ensures);
+      words_is = c.max.ensures ∙ ap (λ (x : ℕ). max 1 (x / 64)) (half ∙ ap (λ (x : ℕ). 2 ^ x) w.ensures);
       rest_is = c.rest_of_mask-rest.ensures;
     }

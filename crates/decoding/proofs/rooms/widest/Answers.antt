@@ -1,20 +1,20 @@
--- `decoding::rooms::widest` meets its contract. The loop's invariant: the largest entry up to t. The measure is what is left of n.
+-- `decoding::rooms::widest` meets its contract. The loop's invariant: the largest entry up to t.
 use lib.ListN.{get_or}
-use mathlib.Core.Path.{◌≡◌, ◌∙◌, ap, ap₂, sym}
+use mathlib.Core.Path.{◌≡◌, ◌∙◌, ap, refl, sym}
 use native.Mathlib.Numerals.{add-one}
 use native.Mathlib.Omega.{arith}
-use Prim.Native.Nat.{ℕ, max}
+use Prim.Native.Nat.{◌+◌, ℕ, max}
 use Rattle.decoding.specs.Needs.{widest_entry}
 use Rattle.decoding.proofs.rooms.widest.Goals as goal
 
 pub loop-t-init : goal.loop-t-init
-loop-t-init c = (omega arith, c.wide-most.ensures)
+loop-t-init c = (omega arith, refl)
 
 pub loop-t-preserved : goal.loop-t-preserved
 loop-t-preserved c =
     let l = c.loop-t in (
       omega (arith, c.loop-t-test.true),
-      c.greater-most.ensures ∙ ap₂ max c.wide.ensures l.invariant.1
+      c.max-most.ensures ∙ ap (max (get_or c.args.profile.now (l.t + 1) 0)) l.invariant.1
           ∙ ap (λ (x : ℕ). max (get_or c.args.profile.now x 0) (widest_entry c.args.profile.now l.t)) (add-one l.t)
           ∙ ap (widest_entry c.args.profile.now) (sym (add-one l.t)),
     )

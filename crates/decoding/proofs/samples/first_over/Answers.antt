@@ -17,9 +17,9 @@ pub returns-then-is_over : goal.returns-then-is_over
 returns-then-is_over c =
     let l = c.loop-i in
     record {
-      most = l.invariant.0;
+      there = c.loop-i-test.true;
       before = l.invariant.1;
-      here = λ h. subst (λ (y : ℤ). limit < nat_abs y) {y = get_or c.args.samples.now c.loop-i.i (pos 0)} (to_z-of_z {w = w16} (record { sfits = c.is_over-arg-1.given })) (c.is_over.ensures.yes_is c.if-is_over.true);
+      here = subst (λ (y : ℤ). limit < nat_abs y) {y = get_or c.args.samples.now c.loop-i.i (pos 0)} (to_z-of_z {w = w16} (record { sfits = c.is_over-arg-1.given })) (c.is_over.ensures.yes_is c.if-is_over.true);
     }
 
 pub loop-i-preserved : goal.loop-i-preserved
@@ -30,5 +30,4 @@ loop-i-preserved c =
     )
 
 pub returns : goal.returns
-returns c =
-    record { most = c.loop-i.invariant.0; before = c.loop-i.invariant.1; here = λ h. absurd (omega (arith, h, c.loop-i-test.false)) }
+returns c = λ j h. c.loop-i.invariant.1 j (omega (arith, c.loop-i-test.false))

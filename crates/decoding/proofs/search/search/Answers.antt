@@ -19,12 +19,12 @@ pub read_off-word-requires : goal.read_off-word-requires
 read_off-word-requires c =
     walk-fits c.args.rows.now c.args.sizes (turned_by c.args.sizes.rest c.args.samples.now) c.args.metrics.now c.args.decisions.now c.requires.sizes_fit (rooms-turned c.args.sizes.rest c.requires.rooms_fit) _ c.requires.ends_are _ _ _ (swept-unforced c.requires.rooms_fit c.sweep-at.ensures) c.requires.words_nonzero
 
-pub offset_bounds-metrics-from : goal.offset_bounds-metrics-from
-offset_bounds-metrics-from c =
+pub offset_bounds-metrics-at : goal.offset_bounds-metrics-at
+offset_bounds-metrics-at c =
     record { fits = omega (arith, from_small c.args.rows.now c.args.sizes (turned_by c.args.sizes.rest c.args.samples.now) c.args.metrics.now c.args.decisions.now c.requires.sizes_fit (rooms-turned c.args.sizes.rest c.requires.rooms_fit) _ c.requires.ends_are _ _ _ (swept-unforced c.requires.rooms_fit c.sweep-at.ensures), c.requires.sizes_fit.half_small) }
 
-pub slice_copy_out-metric : goal.slice_copy_out-metric
-slice_copy_out-metric c =
+pub slice_copy_out-result : goal.slice_copy_out-result
+slice_copy_out-result c =
     metric-there c.args.rows.now c.args.sizes (turned_by c.args.sizes.rest c.args.samples.now) c.args.metrics.now c.args.decisions.now c.requires.sizes_fit (rooms-turned c.args.sizes.rest c.requires.rooms_fit) _ c.requires.ends_are _ _ _ (swept-unforced c.requires.rooms_fit c.sweep-at.ensures)
 
 pub shape_of-metrics : goal.shape_of-metrics
@@ -35,4 +35,4 @@ shape_of-decisions c = c.sweep-at.ensures.kept.decisions_size
 
 pub returns : goal.returns
 returns c =
-    searched c.args.rows.now c.args.sizes c.args.samples.now c.args.metrics.now c.args.decisions.now c.requires.sizes_fit c.requires.rooms_fit _ c.requires.ends_are _ _ _ (swept-unforced c.requires.rooms_fit c.sweep-at.ensures) _ c.read_off-word.ensures (to_z-of_z {w = w32} (record { sfits = c.metric-1.given })) refl
+    searched c.args.rows.now c.args.sizes c.args.samples.now c.args.metrics.now c.args.decisions.now c.requires.sizes_fit c.requires.rooms_fit _ c.requires.ends_are _ _ _ (swept-unforced c.requires.rooms_fit c.sweep-at.ensures) _ c.read_off-word.ensures (to_z-of_z {w = w32} (record { sfits = c.result-1.given })) refl

@@ -21,12 +21,12 @@ sweep-at-requires c =
       rooms_fit = rooms-unforced c.requires.rooms_fit;
     }
 
-pub offset_bounds-metrics-from : goal.offset_bounds-metrics-from
-offset_bounds-metrics-from c =
+pub offset_bounds-metrics-at : goal.offset_bounds-metrics-at
+offset_bounds-metrics-at c =
     record { fits = omega (arith, from_small c.args.rows.now (undecided c.args.sizes) (turned_by c.args.sizes.rest c.args.samples.now) c.args.metrics.now [] (undecided-fits c.requires.sizes_fit) (rooms-turned c.args.sizes.rest c.requires.rooms_fit) _ c.ending_rows-ends.ensures _ _ _ (swept-unforced c.requires.rooms_fit c.sweep-at.ensures), c.requires.sizes_fit.half_small) }
 
-pub slice_copy_out-metric : goal.slice_copy_out-metric
-slice_copy_out-metric c =
+pub slice_copy_out-result : goal.slice_copy_out-result
+slice_copy_out-result c =
     metric-there c.args.rows.now (undecided c.args.sizes) (turned_by c.args.sizes.rest c.args.samples.now) c.args.metrics.now [] (undecided-fits c.requires.sizes_fit) (rooms-turned c.args.sizes.rest c.requires.rooms_fit) _ c.ending_rows-ends.ensures _ _ _ (swept-unforced c.requires.rooms_fit c.sweep-at.ensures)
 
 pub shape_of-metrics : goal.shape_of-metrics
@@ -34,4 +34,4 @@ shape_of-metrics c = c.sweep-at.ensures.kept.metrics_size
 
 pub returns : goal.returns
 returns c =
-    metric-searched c.args.rows.now c.args.sizes c.args.samples.now c.args.metrics.now c.requires.sizes_fit c.requires.rooms_fit _ c.ending_rows-ends.ensures _ _ _ (swept-unforced c.requires.rooms_fit c.sweep-at.ensures) _ (to_z-of_z {w = w32} (record { sfits = c.metric-1.given })) refl
+    metric-searched c.args.rows.now c.args.sizes c.args.samples.now c.args.metrics.now c.requires.sizes_fit c.requires.rooms_fit _ c.ending_rows-ends.ensures _ _ _ (swept-unforced c.requires.rooms_fit c.sweep-at.ensures) _ (to_z-of_z {w = w32} (record { sfits = c.result-1.given })) refl

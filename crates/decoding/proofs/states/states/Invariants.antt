@@ -3,7 +3,5 @@ use Rattle.decoding.proofs.Runs.{StatesFrom}
 use Rattle.decoding.proofs.states.states.Given as goal
 
 abbrev pub invariant-loop-i : goal.invariant-loop-i
-invariant-loop-i l = StatesFrom l.initial.metrics l.from l.to l.section l.gain l.first l.count l.initial.raised l.i l.metrics l.word l.raised
-
-abbrev pub decreases-loop-i : goal.decreases-loop-i
-decreases-loop-i l = l.i
+invariant-loop-i l =
+    StatesFrom l.initial.metrics l.step.from l.step.to l.step.section l.step.gain l.first l.count l.initial.raised l.i l.metrics l.word l.raised

@@ -2,7 +2,7 @@
 use mathlib.Core.Path.{refl}
 use native.Mathlib.Omega.{arith}
 use Rattle.decoding.proofs.TablesChecked.{weights-are}
-use Rattle.decoding.proofs.Progress.{fill-asks, next_small, word_fits, word-prepared, words-all, words_more, words-none}
+use Rattle.decoding.proofs.Progress.{fill-asks, word_fits, word-prepared, words-all, words_more, words-none}
 use Rattle.decoding.proofs.step.step_wide.Goals as goal
 
 pub power-words-requires : goal.power-words-requires
@@ -21,9 +21,6 @@ word-raised-requires c = (
       weights-are c.fill.ensures,
   word_fits c.requires.0 c.requires.1 c.loop-at.invariant c.loop-at-test.true c.pattern-pattern.ensures,
 )
-
-pub overflow_add-at : goal.overflow_add-at
-overflow_add-at c = omega (arith, next_small c.requires.0 c.requires.1 c.loop-at.invariant c.loop-at-test.true)
 
 pub loop-at-preserved : goal.loop-at-preserved
 loop-at-preserved c = words_more c.requires.0 c.requires.1 c.loop-at.invariant c.loop-at-test.true c.word-raised.ensures

@@ -23,8 +23,8 @@ pass_back-passed-requires c =
       t_bound = (omega (arith, c.requires.depth, c.requires.fit.short), c.requires.swept.live);
     }
 
-pub overflow_sub-to : goal.overflow_sub-to
-overflow_sub-to c =
+pub overflow_sub-taken : goal.overflow_sub-taken
+overflow_sub-taken c =
     from_low c.args.rows.now c.args.sizes (gains_of c.args.sizes c.args.samples.now c.args.forced) c.args.metrics.now c.args.decisions.now c.args.t c.requires.fit c.requires.rooms c.requires.depth c.args.at c.requires.swept
 
 pub overflow_mul-begin : goal.overflow_mul-begin

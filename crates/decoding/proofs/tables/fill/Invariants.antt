@@ -1,10 +1,6 @@
 -- `tables::fill` meets its contract. The first i bits are entered.
-use Prim.Native.Nat.{◌-◌}
 use Rattle.decoding.proofs.Entries.{Filled}
 use Rattle.decoding.proofs.tables.fill.Given as goal
 
 abbrev pub invariant-loop-i : goal.invariant-loop-i
 invariant-loop-i l = Filled l.word l.gain l.i l.signs l.ties
-
-abbrev pub decreases-loop-i : goal.decreases-loop-i
-decreases-loop-i l = 32 - l.i
