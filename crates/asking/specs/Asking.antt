@@ -1,5 +1,6 @@
 -- Why not this word: the four reasons, and what the call replies.
-use Rattle.std.specs.Prelude.{ℕ, ◌≤◌, ◌<◌, ◌-ℤ◌, pos, ℤ, ◌<ℤ◌, List, ◌≡◌}
+use Rattle.plates.specs.declared.Refusal.{Refusal}
+use Rattle.std.specs.Prelude.{ℕ, ◌≤◌, ◌<◌, ◌-ℤ◌, pos, ℤ, ◌<ℤ◌, List, ◌≡◌, Result, Ok, Err}
 use Rattle.words.specs.Word.{bit, Earlier}
 use Rattle.plates.specs.declared.Plate.{Plate}
 use Rattle.plates.specs.Prepare.{IsWord}
@@ -9,8 +10,6 @@ use Rattle.decoding.specs.Decode.{BestIn, Zeroed, decode_conditions}
 use Rattle.decoding.specs.Metric.{metric_of}
 use Rattle.asking.specs.declared.Reason.{Reason}
 use Rattle.asking.specs.declared.Reason.TheVariants.{Chosen, NoCodeword, ScoresLess, TiesAndLoses}
-use Rattle.asking.specs.declared.Verdict.{Verdict}
-use Rattle.asking.specs.declared.Verdict.TheVariants.{Explained, Refused}
 
 -- ---- no codeword: here and below "codeword" is read as one of the words C, which for a plate are its words
 
@@ -109,8 +108,8 @@ Reasoned plate samples w reason = ReasonedIn (IsWord plate) plate samples w reas
 
 -- What the call replies: the first refusal of the word call in order, 5 to 9, with both rooms unchanged, or the reason with the needed
 -- room zeroed, as decoding leaves it
-abbrev pub Asks : Plate → List ℤ → ℕ → List ℤ → List ℕ → List ℤ → List ℕ → Verdict → Type 0
-Asks plate samples w metrics decisions metrics' decisions' (Refused q) =
+abbrev pub Asks : Plate → List ℤ → ℕ → List ℤ → List ℕ → List ℤ → List ℕ → Result Reason Refusal → Type 0
+Asks plate samples w metrics decisions metrics' decisions' (Err q) =
     Refuses (decode_conditions plate samples metrics decisions) q × (metrics' ≡ metrics) × (decisions' ≡ decisions)
-Asks plate samples w metrics decisions metrics' decisions' (Explained reason) =
+Asks plate samples w metrics decisions metrics' decisions' (Ok reason) =
     Passes (decode_conditions plate samples metrics decisions) × Reasoned plate samples w reason × Zeroed plate metrics metrics' decisions decisions'

@@ -2,7 +2,7 @@
 use Rattle.std.specs.Prelude.{ℕ, ◌*◌, ◌<◌, ◌≤◌, min, ℤ, pos, nat_abs, length, get_or, List, ◌≡◌}
 use Rattle.words.specs.Span.{First}
 use Rattle.plates.specs.declared.Plate.{Plate}
-use Rattle.plates.specs.Prepare.{IsPrepared, of_parts}
+use Rattle.plates.specs.Prepare.{IsPrepared}
 use Rattle.decoding.specs.declared.Answer.{Answer}
 use Rattle.decoding.specs.Decode.{Best}
 use Rattle.decoding.specs.Metric.{limit}
@@ -27,8 +27,3 @@ pub record Asked (plate : Plate) (samples : List ℤ) (a : Answer) : Type 0 wher
   pub size : length samples ≡ plate.n
   pub within : (i : ℕ) → i < length samples → nat_abs (get_or samples i (pos 0)) ≤ limit
   pub best : Best plate samples a
-
--- the same, where the plate is lent in parts and the profile is not needed
-pub record AskedOf (n k mask : ℕ) (rows : List ℕ) (samples : List ℤ) (a : Answer) : Type 0 where
-  pub profile : List ℕ
-  pub asked : Asked (of_parts n k mask rows profile) samples a

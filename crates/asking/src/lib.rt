@@ -2,18 +2,16 @@
 #![tactic(auto)]
 
 ghost use Rattle.std.specs.Prelude.{◌+ℤ◌, length, take, ◌≡◌, ◌≤◌};
-ghost use Rattle.asking.specs.Asking.{Asks, ExplainsIn};
-ghost use Rattle.asking.specs.Working.{AddingFits, AskedOf, FirstStop, Sampled};
+ghost use Rattle.asking.specs.Asking.{Asks, Explains};
+ghost use Rattle.asking.specs.Working.{AddingFits, Asked, FirstStop, Sampled};
 ghost use Rattle.decoding.specs.Cosets.{taken_off};
 ghost use Rattle.decoding.specs.Metric.{metric_of};
 ghost use Rattle.decoding.specs.Taking.{signed};
-ghost use Rattle.plates.specs.Code.{Masked};
-ghost use Rattle.plates.specs.Prepare.{of_parts};
-ghost use Rattle.words.specs.Sum.{IsSum};
+ghost use Rattle.plates.specs.Prepare.{lent};
 
 use decoding::cosets::rest_of;
-use decoding::{Answer, Decoded, decode_parts};
-use plates::Refusal;
+use decoding::{Answer, decode_parts};
+use plates::{Parts, Refusal};
 
 // Why a word was chosen or not.
 #[derive(Clone, Copy)]
@@ -22,13 +20,6 @@ pub enum Reason {
     NoCodeword(usize),
     ScoresLess(i32),
     TiesAndLoses(usize),
-}
-
-// The reason, or why there is none.
-#[derive(Clone, Copy)]
-pub enum Verdict {
-    Explained(Reason),
-    Refused(Refusal),
 }
 
 // What is left of a word once the first k rows are taken off it by their heads.
@@ -68,33 +59,23 @@ fn metric_of(samples: &[i16], word: u64) -> i32
     ensures { result ≡ metric_of samples.now word }
 {
     let mut metric = 0;
-    let mut i = samples.len();
-    while 0 < i {
-        i -= 1;
+    for i in (0..samples.len()).rev() {
         metric = with_sample(words::bit_at(word, i), samples[i], metric);
     }
     metric
 }
 
 // Why a word is not the answer, or that it is.
-fn reason_for(
-    n: usize,
-    k: usize,
-    mask: u64,
-    rows: &[u64],
-    samples: &[i16],
-    word: u64,
-    answer: Answer,
-) -> Reason
-    requires { AskedOf n k mask rows.now samples.now answer }
-    ensures { ExplainsIn (Masked (IsSum (take k rows.now)) mask) n samples.now answer word result }
+fn reason_for<'a>(plate: Parts<'a>, samples: &[i16], word: u64, answer: Answer) -> Reason
+    requires { Asked (lent plate) samples.now answer }
+    ensures { Explains (lent plate.entry) samples.now answer word result }
 {
     if word == answer.word {
         return Reason::Chosen;
     }
-    let rest = left_of(rows, k, word ^ mask);
+    let rest = left_of(plate.rows, plate.k, word ^ plate.mask);
     if rest != 0 {
-        return Reason::NoCodeword(stop_of(rest, n));
+        return Reason::NoCodeword(stop_of(rest, plate.n));
     }
     let metric = metric_of(samples, word);
     let best = answer.metric;
@@ -108,22 +89,14 @@ fn reason_for(
 // Why a word was not the one that decoding picks: it was chosen, it is no codeword, it scores less, or it ties and loses. The plate is lent in
 // parts: rows and profile are 64 and 65 words.
 pub fn why_not_parts<'a>(
-    n: usize,
-    k: usize,
-    mask: u64,
-    rows: &'a [u64],
-    profile: &'a [u64],
+    plate: Parts<'a>,
     samples: &[i16],
     word: u64,
     metrics: &mut [i32],
     decisions: &mut [u64],
-) -> Verdict
-    ensures { Asks (of_parts n k mask rows.now profile.now) samples.now word metrics.old decisions.old metrics.new decisions.new result }
+) -> Result<Reason, Refusal>
+    ensures { Asks (lent plate.entry) samples.now word metrics.old decisions.old metrics.new decisions.new result }
 {
-    match decode_parts(n, k, mask, rows, profile, samples, metrics, decisions) {
-        Decoded::Found(answer) => {
-            Verdict::Explained(reason_for(n, k, mask, rows, samples, word, answer))
-        }
-        Decoded::Refused(refusal) => Verdict::Refused(refusal),
-    }
+    let answer = decode_parts(plate, samples, metrics, decisions)?;
+    Ok(reason_for(plate, samples, word, answer))
 }

@@ -1,4 +1,5 @@
 -- The replies of `count_weights`, case by case.
+use Rattle.std.proofs.Common.{Ok, Err, Option, Some, None}
 use lib.Arith.{bin_ind}
 use lib.Count.{ones, ones_step}
 use lib.ListN.{drop, get_or, length, replicate, take}
@@ -23,8 +24,7 @@ use Rattle.plates.specs.Refusals.{Passes}
 use Rattle.trellises.proofs.PlateTrellis.{plate-spans}
 use Rattle.weights.proofs.CountPairs.{number-some, number-zero}
 use Rattle.weights.proofs.PlateWeights.{codeword-below, tally-fits, ways-number, weight-most}
-use Rattle.weights.specs.declared.Counted.TheVariants.{Least, OnlyZero, Refused}
-use Rattle.weights.specs.Rooms.{FirstAbove, TestsRooms}
+use Rattle.weights.specs.Rooms.{FirstAbove, LeastAbove, TestsRooms}
 use Rattle.weights.specs.Tallying.{Counted, TallyFits}
 use Rattle.weights.specs.Weights.{CountsWeights, Filled, LeastWeight, NumberOfWeight, OfWeight, TellsNeed, weight_conditions, working_need}
 use Rattle.words.proofs.Ends.{some-pos}
@@ -48,15 +48,15 @@ by-need e (inl h) = inl h
 by-need e (inr h) = inr (omega arith)
 
 module _ (plate : Plate) (counts working : List ℕ) where
-  pub refused-5 : (IsPrepared plate → ⊥) → CountsWeights plate counts working counts working (Refused NotPrepared)
+  pub refused-5 : (IsPrepared plate → ⊥) → CountsWeights plate counts working counts working (Err NotPrepared)
   refused-5 n = (inl (n, refl), refl, refl)
 
   module _ (given : IsPrepared plate) where
-    pub refused-22 : plate.k ≡ 64 → CountsWeights plate counts working counts working (Refused WholeSpace)
+    pub refused-22 : plate.k ≡ 64 → CountsWeights plate counts working counts working (Err WholeSpace)
     refused-22 e = (inr ((λ q b. b.0 given), inl (e, refl)), refl, refl)
 
     module _ (not_whole : plate.k ≡ 64 → ⊥) where
-      pub refused-8 : (length counts < 65) ⊎ (length working < working_need plate) → CountsWeights plate counts working counts working (Refused MetricRoom)
+      pub refused-8 : (length counts < 65) ⊎ (length working < working_need plate) → CountsWeights plate counts working counts working (Err MetricRoom)
       refused-8 h = (inr ((λ q b. b.0 given), inr ((λ q b. not_whole b.0), inl (h, refl))), refl, refl)
 
       pub not-64 : plate.k < 64
@@ -134,10 +134,10 @@ module _ (plate : Plate) (counts working : List ℕ) where
                 go (no l) = omega arith
 
             module _ (need : ℕ) (e : need ≡ working_need plate) (working' : List ℕ) (z : working' ≡ replicate need 0 ++ drop need working) where
-              pub counted-least : r < 65 → CountsWeights plate counts working counts' working' (Least r)
+              pub counted-least : r < 65 → CountsWeights plate counts working counts' working' (Ok (Some r))
               counted-least h = (passes, least h, filled need e working' z)
 
-              pub counted_none : 65 ≤ r → CountsWeights plate counts working counts' working' OnlyZero
+              pub counted_none : 65 ≤ r → CountsWeights plate counts working counts' working' (Ok None)
               counted_none h = (passes, only_zero h, filled need e working' z)
 
 -- ---- by the promises of what `count_weights_parts` calls
@@ -154,7 +154,7 @@ module _ {plate : Plate} {p : Bool} (t : Tests plate p) where
   pub need-none : p ≡ false → TellsNeed plate 0
   need-none e = record { prepared_is = λ g. absurd (t.no_is e g); other_is = λ n. refl }
 
-  pub unprepared : (counts working : List ℕ) → p ≡ false → CountsWeights plate counts working counts working (Refused NotPrepared)
+  pub unprepared : (counts working : List ℕ) → p ≡ false → CountsWeights plate counts working counts working (Err NotPrepared)
   unprepared counts working e = refused-5 plate counts working (t.no_is e)
 
   module _ (e : p ≡ true) where
@@ -170,7 +170,7 @@ module _ {plate : Plate} {p : Bool} (t : Tests plate p) where
     pub rows-count : plate.k ≡ length (rows_of plate)
     rows-count = sym (used-rows plate (sound given).few (sound given).table)
 
-    pub whole-space : (counts working : List ℕ) → plate.k ≡ 64 → CountsWeights plate counts working counts working (Refused WholeSpace)
+    pub whole-space : (counts working : List ℕ) → plate.k ≡ 64 → CountsWeights plate counts working counts working (Err WholeSpace)
     whole-space counts working = refused-22 plate counts working given
 
     -- the half that was found
@@ -190,7 +190,7 @@ module _ {plate : Plate} {p : Bool} (t : Tests plate p) where
       -- the rooms that were tested
       module _ (counts working : List ℕ) {short : Bool} (rooms : TestsRooms (length counts) (length working) (half + half) short)
           (not_whole : plate.k ≡ 64 → ⊥) where
-        pub rooms-refused : short ≡ true → CountsWeights plate counts working counts working (Refused MetricRoom)
+        pub rooms-refused : short ≡ true → CountsWeights plate counts working counts working (Err MetricRoom)
         rooms-refused e = refused-8 plate counts working given not_whole (by-need need-is (rooms.yes_is e))
 
         pub made-ready : short ≡ false → Ready plate half counts working
@@ -242,12 +242,17 @@ module _ {plate : Plate} {half : ℕ} {counts working : List ℕ} (ready : Ready
       zeroed : zeros ++ drop (half + half) working ≡ replicate (half + half) 0 ++ drop (half + half) working
       zeroed = ap (λ (l : List ℕ). l ++ drop (half + half) working) (z ∙ ap (λ (m : ℕ). replicate m 0) (sym working-count))
 
-      pub least-found : r < 65 → CountsWeights plate counts working counts' (zeros ++ drop (half + half) working) (Least r)
+      least-found : r < 65 → CountsWeights plate counts working counts' (zeros ++ drop (half + half) working) (Ok (Some r))
       least-found =
           counted-least plate counts working ready.plate_given ready.not_whole ready.counts_there (omega (arith, ready.working_there, need-same))
           counts' k r f (half + half) need-same (zeros ++ drop (half + half) working) zeroed
 
-      pub none_found : 65 ≤ r → CountsWeights plate counts working counts' (zeros ++ drop (half + half) working) OnlyZero
+      none_found : 65 ≤ r → CountsWeights plate counts working counts' (zeros ++ drop (half + half) working) (Ok None)
       none_found =
           counted_none plate counts working ready.plate_given ready.not_whole ready.counts_there (omega (arith, ready.working_there, need-same))
           counts' k r f (half + half) need-same (zeros ++ drop (half + half) working) zeroed
+
+    -- the reply by what was found
+    pub least-told : (r : Option ℕ) → LeastAbove counts' r → CountsWeights plate counts working counts' (zeros ++ drop (half + half) working) (Ok r)
+    least-told (Some r) f = least-found f.0 f.1
+    least-told None f = none_found f (omega arith)

@@ -1,4 +1,6 @@
 -- Determined: two replies that meet the promise of `count_weights` are equal, and so is what stands in the lent rooms.
+use Rattle.std.proofs.Common.{Result, Ok, Err, Option, Some, None}
+use Rattle.plates.specs.declared.Refusal.{Refusal}
 use lib.Count.{ones, ones-le}
 use lib.ListN.{get_or, take}
 use lib.Seq.{ext_get_or}
@@ -11,8 +13,6 @@ use Rattle.plates.proofs.Refusing.{Single, never_both, refuses-once}
 use Rattle.plates.specs.declared.Plate.{Plate}
 use Rattle.plates.specs.Prepare.{IsPrepared}
 use Rattle.weights.proofs.CountPairs.{number-once}
-use Rattle.weights.specs.declared.Counted.{Counted}
-use Rattle.weights.specs.declared.Counted.TheVariants.{Least, OnlyZero, Refused}
 use Rattle.weights.specs.Weights.{CountsWeights, Filled, LeastWeight, TellsNeed, weight_conditions}
 use Rattle.words.specs.Sum.{sum_of}
 
@@ -49,16 +49,16 @@ module _ (plate : Plate) (counts working : List ℕ) where
         go i (yes h) = number-once (a.here i h) (b.here i h)
         go i (no h) = a.behind i (omega arith) ∙ sym (b.behind i (omega arith))
 
-    pub count-weights-determined : (r s : Counted) → CountsWeights plate counts working counts' working' r
+    pub count-weights-determined : (r s : Result (Option ℕ) Refusal) → CountsWeights plate counts working counts' working' r
         → CountsWeights plate counts working counts'' working'' s
         → (r ≡ s) × (counts' ≡ counts'') × (working' ≡ working'')
-    count-weights-determined (Refused p) (Refused q) x y =
-        (ap Refused (refuses-once (weight_conditions plate counts working) single p q x.0 y.0), x.1 ∙ sym y.1, x.2 ∙ sym y.2)
-    count-weights-determined (Refused p) (Least w) x y = absurd (never_both (weight_conditions plate counts working) y.0 p x.0)
-    count-weights-determined (Refused p) OnlyZero x y = absurd (never_both (weight_conditions plate counts working) y.0 p x.0)
-    count-weights-determined (Least v) (Refused q) x y = absurd (never_both (weight_conditions plate counts working) x.0 q y.0)
-    count-weights-determined (Least v) (Least w) x y = (ap Least (least-once plate v w x.1 y.1), same-counts x.2 y.2, x.2.zeroed ∙ sym y.2.zeroed)
-    count-weights-determined (Least v) OnlyZero x y = absurd (none_above plate y.1 v x.1)
-    count-weights-determined OnlyZero (Refused q) x y = absurd (never_both (weight_conditions plate counts working) x.0 q y.0)
-    count-weights-determined OnlyZero (Least w) x y = absurd (none_above plate x.1 w y.1)
-    count-weights-determined OnlyZero OnlyZero x y = (refl, same-counts x.2 y.2, x.2.zeroed ∙ sym y.2.zeroed)
+    count-weights-determined (Err p) (Err q) x y =
+        (ap Err (refuses-once (weight_conditions plate counts working) single p q x.0 y.0), x.1 ∙ sym y.1, x.2 ∙ sym y.2)
+    count-weights-determined (Err p) (Ok (Some w)) x y = absurd (never_both (weight_conditions plate counts working) y.0 p x.0)
+    count-weights-determined (Err p) (Ok None) x y = absurd (never_both (weight_conditions plate counts working) y.0 p x.0)
+    count-weights-determined (Ok (Some v)) (Err q) x y = absurd (never_both (weight_conditions plate counts working) x.0 q y.0)
+    count-weights-determined (Ok (Some v)) (Ok (Some w)) x y = (ap (λ x. Ok (Some x)) (least-once plate v w x.1 y.1), same-counts x.2 y.2, x.2.zeroed ∙ sym y.2.zeroed)
+    count-weights-determined (Ok (Some v)) (Ok None) x y = absurd (none_above plate y.1 v x.1)
+    count-weights-determined (Ok None) (Err q) x y = absurd (never_both (weight_conditions plate counts working) x.0 q y.0)
+    count-weights-determined (Ok None) (Ok (Some w)) x y = absurd (none_above plate x.1 w y.1)
+    count-weights-determined (Ok None) (Ok None) x y = (refl, same-counts x.2 y.2, x.2.zeroed ∙ sym y.2.zeroed)

@@ -1,4 +1,5 @@
 -- What the counts say: they add up to 2 ^ k, and the smallest weight above zero is the first with a count above zero.
+use Rattle.std.proofs.Common.{Result, Ok, Err, Option, Some, None}
 use lib.ListN.{get_or}
 use mathlib.Core.List.{List}
 use mathlib.Core.Logic.{◌↔◌}
@@ -17,8 +18,6 @@ use Rattle.weights.proofs.CountPairs.{number-once, number-some, number-zero}
 use Rattle.weights.proofs.PlateWeights.{codeword-below, ways-add, ways-number, weight-most}
 use Rattle.weights.proofs.WaysAdded.{total-same}
 use Rattle.weights.proofs.WeightsDetermined.{none_above}
-use Rattle.weights.specs.declared.Counted.{Counted}
-use Rattle.weights.specs.declared.Counted.TheVariants.{Least, OnlyZero, Refused}
 use Rattle.weights.specs.Number.{total}
 use Rattle.weights.specs.Ways.{ways}
 use Rattle.weights.specs.Weights.{CountsWeights, Filled, weight_conditions}
@@ -38,14 +37,14 @@ module _ (plate : Plate) (counts working counts' working' : List ℕ) where
       go (no d) = absurd (p.0 NotPrepared ((λ given. d (filled-adds given f)), refl))
 
   -- all counts add up to 2 ^ k, unless the call is refused
-  pub counts-add-up : (r : Counted) → CountsWeights plate counts working counts' working' r → ((q : Refusal) → r ≡ Refused q → ⊥)
+  pub counts-add-up : (r : Result (Option ℕ) Refusal) → CountsWeights plate counts working counts' working' r → ((q : Refusal) → r ≡ Err q → ⊥)
       → total 65 (λ w. get_or counts' w 0) ≡ 2 ^ plate.k
-  counts-add-up (Refused q) x n = absurd (n q refl)
-  counts-add-up (Least w) x n = adds x.0 x.2
-  counts-add-up OnlyZero x n = adds x.0 x.2
+  counts-add-up (Err q) x n = absurd (n q refl)
+  counts-add-up (Ok (Some w)) x n = adds x.0 x.2
+  counts-add-up (Ok None) x n = adds x.0 x.2
 
   -- the smallest weight above zero of a prepared plate has a count above zero, and each smaller one above zero has none
-  pub least-weight : IsPrepared plate → (w : ℕ) → CountsWeights plate counts working counts' working' (Least w)
+  pub least-weight : IsPrepared plate → (w : ℕ) → CountsWeights plate counts working counts' working' (Ok (Some w))
       → (0 < w) × (w ≤ plate.n) × (0 < get_or counts' w 0) × ((v : ℕ) → 0 < v → v < w → get_or counts' v 0 ≡ 0)
   least-weight given w x = (x.1.above, most, some (dec_lt 0 (get_or counts' w 0)), λ v a l. none v a l (dec_lt 0 (get_or counts' v 0)))
     where
@@ -64,16 +63,16 @@ module _ (plate : Plate) (counts working counts' working' : List ℕ) where
       none v a l (no h) = omega arith
 
   -- there is none exactly where k is 0, unless the call is refused
-  pub none-exactly : (r : Counted) → CountsWeights plate counts working counts' working' r → ((q : Refusal) → r ≡ Refused q → ⊥)
-      → (r ≡ OnlyZero) ↔ (plate.k ≡ 0)
-  none-exactly (Refused q) x n = absurd (n q refl)
-  none-exactly (Least w) x n = ((λ e. absurd (apart e)), λ e. absurd (none_above plate e w x.1))
+  pub none-exactly : (r : Result (Option ℕ) Refusal) → CountsWeights plate counts working counts' working' r → ((q : Refusal) → r ≡ Err q → ⊥)
+      → (r ≡ Ok None) ↔ (plate.k ≡ 0)
+  none-exactly (Err q) x n = absurd (n q refl)
+  none-exactly (Ok (Some w)) x n = ((λ e. absurd (apart e)), λ e. absurd (none_above plate e w x.1))
     where
-      apart : Least w ≡ OnlyZero → ⊥
+      apart : ◌≡◌ {A = Result (Option ℕ) Refusal} (Ok (Some w)) (Ok None) → ⊥
       apart e = subst told e tt
         where
-          told : Counted → Type 0
-          told (Refused q) = Unit {0}
-          told (Least w) = Unit {0}
-          told OnlyZero = ⊥
-  none-exactly OnlyZero x n = ((λ e. x.1), λ e. refl)
+          told : Result (Option ℕ) Refusal → Type 0
+          told (Err q) = Unit {0}
+          told (Ok (Some w)) = Unit {0}
+          told (Ok None) = ⊥
+  none-exactly (Ok None) x n = ((λ e. x.1), λ e. refl)

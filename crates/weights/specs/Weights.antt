@@ -1,14 +1,12 @@
 -- The weights of a plate, and what counting them replies and leaves in the lent rooms.
 use Rattle.std.specs.Int.Count.{ones}
-use Rattle.std.specs.Prelude.{drop, get_or, length, replicate, Bool, false, true, List, [], ◌++◌, ◌∷◌, ◌⊎◌, ◌≡◌, ◌*◌, ◌<◌, ◌^◌, ℕ, ◌≤◌}
+use Rattle.std.specs.Prelude.{drop, get_or, length, replicate, Bool, false, true, List, [], ◌++◌, ◌∷◌, ◌⊎◌, ◌≡◌, ◌*◌, ◌<◌, ◌^◌, ℕ, ◌≤◌, Result, Ok, Err, Option, Some, None}
 use Rattle.decoding.specs.Decode.{widest}
 use Rattle.plates.specs.declared.Plate.{Plate}
 use Rattle.plates.specs.declared.Refusal.{Refusal}
 use Rattle.plates.specs.declared.Refusal.TheVariants.{MetricRoom, WholeSpace}
 use Rattle.plates.specs.Prepare.{IsPrepared, not_prepared, rows_of}
 use Rattle.plates.specs.Refusals.{Passes, Refuses}
-use Rattle.weights.specs.declared.Counted.{Counted}
-use Rattle.weights.specs.declared.Counted.TheVariants.{Least, OnlyZero, Refused}
 use Rattle.weights.specs.Number.{NumberOf}
 use Rattle.words.specs.Sum.{IsSum}
 
@@ -63,15 +61,15 @@ pub record Filled (plate : Plate) (counts working counts' working' : List ℕ) :
 
 -- ---- the values of a reply that counted: whether it says that there is no weight above zero, and the smallest one where there is
 
-abbrev pub says_none : Counted → Bool
-says_none (Least w) = false
-says_none OnlyZero = true
-says_none (Refused q) = true
+abbrev pub says_none : Result (Option ℕ) Refusal → Bool
+says_none (Ok (Some w)) = false
+says_none (Ok None) = true
+says_none (Err q) = true
 
-abbrev pub least_said : Counted → ℕ
-least_said (Least w) = w
-least_said OnlyZero = 0
-least_said (Refused q) = 0
+abbrev pub least_said : Result (Option ℕ) Refusal → ℕ
+least_said (Ok (Some w)) = w
+least_said (Ok None) = 0
+least_said (Err q) = 0
 
 -- none is said where k is 0, and else the smallest weight above zero
 abbrev pub LeastIs : Plate → Bool → ℕ → Type 0
@@ -80,10 +78,10 @@ LeastIs plate false w = LeastWeight plate w
 
 -- What counting replies: the first refusal in order, with both rooms unchanged; or the smallest weight above zero; or, where k is 0,
 -- that there is none
-abbrev pub CountsWeights : Plate → List ℕ → List ℕ → List ℕ → List ℕ → Counted → Type 0
-CountsWeights plate counts working counts' working' (Refused q) =
+abbrev pub CountsWeights : Plate → List ℕ → List ℕ → List ℕ → List ℕ → Result (Option ℕ) Refusal → Type 0
+CountsWeights plate counts working counts' working' (Err q) =
     Refuses (weight_conditions plate counts working) q × (counts' ≡ counts) × (working' ≡ working)
-CountsWeights plate counts working counts' working' (Least w) =
-    Passes (weight_conditions plate counts working) × LeastIs plate (says_none (Least w)) (least_said (Least w)) × Filled plate counts working counts' working'
-CountsWeights plate counts working counts' working' OnlyZero =
-    Passes (weight_conditions plate counts working) × LeastIs plate (says_none OnlyZero) (least_said OnlyZero) × Filled plate counts working counts' working'
+CountsWeights plate counts working counts' working' (Ok (Some w)) =
+    Passes (weight_conditions plate counts working) × LeastIs plate (says_none (Ok (Some w))) (least_said (Ok (Some w))) × Filled plate counts working counts' working'
+CountsWeights plate counts working counts' working' (Ok None) =
+    Passes (weight_conditions plate counts working) × LeastIs plate (says_none (Ok None)) (least_said (Ok None)) × Filled plate counts working counts' working'

@@ -3,21 +3,20 @@ ghost use Rattle.std.specs.Prelude.{length, replicate, ◌≡◌, ◌≤◌};
 ghost use Rattle.weights.specs.Tallying.{Counted, StepFits, Stepped, Swept, TallyFits};
 
 use crate::rooms::{clear, copy_out};
-use crate::states::{by_state, power};
+use crate::states::by_state;
 use trellises::Section;
+use trellises::places::weight_of;
 
 // One section: the numbers of the next depth, which begin at `from`, give those of this depth, at `to`.
 fn step(working: &mut [u64], from: usize, to: usize, section: Section)
     requires { StepFits working.old from to section }
     ensures { Stepped working.old from to section working.new }
 {
-    let size = power(section.live) * 65;
-    let mut p = 0;
-    while p < size {
+    let size = weight_of(section.live) * 65;
+    for p in 0..size {
         let ways = by_state(&*working, from, section, p / 65, p % 65);
         let at = to + p;
         working[at] = ways;
-        p += 1;
     }
 }
 
@@ -29,9 +28,7 @@ fn sweep(rows: &[u64], n: usize, half: usize, working: &mut [u64]) -> usize
     clear(&mut *working);
     working[0] = 1;
     let mut from = 0;
-    let mut t = n;
-    while 0 < t {
-        t -= 1;
+    for t in (0..n).rev() {
         let section = trellises::sections::section_of(rows, t);
         let to = half - from;
         step(&mut *working, from, to, section);

@@ -1,4 +1,4 @@
--- `asking::metric_of` meets its contract. The loop's invariant: the metric of the positions from i on. The measure is i.
+-- `asking::metric_of` meets its contract. The loop's invariant: the metric of the positions from i on.
 use lib.IntN.{nat_abs, pos, ℤ, ◌+ℤ◌}
 use lib.ListN.{get_or}
 use mathlib.Core.Path.{◌≡◌, ◌∙◌, ap₂, subst, sym}

@@ -1,4 +1,4 @@
--- `asking::metric_of` meets its contract. The loop's invariant: the metric of the positions from i on. The measure is i.
+-- `asking::metric_of` meets its contract. The loop's invariant: the metric of the positions from i on.
 use lib.ListN.{length}
 use mathlib.Core.Path.{◌≡◌}
 use Prim.Native.Nat.{◌≤◌}
@@ -7,6 +7,3 @@ use Rattle.asking.proofs.metric_of.Given as goal
 
 abbrev pub invariant-loop-i : goal.invariant-loop-i
 invariant-loop-i l = (l.i ≤ length l.samples) × (l.metric ≡ metric_from l.samples l.word l.i)
-
-abbrev pub decreases-loop-i : goal.decreases-loop-i
-decreases-loop-i l = l.i

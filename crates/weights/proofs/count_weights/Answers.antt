@@ -2,4 +2,4 @@
 use Rattle.weights.proofs.count_weights.Goals as goal
 
 pub returns : goal.returns
-returns c = rw c.widened-profile.ensures at c.count_weights_parts.ensures
+returns c = rw (c.lend.ensures.whole c.widened-profile.ensures) at c.count_weights_parts.ensures

@@ -1,4 +1,4 @@
--- `weights::rooms::find_least` meets its contract. The loop's invariant: no count before w is above zero. The measure is what is left of 65.
+-- `weights::rooms::find_least` meets its contract. The loop's invariant: no count before w is above zero.
 use mathlib.Core.Path.{subst, ◌≡◌}
 use native.Mathlib.Omega.{arith}
 use Rattle.weights.proofs.RoomSteps.{NoneBefore, none_more}
@@ -10,7 +10,7 @@ loop-w-init c = (omega arith, omega arith, λ v a h. absurd (omega arith))
 pub returns-then-counts-w-gt0 : goal.returns-then-counts-w-gt0
 returns-then-counts-w-gt0 c =
     let l = c.loop-w in
-    record { above = omega (arith, l.invariant.0); within = l.invariant.1; some = λ h. c.if-counts-w-gt0.true; none = l.invariant.2 }
+    (record { above = omega (arith, l.invariant.0); within = l.invariant.1; some = λ h. c.if-counts-w-gt0.true; none = l.invariant.2 }, c.loop-w-test.true)
 
 pub loop-w-preserved : goal.loop-w-preserved
 loop-w-preserved c =

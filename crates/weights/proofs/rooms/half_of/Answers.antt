@@ -12,11 +12,8 @@ use Rattle.weights.proofs.rooms.half_of.Goals as goal
 narrow : (profile : List ℕ) (n most : ℕ) → ProfileFits profile n → most ≡ widest_entry profile n → most ≤ 12
 narrow profile n most fits is = omega (arith, widest-most profile n fits)
 
-pub power-requires : goal.power-requires
-power-requires c = omega (arith, narrow _ _ _ c.requires.1 c.widest.ensures)
-
 pub overflow_mul-result : goal.overflow_mul-result
-overflow_mul-result c = record { fits = omega (arith, c.power.ensures, pow_mono (narrow _ _ _ c.requires.1 c.widest.ensures)) }
+overflow_mul-result c = record { fits = omega (arith, (c.weight_of.ensures.below (omega (arith, narrow _ _ _ c.requires.1 c.widest.ensures))), pow_mono (narrow _ _ _ c.requires.1 c.widest.ensures)) }
 
 pub returns : goal.returns
-returns c = ap (λ (x : ℕ). x * 65) (c.power.ensures ∙ ap (λ (m : ℕ). 2 ^ m) c.widest.ensures)
+returns c = ap (λ (x : ℕ). x * 65) ((c.weight_of.ensures.below (omega (arith, narrow _ _ _ c.requires.1 c.widest.ensures))) ∙ ap (λ (m : ℕ). 2 ^ m) c.widest.ensures)

@@ -1,4 +1,5 @@
--- `weights::rooms::widest` meets its contract. The loop's invariant: the largest entry up to t. The measure is what is left of n.
+-- `weights::rooms::widest` meets its contract. The loop's invariant: the largest entry up to t.
+use Rattle.std.proofs.Common.{rules, ◌+◌}
 use lib.ListN.{get_or}
 use mathlib.Core.Path.{◌≡◌, ◌∙◌, ap, refl, sym}
 use native.Mathlib.Numerals.{add-one}
@@ -12,9 +13,10 @@ loop-t-init c = (omega arith, refl)
 
 pub loop-t-preserved : goal.loop-t-preserved
 loop-t-preserved c =
-    let profile = c.args.profile.now in (
+    let profile = c.args.profile.now in
+    let m : c.max-most.result ≡ max (get_or profile (c.loop-t.t + 1) 0) c.loop-t.most = search rules in (
       omega (arith, c.loop-t-test.true),
-      c.greater-most.ensures ∙ ap (max (get_or profile _ 0)) c.loop-t.invariant.1
+      m ∙ ap (max (get_or profile _ 0)) c.loop-t.invariant.1
           ∙ ap (λ (x : ℕ). max (get_or profile x 0) (widest_entry profile c.loop-t.t)) (add-one c.loop-t.t)
           ∙ ap (widest_entry profile) (sym (add-one c.loop-t.t)),
     )

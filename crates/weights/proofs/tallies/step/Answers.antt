@@ -1,4 +1,4 @@
--- `weights::tallies::step` meets its contract. The loop's invariant: the first p numbers are written. The measure is what is left.
+-- `weights::tallies::step` meets its contract. The loop's invariant: the first p numbers are written.
 use lib.Pow.{pow_mono}
 use mathlib.Core.Path.{ap}
 use native.Mathlib.Omega.{arith}
@@ -6,15 +6,12 @@ use Prim.Native.Nat.{◌*◌, ℕ}
 use Rattle.weights.proofs.StepFilling.{filling-all, filling-more, filling-none, place-there, state-fits}
 use Rattle.weights.proofs.tallies.step.Goals as goal
 
-pub power-size-requires : goal.power-size-requires
-power-size-requires c = omega (arith, c.requires.section.narrow)
-
 pub overflow_mul-size : goal.overflow_mul-size
-overflow_mul-size c = record { fits = omega (arith, c.power-size.ensures, pow_mono c.requires.section.narrow) }
+overflow_mul-size c = record { fits = omega (arith, (c.weight_of-size.ensures.below (omega (arith, c.requires.section.narrow))), pow_mono c.requires.section.narrow) }
 
 pub loop-p-init : goal.loop-p-init
 loop-p-init c =
-    (ap (λ (x : ℕ). x * 65) c.power-size.ensures, c.requires, filling-none c.args.working.now c.args.from c.args.to c.args.section c.requires)
+    (ap (λ (x : ℕ). x * 65) (c.weight_of-size.ensures.below (omega (arith, c.requires.section.narrow))), c.requires, filling-none c.args.working.now c.args.from c.args.to c.args.section c.requires)
 
 pub by_state-ways-requires : goal.by_state-ways-requires
 by_state-ways-requires c =
@@ -35,9 +32,6 @@ pub bounds-working-at : goal.bounds-working-at
 bounds-working-at c =
     let l = c.loop-p in
     place-there _ _ _ _ l.invariant.1 _ _ l.invariant.2 (omega (arith, l.invariant.0, c.loop-p-test.true))
-
-pub loop-p-smaller : goal.loop-p-smaller
-loop-p-smaller c = omega (arith, c.loop-p-test.true)
 
 pub loop-p-preserved : goal.loop-p-preserved
 loop-p-preserved c =

@@ -1,4 +1,4 @@
--- `weights::tallies::sweep` meets its contract. The loop's invariant: the numbers of depth t stand in the room. The measure is t.
+-- `weights::tallies::sweep` meets its contract. The loop's invariant: the numbers of depth t stand in the room.
 use mathlib.Core.Path.{subst, sym, ◌∙◌, ◌≡◌}
 use native.Mathlib.Omega.{arith}
 use Prim.Native.Nat.{◌-◌, suc, ℕ}

@@ -1,6 +1,0 @@
--- `states::power` meets its contract.
-use Rattle.decoding.proofs.Targets.{shifted_one}
-use Rattle.weights.proofs.states.power.Goals as goal
-
-pub returns : goal.returns
-returns c = shifted_one c.args.k c.requires
