@@ -3,6 +3,7 @@ use lib.ListN.{drop, drop_of_length-le, get_or, length}
 use lib.Seq.{drop-cons}
 use mathlib.Core.List.{List, [], map, ◌∷◌}
 use mathlib.Core.Path.{ap, refl, ◌∙◌, ◌≡◌}
+use native.Mathlib.Numerals.{add-one}
 use native.Mathlib.Omega.{arith}
 use Prim.Native.Nat.{◌+◌, ◌-◌, ◌<◌, max, suc, zero, ℕ, ◌≤◌}
 use Rattle.listings.proofs.Prepending.{prepend-none, ◌▹◌}
@@ -27,9 +28,9 @@ pub fields-on : {d e f : List ℕ} {end at r : ℕ} (xs : List ℕ) (i : ℕ) �
     → Prepends e at (9 ∷ decimal (get_or xs (i - 1) 0)) f r → Prepends d end (following (map decimal (drop (i - 1) xs))) f r
 fields-on xs i h l p q = rw (drop-back xs i h l) (p ▹ q)
 
--- the largest entry, one place back
-pub largest-on : (xs : List ℕ) (i : ℕ) → 0 < i → i ≤ length xs → largest (drop (i - 1) xs) ≡ max (get_or xs (i - 1) 0) (largest (drop i xs))
-largest-on xs i h l = rw (drop-back xs i h l)
+-- the largest of the entries from one on
+pub largest-on : (xs : List ℕ) (i : ℕ) → i < length xs → largest (drop i xs) ≡ max (get_or xs i 0) (largest (drop (i + 1) xs))
+largest-on xs i h = rw (add-one i) (ap largest (drop-cons xs i 0 h))
 
 -- ---- the characters of a word
 

@@ -1,12 +1,11 @@
 -- Determined: two replies with rooms that meet the promise of a call are equal.
+use Rattle.std.proofs.Common.{Result, Ok, Err}
 use lib.IntN.{ℤ}
 use lib.ListN.{drop, length}
 use mathlib.Core.List.{◌++◌, List}
 use mathlib.Core.Path.{ap, refl, sym, ◌∙◌, ◌≡◌}
 use Prim.Native.Nat.{ℕ}
 use Rattle.listings.specs.declared.Tally.{Tally}
-use Rattle.listings.specs.declared.Written.{Written}
-use Rattle.listings.specs.declared.Written.TheVariants.{Bytes, Refused}
 use Rattle.listings.specs.Writing.{Writes, WritesAs, WritesEnd, WritesLeast, WritesLine, WritesNoLeast, WritesOf, WritesPlate, WritesProfile, WritesRefused, WritesTally, WritesWeight, WritesWord}
 use Rattle.plates.proofs.Refusing.{Single, never_both, refuses-once}
 use Rattle.plates.specs.declared.Plate.{Plate}
@@ -14,28 +13,28 @@ use Rattle.plates.specs.declared.Refusal.{Refusal}
 use Rattle.plates.specs.Refusals.{Passes, Refuses}
 
 -- one reply, and one room after it
-abbrev pub Same : Written → Written → List ℕ → List ℕ → Type 0
+abbrev pub Same : Result ℕ Refusal → Result ℕ Refusal → List ℕ → List ℕ → Type 0
 Same r s a b = (r ≡ s) × (a ≡ b)
 
 module _ (cs : List (Refusal → Type 0)) (single : Single cs) (line room : List ℕ) where
   -- by cases on the two replies
-  by_cases : (r s : Written) (a b : List ℕ) → WritesAs cs line room a r → WritesAs cs line room b s → Same r s a b
-  by_cases (Refused p) (Refused q) a b x y = (ap Refused (refuses-once cs single p q x.0 y.0), x.1 ∙ sym y.1)
-  by_cases (Refused p) (Bytes m) a b x y = absurd (never_both cs y.0 p x.0)
-  by_cases (Bytes l) (Refused q) a b x y = absurd (never_both cs x.0 q y.0)
-  by_cases (Bytes l) (Bytes m) a b x y = (ap Bytes (x.1 ∙ sym y.1), x.2 ∙ sym y.2)
+  by_cases : (r s : Result ℕ Refusal) (a b : List ℕ) → WritesAs cs line room a r → WritesAs cs line room b s → Same r s a b
+  by_cases (Err p) (Err q) a b x y = (ap Err (refuses-once cs single p q x.0 y.0), x.1 ∙ sym y.1)
+  by_cases (Err p) (Ok m) a b x y = absurd (never_both cs y.0 p x.0)
+  by_cases (Ok l) (Err q) a b x y = absurd (never_both cs x.0 q y.0)
+  by_cases (Ok l) (Ok m) a b x y = (ap Ok (x.1 ∙ sym y.1), x.2 ∙ sym y.2)
 
   -- two replies, with the rooms after them, that meet one promise are equal
-  pub determined : {r s : Written} {a b : List ℕ} → Writes cs line room r a → Writes cs line room s b → Same r s a b
+  pub determined : {r s : Result ℕ Refusal} {a b : List ℕ} → Writes cs line room r a → Writes cs line room s b → Same r s a b
   determined {r} {s} {a} {b} x y = by_cases r s a b x.reply y.reply
 
   -- a condition refuses: the reply is its refusal, and the room is as it was
-  pub must-refuse : {r : Written} {room' : List ℕ} → Writes cs line room r room' → (q : Refusal) → Refuses cs q → Same r (Refused q) room' room
+  pub must-refuse : {r : Result ℕ Refusal} {room' : List ℕ} → Writes cs line room r room' → (q : Refusal) → Refuses cs q → Same r (Err q) room' room
   must-refuse w q h = determined w (record { reply = (h, refl) })
 
   -- none does: the line is written
-  pub must-write : {r : Written} {room' : List ℕ} → Writes cs line room r room' → Passes cs
-      → Same r (Bytes (length line)) room' (line ++ drop (length line) room)
+  pub must-write : {r : Result ℕ Refusal} {room' : List ℕ} → Writes cs line room r room' → Passes cs
+      → Same r (Ok (length line)) room' (line ++ drop (length line) room)
   must-write w h = determined w (record { reply = (h, refl, refl) })
 
 -- ---- the calls
@@ -44,7 +43,7 @@ module _ (cs : List (Refusal → Type 0)) (single : Single cs) (line room : List
 once : {refusal : Refusal} {holds : Type 0} (p q : Refusal) → holds × (p ≡ refusal) → holds × (q ≡ refusal) → p ≡ q
 once p q x y = x.1 ∙ sym y.1
 
-module _ {room : List ℕ} {r s : Written} {a b : List ℕ} where
+module _ {room : List ℕ} {r s : Result ℕ Refusal} {a b : List ℕ} where
   -- a line that takes no plate
   line-determined : {line : List ℕ} → WritesLine line room r a → WritesLine line room s b → Same r s a b
   line-determined {line} = determined _ (once, tt) line room

@@ -1,4 +1,6 @@
 -- Lines of a plate: refusal 5 comes first, and a prepared plate's lines fit 256 bytes.
+use Rattle.std.proofs.Common.{Result, Err}
+use Rattle.plates.specs.declared.Refusal.{Refusal}
 use lib.ListN.{get_or, length}
 use lib.Seq.{get_or-take, length-take-le}
 use mathlib.Core.Bool.{Bool, false, true}
@@ -10,8 +12,6 @@ use native.Mathlib.Omega.{arith}
 use Prim.Native.Nat.{◌+◌, ◌<◌, ℕ, ◌≤◌}
 use Rattle.listings.proofs.Conditions.{passed_first, refused-first}
 use Rattle.listings.proofs.Fits256.{profile-fits-256}
-use Rattle.listings.specs.declared.Written.{Written}
-use Rattle.listings.specs.declared.Written.TheVariants.{Refused}
 use Rattle.listings.specs.Lines.{profile_line}
 use Rattle.listings.specs.Writing.{WritesLine, WritesOf, entries_of}
 use Rattle.plates.proofs.SoundIsPrepared.{sound}
@@ -20,11 +20,11 @@ use Rattle.plates.specs.declared.Refusal.TheVariants.{NotPrepared}
 use Rattle.plates.specs.Prepare.{IsPrepared, Tests}
 
 -- a plate that is not prepared
-plate-refused : {plate : Plate} {line room : List ℕ} → (IsPrepared plate → ⊥) → WritesOf plate line room (Refused NotPrepared) room
+plate-refused : {plate : Plate} {line room : List ℕ} → (IsPrepared plate → ⊥) → WritesOf plate line room (Err NotPrepared) room
 plate-refused h = refused-first (h, refl)
 
 -- a prepared plate
-pub plate-passed : {plate : Plate} {line room room' : List ℕ} {r : Written} → IsPrepared plate → WritesLine line room r room'
+pub plate-passed : {plate : Plate} {line room room' : List ℕ} {r : Result ℕ Refusal} → IsPrepared plate → WritesLine line room r room'
     → WritesOf plate line room r room'
 plate-passed h w = passed_first (λ p f. f.0 h) w
 
@@ -56,7 +56,7 @@ module _ (plate : Plate) (p : IsPrepared plate) where
 
 module _ {plate : Plate} {p : Bool} (t : Tests plate p) where
   -- it says no
-  pub untested : {line room : List ℕ} → p ≡ false → WritesOf plate line room (Refused NotPrepared) room
+  pub untested : {line room : List ℕ} → p ≡ false → WritesOf plate line room (Err NotPrepared) room
   untested e = plate-refused (t.no_is e)
 
   -- it says yes
@@ -76,5 +76,5 @@ module _ {plate : Plate} {p : Bool} (t : Tests plate p) where
     pub tested-fit : length (profile_line (entries_of plate)) ≤ 256
     tested-fit = entries_fit plate given
 
-    pub tested : {line room room' : List ℕ} {r : Written} → WritesLine line room r room' → WritesOf plate line room r room'
+    pub tested : {line room room' : List ℕ} {r : Result ℕ Refusal} → WritesLine line room r room' → WritesOf plate line room r room'
     tested = plate-passed given

@@ -1,8 +1,9 @@
 -- Texts put one before the other.
-use lib.ListN.{drop, length, length-append, length-replicate, length-set, replicate, set}
-use lib.Seq.{drop-cons, drop-set-lt, get_or-set_same}
+use borrow.Rule.Slice.PartMut.{mid_len, post_of, Post-is, put_mid, same_len_mid}
+use lib.ListN.{drop, length, length-append, length-replicate, length-set, replicate, set, take}
+use lib.Seq.{drop_at, drop-cons, drop-set-lt, get_or-set_same, length-take-le}
 use mathlib.Core.List.{◌++◌, List, [], append_assoc, append-nil, ◌∷◌}
-use mathlib.Core.Path.{ap, ap₂, refl, ◌∙◌, ◌≡◌}
+use mathlib.Core.Path.{ap, ap₂, refl, sym, ◌∙◌, ◌≡◌}
 use native.Mathlib.Omega.{arith}
 use Prim.Native.Nat.{◌-◌, ◌<◌, suc, ℕ, ◌≤◌}
 use Rattle.listings.specs.Building.{Ends, HasRoom, Prepends}
@@ -30,6 +31,20 @@ prepend-one d end byte p q = record {
       drop-cons (set d (end - 1) byte) (end - 1) 0 (rw length-set i)
       ∙ ap₂ ◌∷◌ (get_or-set_same d (end - 1) byte 0 i) (rw e (drop-set-lt end d (end - 1) byte (omega arith))));
 }
+
+-- a text, copied
+pub prepend-copied : (d t copied : List ℕ) (end : ℕ) → length d ≡ 256 → end ≤ 256 → length t ≤ end → copied ≡ t
+    → Prepends d end t (put_mid (end - length t) (end - (end - length t)) d copied) (end - length t)
+prepend-copied d t copied end s w r e =
+    let a = end - length t in
+    let within : end ≤ length d = omega (arith, s) in
+    let as_many : length copied ≡ end - a = omega (arith, ap length e, r) in
+    record {
+      same_size = same_len_mid a (end - a) d copied (as_many ∙ sym (mid_len a end d within));
+      begins = λ h. omega (arith, r);
+      stands = λ h. (drop_at (take a d) (copied ++ post_of a (end - a) d) a (length-take-le a d (omega (arith, within, r)))
+          ∙ ap₂ ◌++◌ e (Post-is a end d (omega (arith, r))));
+    }
 
 -- a text, and then one before it
 infixl 35 ◌▹◌

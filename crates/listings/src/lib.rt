@@ -2,22 +2,16 @@
 // and copied where the room is long enough.
 #![tactic(auto)]
 
-ghost use Rattle.std.specs.Prelude.{◌≡◌, ◌++◌, ◌≤◌, length, drop};
-ghost use Rattle.plates.specs.Prepare.{of_parts};
+ghost use Rattle.std.specs.Prelude.{◌≤◌, length, drop, map};
+ghost use Rattle.plates.specs.Prepare.{lent};
 ghost use Rattle.listings.specs.Building.{Ends};
-ghost use Rattle.listings.specs.Lines.{plate_line, profile_line, word_line};
+ghost use Rattle.listings.specs.Decimal.{decimal};
+ghost use Rattle.listings.specs.Lines.{line, plate_line, profile_line, word_line};
 ghost use Rattle.listings.specs.Writing.{WritesLine, WritesPlate, WritesProfile, WritesWord, WritesRefused, WritesEnd, WritesWeight, WritesLeast, WritesNoLeast, WritesTally};
 
 mod pieces;
 
-use plates::{Plate, Refusal};
-
-// What writing replies: the line's length with its line feed, or why it is refused.
-#[derive(Clone, Copy)]
-pub enum Written {
-    Bytes(usize),
-    Refused(Refusal),
-}
+use plates::{Parts, Plate, Refusal};
 
 // The numbers of a shift's tally. The sum of metrics is what those above 0 add to, less what those below 0 do.
 #[derive(Clone, Copy)]
@@ -36,54 +30,44 @@ pub struct Tally {
 
 // ---- a line into a room
 
-// Bytes to the start of a room that is long enough for them.
-fn copy_in(text: &[u8], room: &mut [u8])
-    requires { length text.now ≤ length room.old }
-    ensures { room.new ≡ text.now ++ drop (length text.now) room.old }
-{
-    let mut i = 0;
-    while i < text.len() {
-        room[i] = text[i];
-        i += 1;
-    }
-}
-
 // The line that stands from `at` to the end of the array into the room, or refusal 11.
-fn write_line(line: &pieces::Line, at: usize, room: &mut [u8]) -> Written
+fn write_line(line: &pieces::Line, at: usize, room: &mut [u8]) -> Result<usize, Refusal>
     requires { Ends line.now at }
     ensures { WritesLine (drop at line.now) room.old result room.new }
 {
     let size = 256 - at;
     if room.len() < size {
-        return Written::Refused(Refusal::LineRoom);
+        return Err(Refusal::LineRoom);
     }
-    let bytes = &line[..];
-    copy_in(&bytes[at..], room);
-    Written::Bytes(size)
+    room[..size].copy_from_slice(&line[at..]);
+    Ok(size)
+}
+
+// The line of a name and numbers, each after a tab.
+fn write_numbers(name: &[u8], numbers: &[u64], room: &mut [u8]) -> Result<usize, Refusal>
+    requires { length (line name.now (map decimal numbers.now)) ≤ 256 }
+    ensures { WritesLine (line name.now (map decimal numbers.now)) room.old result room.new }
+{
+    let mut line = [0; 256];
+    let first = pieces::prepend_entries(&mut line, numbers);
+    let at = pieces::prepend_name(&mut line, first, name);
+    write_line(&line, at, room)
 }
 
 // The line `plate`, from n, k and the profile's entries in use.
-fn put_plate(n: usize, k: usize, entries: &[u64], room: &mut [u8]) -> Written
+fn put_plate(n: usize, k: usize, entries: &[u64], room: &mut [u8]) -> Result<usize, Refusal>
     ensures { WritesLine (plate_line n k entries.now) room.old result room.new }
 {
-    let mut line = [0; 256];
-    let feed = pieces::line_feed(&mut line);
-    let most = pieces::prepend_field(&mut line, feed, pieces::largest_entry(entries));
-    let heads = pieces::prepend_field(&mut line, most, k as u64);
-    let long = pieces::prepend_field(&mut line, heads, n as u64);
-    let at = pieces::prepend_name(&mut line, long, b"plate");
-    write_line(&line, at, room)
+    let most = pieces::largest_entry(entries);
+    write_numbers(b"plate", &[n as u64, k as u64, most], room)
 }
 
 // The line `profile`, from the profile's entries in use.
-fn put_profile(entries: &[u64], room: &mut [u8]) -> Written
+fn put_profile(entries: &[u64], room: &mut [u8]) -> Result<usize, Refusal>
     requires { length (profile_line entries.now) ≤ 256 }
     ensures { WritesLine (profile_line entries.now) room.old result room.new }
 {
-    let mut line = [0; 256];
-    let first = pieces::prepend_entries(&mut line, entries);
-    let at = pieces::prepend_name(&mut line, first, b"profile");
-    write_line(&line, at, room)
+    write_numbers(b"profile", entries, room)
 }
 
 // The line `word`, from n, the word, its metric and the two counts.
@@ -94,7 +78,7 @@ fn put_word(
     additions: u64,
     comparisons: u64,
     room: &mut [u8],
-) -> Written
+) -> Result<usize, Refusal>
     requires { n ≤ 64 }
     ensures { WritesLine (word_line n word metric additions comparisons) room.old result room.new }
 {
@@ -111,76 +95,58 @@ fn put_word(
 // ---- public calls
 
 // The line `plate`: n, k and the largest profile entry.
-pub fn write_plate_parts<'a>(
-    n: usize,
-    k: usize,
-    mask: u64,
-    rows: &'a [u64],
-    profile: &'a [u64],
-    room: &mut [u8],
-) -> Written
-    ensures { WritesPlate (of_parts n k mask rows.now profile.now) room.old result room.new }
+pub fn write_plate_parts<'a>(plate: Parts<'a>, room: &mut [u8]) -> Result<usize, Refusal>
+    ensures { WritesPlate (lent plate.entry) room.old result room.new }
 {
-    if plates::parts_prepared(n, k, mask, rows, profile) {
-        let count = n + 1;
-        return put_plate(n, k, &profile[..count], room);
+    if plates::parts_prepared(plate) {
+        let count = plate.n + 1;
+        return put_plate(plate.n, plate.k, &plate.profile[..count], room);
     }
-    Written::Refused(Refusal::NotPrepared)
+    Err(Refusal::NotPrepared)
 }
 
 // The line `plate` of a plate by value.
-pub fn write_plate(plate: Plate, room: &mut [u8]) -> Written
+pub fn write_plate(plate: Plate, room: &mut [u8]) -> Result<usize, Refusal>
     ensures { WritesPlate plate room.old result room.new }
 {
     let profile = plates::widened(plate.profile);
-    write_plate_parts(plate.n, plate.k, plate.mask, &plate.rows, &profile, room)
+    write_plate_parts(plate.lend(&profile), room)
 }
 
 // The line `profile`: its entries s(0) to s(n).
-pub fn write_profile_parts<'a>(
-    n: usize,
-    k: usize,
-    mask: u64,
-    rows: &'a [u64],
-    profile: &'a [u64],
-    room: &mut [u8],
-) -> Written
-    ensures { WritesProfile (of_parts n k mask rows.now profile.now) room.old result room.new }
+pub fn write_profile_parts<'a>(plate: Parts<'a>, room: &mut [u8]) -> Result<usize, Refusal>
+    ensures { WritesProfile (lent plate.entry) room.old result room.new }
 {
-    if plates::parts_prepared(n, k, mask, rows, profile) {
-        let count = n + 1;
-        return put_profile(&profile[..count], room);
+    if plates::parts_prepared(plate) {
+        let count = plate.n + 1;
+        return put_profile(&plate.profile[..count], room);
     }
-    Written::Refused(Refusal::NotPrepared)
+    Err(Refusal::NotPrepared)
 }
 
 // The line `profile` of a plate by value.
-pub fn write_profile(plate: Plate, room: &mut [u8]) -> Written
+pub fn write_profile(plate: Plate, room: &mut [u8]) -> Result<usize, Refusal>
     ensures { WritesProfile plate room.old result room.new }
 {
     let profile = plates::widened(plate.profile);
-    write_profile_parts(plate.n, plate.k, plate.mask, &plate.rows, &profile, room)
+    write_profile_parts(plate.lend(&profile), room)
 }
 
 // The line `word`: its first n positions, the metric, additions and comparisons.
 pub fn write_word_parts<'a>(
-    n: usize,
-    k: usize,
-    mask: u64,
-    rows: &'a [u64],
-    profile: &'a [u64],
+    plate: Parts<'a>,
     word: u64,
     metric: i32,
     additions: u64,
     comparisons: u64,
     room: &mut [u8],
-) -> Written
-    ensures { WritesWord (of_parts n k mask rows.now profile.now) word metric additions comparisons room.old result room.new }
+) -> Result<usize, Refusal>
+    ensures { WritesWord (lent plate.entry) word metric additions comparisons room.old result room.new }
 {
-    if plates::parts_prepared(n, k, mask, rows, profile) {
-        return put_word(n, word, metric, additions, comparisons, room);
+    if plates::parts_prepared(plate) {
+        return put_word(plate.n, word, metric, additions, comparisons, room);
     }
-    Written::Refused(Refusal::NotPrepared)
+    Err(Refusal::NotPrepared)
 }
 
 // The line `word` of a plate by value.
@@ -191,16 +157,12 @@ pub fn write_word(
     additions: u64,
     comparisons: u64,
     room: &mut [u8],
-) -> Written
+) -> Result<usize, Refusal>
     ensures { WritesWord plate word metric additions comparisons room.old result room.new }
 {
     let profile = plates::widened(plate.profile);
     write_word_parts(
-        plate.n,
-        plate.k,
-        plate.mask,
-        &plate.rows,
-        &profile,
+        plate.lend(&profile),
         word,
         metric,
         additions,
@@ -210,64 +172,45 @@ pub fn write_word(
 }
 
 // The line `refused`: a number and a place, and the field where the place of this number is a line and a field.
-pub fn write_refused(number: u64, place: u64, field: u64, room: &mut [u8]) -> Written
+pub fn write_refused(number: u64, place: u64, field: u64, room: &mut [u8]) -> Result<usize, Refusal>
     ensures { WritesRefused number place field room.old result room.new }
 {
-    let mut line = [0; 256];
-    let named = pieces::names_field(number);
-    let last = pieces::last_field(&mut line, named, field);
-    let after = pieces::prepend_field(&mut line, last, place);
-    let first = pieces::prepend_field(&mut line, after, number);
-    let at = pieces::prepend_name(&mut line, first, b"refused");
-    write_line(&line, at, room)
+    if pieces::names_field(number) {
+        return write_numbers(b"refused", &[number, place, field], room);
+    }
+    write_numbers(b"refused", &[number, place], room)
 }
 
 // The line `end`: the number of block lines.
-pub fn write_end(blocks: u64, room: &mut [u8]) -> Written
+pub fn write_end(blocks: u64, room: &mut [u8]) -> Result<usize, Refusal>
     ensures { WritesEnd blocks room.old result room.new }
 {
-    let mut line = [0; 256];
-    let feed = pieces::line_feed(&mut line);
-    let first = pieces::prepend_field(&mut line, feed, blocks);
-    let at = pieces::prepend_name(&mut line, first, b"end");
-    write_line(&line, at, room)
+    write_numbers(b"end", &[blocks], room)
 }
 
 // The line `weight`: a weight, and how many codewords have it.
-pub fn write_weight(weight: u64, count: u64, room: &mut [u8]) -> Written
+pub fn write_weight(weight: u64, count: u64, room: &mut [u8]) -> Result<usize, Refusal>
     ensures { WritesWeight weight count room.old result room.new }
 {
-    let mut line = [0; 256];
-    let feed = pieces::line_feed(&mut line);
-    let last = pieces::prepend_field(&mut line, feed, count);
-    let first = pieces::prepend_field(&mut line, last, weight);
-    let at = pieces::prepend_name(&mut line, first, b"weight");
-    write_line(&line, at, room)
+    write_numbers(b"weight", &[weight, count], room)
 }
 
 // The line `least`: the smallest weight above zero.
-pub fn write_least(weight: u64, room: &mut [u8]) -> Written
+pub fn write_least(weight: u64, room: &mut [u8]) -> Result<usize, Refusal>
     ensures { WritesLeast weight room.old result room.new }
 {
-    let mut line = [0; 256];
-    let feed = pieces::line_feed(&mut line);
-    let first = pieces::prepend_field(&mut line, feed, weight);
-    let at = pieces::prepend_name(&mut line, first, b"least");
-    write_line(&line, at, room)
+    write_numbers(b"least", &[weight], room)
 }
 
 // The line `least` where no weight is above zero.
-pub fn write_no_least(room: &mut [u8]) -> Written
+pub fn write_no_least(room: &mut [u8]) -> Result<usize, Refusal>
     ensures { WritesNoLeast room.old result room.new }
 {
-    let mut line = [0; 256];
-    let feed = pieces::line_feed(&mut line);
-    let at = pieces::prepend_name(&mut line, feed, b"least\tnone");
-    write_line(&line, at, room)
+    write_numbers(b"least\tnone", &[], room)
 }
 
 // The line `tally`: the numbers of a shift, the number decoded once more at the end.
-pub fn write_tally(tally: Tally, room: &mut [u8]) -> Written
+pub fn write_tally(tally: Tally, room: &mut [u8]) -> Result<usize, Refusal>
     ensures { WritesTally tally room.old result room.new }
 {
     let mut line = [0; 256];

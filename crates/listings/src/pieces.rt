@@ -30,7 +30,7 @@ pub fn line_feed(line: &mut Line) -> usize
     prepend_byte(line, 256, 10)
 }
 
-// A number's digits before a place.
+// A number's digits before a place. (A `while`: it takes digits off the number and counts no index.)
 pub fn prepend_number(line: &mut Line, end: usize, value: u64) -> usize
     ensures { Prepends line.old end (decimal value) line.new result }
 {
@@ -55,30 +55,18 @@ pub fn prepend_field(line: &mut Line, end: usize, value: u64) -> usize
 pub fn names_field(number: u64) -> bool
     ensures { result ≡ names_field number }
 {
-    number == 10 || (17 <= number && number <= 20)
-}
-
-// The line feed at the end of the array and, where it is named, a tab and a number before it.
-pub fn last_field(line: &mut Line, named: bool, value: u64) -> usize
-    ensures { Prepends line.old 256 (following (cond named (decimal value ∷ []) [])) line.new result }
-{
-    let feed = line_feed(line);
-    if named {
-        return prepend_field(line, feed, value);
-    }
-    feed
+    matches!(number, 10 | 17..=20)
 }
 
 // The letters of a name before a place.
 pub fn prepend_name(line: &mut Line, end: usize, name: &[u8]) -> usize
     ensures { Prepends line.old end name.now line.new result }
 {
-    let mut at = end;
-    let mut i = name.len();
-    while i > 0 {
-        i -= 1;
-        at = prepend_byte(line, at, name[i]);
+    if end > 256 || end < name.len() {
+        return end;
     }
+    let at = end - name.len();
+    line[at..end].copy_from_slice(name);
     at
 }
 
@@ -94,65 +82,45 @@ pub fn prepend_positions(line: &mut Line, end: usize, word: u64, n: usize) -> us
     ensures { Prepends line.old end (9 ∷ positions word 0 n) line.new result }
 {
     let mut at = end;
-    let mut i = n;
-    while i > 0 {
-        i -= 1;
+    for i in (0..n).rev() {
         at = prepend_byte(line, at, character(word, i));
     }
     prepend_byte(line, at, 9)
 }
 
-// How far a number is from 0.
-pub fn magnitude(value: i32) -> u64
-    ensures { result ≡ nat_abs value }
+// A tab and a number before a place, with a minus where it is told.
+fn prepend_with_sign(line: &mut Line, end: usize, minus: bool, size: u64) -> usize
+    ensures { Prepends line.old end (9 ∷ cond minus (45 ∷ decimal size) (decimal size)) line.new result }
 {
-    if value < 0 {
-        return (0 - (value as i64)) as u64;
+    if minus {
+        let digits = prepend_number(line, end, size);
+        let sign = prepend_byte(line, digits, 45);
+        return prepend_byte(line, sign, 9);
     }
-    value as u64
+    prepend_field(line, end, size)
 }
 
 // A tab and a number before a place, with a minus exactly when it is below 0.
 pub fn prepend_signed(line: &mut Line, end: usize, metric: i32) -> usize
     ensures { Prepends line.old end (9 ∷ signed_decimal metric) line.new result }
 {
-    let size = magnitude(metric);
-    if metric < 0 {
-        let digits = prepend_number(line, end, size);
-        let minus = prepend_byte(line, digits, 45);
-        return prepend_byte(line, minus, 9);
-    }
-    prepend_field(line, end, size)
+    prepend_with_sign(line, end, metric < 0, metric.unsigned_abs() as u64)
 }
 
 // A tab and one number less another before a place, with a minus exactly when that is below 0.
 pub fn prepend_less(line: &mut Line, end: usize, above: u64, below: u64) -> usize
     ensures { Prepends line.old end (9 ∷ less above below) line.new result }
 {
-    if above < below {
-        let digits = prepend_number(line, end, below - above);
-        let minus = prepend_byte(line, digits, 45);
-        return prepend_byte(line, minus, 9);
-    }
-    prepend_field(line, end, above - below)
-}
-
-// The larger of two entries.
-pub fn larger(entry: u64, other: u64) -> u64
-    ensures { result ≡ max entry other }
-{
-    if entry < other { other } else { entry }
+    prepend_with_sign(line, end, above < below, above.abs_diff(below))
 }
 
 // The largest of some entries.
 pub fn largest_entry(entries: &[u64]) -> u64
     ensures { result ≡ largest entries.now }
 {
-    let mut most = 0;
-    let mut i = entries.len();
-    while i > 0 {
-        i -= 1;
-        most = larger(entries[i], most);
+    let mut most: u64 = 0;
+    for entry in entries {
+        most = most.max(*entry);
     }
     most
 }
@@ -162,9 +130,7 @@ pub fn prepend_entries(line: &mut Line, entries: &[u64]) -> usize
     ensures { Prepends line.old 256 (following (map decimal entries.now)) line.new result }
 {
     let mut at = line_feed(line);
-    let mut i = entries.len();
-    while i > 0 {
-        i -= 1;
+    for i in (0..entries.len()).rev() {
         at = prepend_field(line, at, entries[i]);
     }
     at

@@ -8,4 +8,4 @@ pub returns-then-room-size : goal.returns-then-room-size
 returns-then-room-size c = too_long _ _ (omega (arith, length-drop c.args.at c.args.line.now))
 
 pub returns : goal.returns
-returns c = tail_written _ _ _ _ c.requires c.if-room-size.false c.copy_in.ensures
+returns c = tail_written _ _ _ _ c.requires c.if-room-size.false c.copy_from_slice.ensures.after

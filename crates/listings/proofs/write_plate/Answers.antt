@@ -1,5 +1,10 @@
 -- `listings::write_plate` meets its contract: it is the call over the plate's parts.
+use mathlib.Core.Path.{subst}
+use Rattle.plates.specs.declared.Plate.{Plate}
+use Rattle.listings.specs.Writing.{WritesPlate}
 use Rattle.listings.proofs.write_plate.Goals as goal
 
 pub returns : goal.returns
-returns c = rw c.widened-profile.ensures at c.write_plate_parts.ensures
+returns c =
+    let w = c.write_plate_parts in
+    subst (λ (p : Plate). WritesPlate p c.args.room.now w.result w.new.room) (c.lend.ensures.whole c.widened-profile.ensures) w.ensures

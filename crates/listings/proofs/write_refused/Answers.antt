@@ -1,21 +1,31 @@
 -- `listings::write_refused` meets its contract.
-use Rattle.listings.specs.Lines.{refused_line}
-use Rattle.listings.proofs.Conditions.{built-written}
+use Rattle.std.proofs.Common.{◌≡◌, ◌∙◌, sym, true, false}
+use Rattle.listings.specs.Lines.{names_field, refused_line}
 use Rattle.listings.proofs.Fits256.{refused-fits-256}
-use Rattle.listings.proofs.Prepending.{◌▹◌, built-ends}
 use Rattle.listings.proofs.write_refused.Goals as goal
 
-pub write_line-requires : goal.write_line-requires
+pub write_numbers-requires : goal.write_numbers-requires
 unfolding refused_line
-write_line-requires c =
-    let last = rw c.names_field-named.ensures at c.last_field-last.ensures in
-    built-ends (refused-fits-256 c.args.number c.args.place c.args.field)
-    (last ▹ c.prepend_field-after.ensures ▹ c.prepend_field-first.ensures ▹ c.prepend_name-at.ensures)
+write_numbers-requires c =
+    let a = c.args in
+    let e : names_field a.number ≡ true = sym c.names_field.ensures ∙ c.if-names_field.true in
+    rw e at (refused-fits-256 a.number a.place a.field)
+
+pub returns-then-names_field : goal.returns-then-names_field
+unfolding refused_line
+returns-then-names_field c =
+    let e : names_field c.args.number ≡ true = sym c.names_field.ensures ∙ c.if-names_field.true in
+    rw e c.write_numbers.ensures
+
+pub write_numbers-requires-2 : goal.write_numbers-requires-2
+unfolding refused_line
+write_numbers-requires-2 c =
+    let a = c.args in
+    let e : names_field a.number ≡ false = sym c.names_field.ensures ∙ c.if-names_field.false in
+    rw e at (refused-fits-256 a.number a.place a.field)
 
 pub returns : goal.returns
 unfolding refused_line
 returns c =
-    let last = rw c.names_field-named.ensures at c.last_field-last.ensures in
-    built-written (refused-fits-256 c.args.number c.args.place c.args.field)
-    (last ▹ c.prepend_field-after.ensures ▹ c.prepend_field-first.ensures ▹ c.prepend_name-at.ensures)
-    c.write_line.ensures
+    let e : names_field c.args.number ≡ false = sym c.names_field.ensures ∙ c.if-names_field.false in
+    rw e c.write_numbers-2.ensures

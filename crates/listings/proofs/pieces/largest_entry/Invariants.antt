@@ -1,12 +1,7 @@
--- `listings::pieces::largest_entry` meets its contract: the largest from i on is found.
-use Prim.Native.Nat.{◌≤◌}
-use lib.ListN.{length, drop}
-use mathlib.Core.Path.{◌≡◌}
+-- `listings::pieces::largest_entry` meets its contract: the largest before an entry, and the largest from it on.
+use Rattle.std.proofs.Common.{◌≡◌, drop, max}
 use Rattle.listings.specs.Lines.{largest}
 use Rattle.listings.proofs.pieces.largest_entry.Given as goal
 
-abbrev pub invariant-loop-i : goal.invariant-loop-i
-invariant-loop-i l = (l.i ≤ length l.entries) × (l.most ≡ largest (drop l.i l.entries))
-
-abbrev pub decreases-loop-i : goal.decreases-loop-i
-decreases-loop-i l = l.i
+abbrev pub invariant-loop-entry : goal.invariant-loop-entry
+invariant-loop-entry l = max l.most (largest (drop l.entry-index l.entries)) ≡ largest l.entries

@@ -8,14 +8,8 @@ use Rattle.listings.proofs.pieces.prepend_entries.Goals as goal
 pub loop-i-init : goal.loop-i-init
 loop-i-init c = (omega arith, λ d end p. rw (drop-length c.args.entries.now) p)
 
-pub overflow_sub-i : goal.overflow_sub-i
-overflow_sub-i c = omega arith
-
 pub bounds-entries-i : goal.bounds-entries-i
 bounds-entries-i c = omega arith
-
-pub loop-i-smaller : goal.loop-i-smaller
-loop-i-smaller c = omega arith
 
 pub loop-i-preserved : goal.loop-i-preserved
 loop-i-preserved c =

@@ -11,6 +11,3 @@ abbrev pub invariant-loop-i : goal.invariant-loop-i
 invariant-loop-i l = (l.i ≤ length l.entries)
     × ((d : List ℕ) (end : ℕ) → Prepends d end (10 ∷ []) l.initial.line l.initial.at
     → Prepends d end (following (map decimal (drop l.i l.entries))) l.line l.at)
-
-abbrev pub decreases-loop-i : goal.decreases-loop-i
-decreases-loop-i l = l.i

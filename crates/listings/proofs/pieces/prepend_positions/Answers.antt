@@ -8,12 +8,6 @@ use Rattle.listings.proofs.pieces.prepend_positions.Goals as goal
 pub loop-i-init : goal.loop-i-init
 loop-i-init c = (omega arith, positions-start _ _ c.args.word c.args.n)
 
-pub overflow_sub-i : goal.overflow_sub-i
-overflow_sub-i c = omega arith
-
-pub loop-i-smaller : goal.loop-i-smaller
-loop-i-smaller c = omega arith
-
 pub loop-i-preserved : goal.loop-i-preserved
 loop-i-preserved c =
     let l = c.loop-i in

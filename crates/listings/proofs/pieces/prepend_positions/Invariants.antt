@@ -7,6 +7,3 @@ use Rattle.listings.proofs.pieces.prepend_positions.Given as goal
 
 abbrev pub invariant-loop-i : goal.invariant-loop-i
 invariant-loop-i l = (l.i ≤ l.n) × Prepends l.initial.line l.end (drop l.i (positions l.word 0 l.n)) l.line l.at
-
-abbrev pub decreases-loop-i : goal.decreases-loop-i
-decreases-loop-i l = l.i
