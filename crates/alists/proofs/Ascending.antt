@@ -135,7 +135,7 @@ pub padded-known : (k : ℕ) (xs : List ℕ) → k ≤ length xs → zeros_only 
 padded-known zero [] h z = refl
 padded-known zero (x ∷ xs) h z = go (eqb x 0) refl z (padded-known zero xs zero-le)
   where
-    go : (t : Bool) → eqb x 0 ≡ t → cond t (zeros_only xs) false ≡ true → (zeros_only xs ≡ true → padded (length xs) [] ≡ xs)
+    go : (t : Bool) → eqb x 0 ≡ t → (t && zeros_only xs) ≡ true → (zeros_only xs ≡ true → padded (length xs) [] ≡ xs)
         → (0 ∷ padded (length xs) []) ≡ (x ∷ xs)
     go true q d r = let n = eqb-true x 0 q in rw (n, r d)
     go false q d r = absurd (let z : ◌≡◌ {A = ℕ} 0 1 = cc in omega arith)

@@ -1,4 +1,7 @@
 -- The two calls one after the other: what is written and read, and what is read and written.
+use Rattle.std.proofs.Common.{Err, Ok, Result}
+use Rattle.alists.specs.Made.{matrix_of}
+use Rattle.alists.specs.declared.Matrix.{Matrix}
 use lib.ListN.{drop, get_or, length, replicate, take}
 use lib.Seq.{take-append_seam}
 use mathlib.Core.List.{◌++◌, List}
@@ -14,15 +17,10 @@ use Rattle.alists.proofs.ReadsBack.{written-reads-back}
 use Rattle.alists.proofs.Replies.{as_line}
 use Rattle.alists.specs.Accepted.{Sized}
 use Rattle.alists.specs.Calls.{Answers, Reads, WritesAlist, write_conditions}
-use Rattle.alists.specs.declared.Alist.{Alist}
-use Rattle.alists.specs.declared.Alist.TheVariants.{Matrix}
 use Rattle.alists.specs.OwnForm.{OwnForm}
 use Rattle.alists.specs.Reading.{Reading, fault_in, matrix, reading}
 use Rattle.alists.specs.Text.{alist_text}
-use Rattle.alists.specs.Working.{FirstBeyond}
 use Rattle.listings.proofs.Conditions.{fits-room}
-use Rattle.listings.specs.declared.Written.{Written}
-use Rattle.listings.specs.declared.Written.TheVariants.{Bytes}
 use Rattle.plates.specs.declared.Refusal.{Refusal}
 use Rattle.plates.specs.declared.Refusal.TheVariants as R
 use Rattle.plates.specs.Prepare.{RowOver}
@@ -32,33 +30,41 @@ use Rattle.plates.specs.Refusals.{Passes}
 
 -- a matrix of such sizes is written where there is room
 sized-written : (n : ℕ) (rows room : List ℕ) → Sized n rows → length (alist_text n rows) ≤ length room
-    → WritesAlist n rows room (Bytes (length (alist_text n rows))) (alist_text n rows ++ drop (length (alist_text n rows)) room)
+    → WritesAlist n rows room (Ok (length (alist_text n rows))) (alist_text n rows ++ drop (length (alist_text n rows)) room)
 sized-written n rows room z h =
     let a = z.least in
     let b = z.some in
-    let f : FirstBeyond n rows (length rows) = record { before = z.below; within = omega arith; there = λ l. absurd (omega (arith, l)) } in
-    as_line n rows room (λ e. omega (arith, e, a)) z.most z.few f (omega arith) (λ e. omega (arith, e, b)) (fits-room (alist_text n rows) room h)
+    as_line n rows room (λ e. omega (arith, e, a)) z.most z.few z.below (λ e. omega (arith, e, b)) (fits-room (alist_text n rows) room h)
+
+-- the sizes in a reply; 0 where it is refused
+abbrev columns_in : Result Matrix Refusal → ℕ
+columns_in (Ok m) = m.n
+columns_in (Err q) = 0
+
+abbrev rows_in : Result Matrix Refusal → ℕ
+rows_in (Ok m) = m.count
+rows_in (Err q) = 0
 
 -- what a reply with a matrix means
 record MatrixRead (text : List ℕ) (n count : ℕ) (table' : List ℕ) : Type 0 where
   pub is : reading text ≡ matrix n (take count table')
 
-matrix-read : (text table : List ℕ) (n count : ℕ) (table' : List ℕ) → Reads text table (Matrix n count) table' → MatrixRead text n count table'
+matrix-read : (text table : List ℕ) (n count : ℕ) (table' : List ℕ) → Reads text table (Ok (matrix_of n count)) table' → MatrixRead text n count table'
 matrix-read text table n count table' x = go (reading text) refl x
   where
-    go : (q : Reading) → reading text ≡ q → Answers q table (Matrix n count) table' → MatrixRead text n count table'
+    go : (q : Reading) → reading text ≡ q → Answers q table (Ok (matrix_of n count)) table' → MatrixRead text n count table'
     go (matrix k rows) d y =
         let r = y.replies in
-        let a : n ≡ k = cc in
-        let b : count ≡ length rows = cc in
+        let a : n ≡ k = ap columns_in r in
+        let b : count ≡ length rows = ap rows_in r in
         let t : take count table' ≡ rows = rw (b, y.leaves) (take-append_seam rows (replicate (64 - length rows) 0)) in
         record { is = d ∙ rw (a, t) }
     go (fault_in l) d y = absurd (let r = y.replies in let z : ◌≡◌ {A = ℕ} 0 1 = cc in omega arith)
 
 -- a text in our form that is read as a matrix and written, with room for it, keeps its bytes
-pub read-and-written : (text table : List ℕ) (n count : ℕ) (table' room : List ℕ) {r : Written} {room' : List ℕ} → OwnForm text
-    → Reads text table (Matrix n count) table' → length text ≤ length room → WritesAlist n (take count table') room r room'
-    → (r ≡ Bytes (length text)) × (room' ≡ text ++ drop (length text) room)
+pub read-and-written : (text table : List ℕ) (n count : ℕ) (table' room : List ℕ) {r : Result ℕ Refusal} {room' : List ℕ} → OwnForm text
+    → Reads text table (Ok (matrix_of n count)) table' → length text ≤ length room → WritesAlist n (take count table') room r room'
+    → (r ≡ Ok (length text)) × (room' ≡ text ++ drop (length text) room)
 read-and-written text table n count table' room {r} {room'} f x h w =
     let e = (matrix-read text table n count table' x).is in
     let k = own-form-keeps text n (take count table') f e in
@@ -107,9 +113,9 @@ written-sized n rows room p = record {
     short (no h) = omega (arith, h)
 
 -- a matrix that is written, and its text read, is the same matrix
-pub written-and-read : (n : ℕ) (rows room : List ℕ) (size : ℕ) (room' table : List ℕ) {r : Alist} {table' : List ℕ}
-    → WritesAlist n rows room (Bytes size) room'
-    → Reads (take size room') table r table' → (r ≡ Matrix n (length rows)) × (table' ≡ rows ++ replicate (64 - length rows) 0)
+pub written-and-read : (n : ℕ) (rows room : List ℕ) (size : ℕ) (room' table : List ℕ) {r : Result Matrix Refusal} {table' : List ℕ}
+    → WritesAlist n rows room (Ok size) room'
+    → Reads (take size room') table r table' → (r ≡ Ok (matrix_of n (length rows))) × (table' ≡ rows ++ replicate (64 - length rows) 0)
 written-and-read n rows room size room' table {r} {table'} w x =
     let p = w.reply in
     let t : take size room' ≡ alist_text n rows = rw (p.1, p.2) (take-append_seam (alist_text n rows) (drop (length (alist_text n rows)) room)) in

@@ -1,5 +1,7 @@
 -- The lines of a text judged one after the other: what each reply means.
-use borrow.Author.Tests.{eq-eqb, le-leb, lt-leb, ne_eqb}
+use Rattle.alists.specs.Made.{matrix_of}
+use borrow.Author.Tests.{eq-eqb, le-leb, lt-leb}
+use lib.Dec.{eqb}
 use lib.ListN.{drop, get_or, length, length-replicate, replicate}
 use lib.Seq.{sets, sets-eq}
 use mathlib.Core.Bool.{Bool, cond, false, true}
@@ -10,11 +12,11 @@ use Prim.Native.Nat.{◌+◌, ◌-◌, ◌<◌, suc, ℕ, ◌≤◌}
 use Rattle.alists.proofs.ListsPut.{drop-zeros}
 use Rattle.alists.proofs.Places.{done, here}
 use Rattle.alists.specs.Calls.{Answers}
-use Rattle.alists.specs.declared.Alist.TheVariants.{Matrix, Refused}
 use Rattle.alists.specs.Lines.{Line, faulty, line_of, reads}
 use Rattle.alists.specs.Lists.{largest}
 use Rattle.alists.specs.Reading.{Listed, Lists, Reading, fault_in, faulty_at, in_size, list_at, listed, listed_on, lists, lists_from, on_column_weights, on_columns, on_most, on_row_weights, on_rows, onto, reading, shows, unlisted}
-use Rattle.alists.specs.Working.{fault_of, laid, laid_from}
+use Rattle.std.proofs.Common.{Err, Ok}
+use Rattle.alists.specs.Working.{laid_from, met}
 use Rattle.plates.specs.declared.Refusal.TheVariants.{AlistFault}
 
 -- ---- the lists that a table holds
@@ -48,26 +50,27 @@ lists-long most size seen i [] s = refl
 lists-long most size seen i (w ∷ ws) s =
     listed-long (length ws) (list_at most size w s) seen i (lists_from most size seen (suc i) ws) (λ t. lists-long most size seen (suc i) ws t)
 
-words-in : (l : Lists) (n : ℕ) → Long n l → (table' s : List ℕ) → laid_from (replicate 64 0) 0 l ≡ laid table' s → WordsRead l n table' s
+words-in : (l : Lists) (n : ℕ) → Long n l → (table' s : List ℕ) → laid_from (replicate 64 0) 0 l ≡ Ok (table', s) → WordsRead l n table' s
 words-in (lists ws t) n h table' s e =
-    let a : sets (replicate 64 0) 0 ws ≡ table' = cc in
-    let b : t ≡ s = cc in
+    let p : ◌≡◌ {A = List ℕ × List ℕ} (sets (replicate 64 0) 0 ws, t) (table', s) = cc in
+    let a : sets (replicate 64 0) 0 ws ≡ table' = ap (λ (q : List ℕ × List ℕ). q.0) p in
+    let b : t ≡ s = ap (λ (q : List ℕ × List ℕ). q.1) p in
     record { words = ws; is = rw b; stands = sym a; long = h }
 words-in (faulty_at i) n h table' s e = absurd (let z : ◌≡◌ {A = ℕ} 0 1 = cc in omega arith)
 
 -- so are a text's lists, where reading them filled a table of zeros
 pub words-read : (most size : ℕ) (seen ws text : List ℕ) {table' s : List ℕ}
-    → laid_from (replicate 64 0) 0 (lists_from most size seen 0 ws text) ≡ laid table' s → WordsRead (lists_from most size seen 0 ws text) (length ws) table' s
+    → laid_from (replicate 64 0) 0 (lists_from most size seen 0 ws text) ≡ Ok (table', s) → WordsRead (lists_from most size seen 0 ws text) (length ws) table' s
 words-read most size seen ws text {table'} {s} e =
     words-in (lists_from most size seen 0 ws text) (length ws) (lists-long most size seen 0 ws text) table' s e
 
-pub fault-read : (l : Lists) (table : List ℕ) (i : ℕ) → laid_from table 0 l ≡ fault_of i → l ≡ faulty_at i
+pub fault-read : (l : Lists) (table : List ℕ) (i : ℕ) → laid_from table 0 l ≡ Err i → l ≡ faulty_at i
 fault-read (lists ws t) table i e = absurd (let z : ◌≡◌ {A = ℕ} 0 1 = cc in omega arith)
 fault-read (faulty_at j) table i e = let a : j ≡ i = cc in rw a
 
 -- ---- the replies
 
-pub answer-fault : {r : Reading} (l : ℕ) (table : List ℕ) → r ≡ fault_in l → Answers r table (Refused (AlistFault l)) table
+pub answer-fault : {r : Reading} (l : ℕ) (table : List ℕ) → r ≡ fault_in l → Answers r table (Err (AlistFault l)) table
 answer-fault l table e = rw e (record { replies = refl; leaves = refl })
 
 module _ (n : ℕ) {l : Lists} {count : ℕ} {table' : List ℕ} (text : List ℕ) (next : ℕ) (w : WordsRead l count table' (drop next text)) where
@@ -76,7 +79,7 @@ module _ (n : ℕ) {l : Lists} {count : ℕ} {table' : List ℕ} (text : List �
   rows-extra h = let g = w.long in rw (w.is, here text next h, g)
 
   -- nothing does
-  pub rows-done : count ≤ 64 → length text ≤ next → (table : List ℕ) → Answers (on_rows n l) table (Matrix n count) table'
+  pub rows-done : count ≤ 64 → length text ≤ next → (table : List ℕ) → Answers (on_rows n l) table (Ok (matrix_of n count)) table'
   rows-done f h table =
       let g = w.long in
       let d : sets (replicate 64 0) 0 w.words ≡ w.words ++ drop (0 + length w.words) (replicate 64 0) =
@@ -89,30 +92,30 @@ module _ (n : ℕ) {l : Lists} {count : ℕ} {table' : List ℕ} (text : List �
 
 module _ (table text : List ℕ) where
   -- the first line is faulty
-  pub sizes-faulty : line_of 2 text ≡ faulty → Answers (reading text) table (Refused (AlistFault 1)) table
+  pub sizes-faulty : line_of 2 text ≡ faulty → Answers (reading text) table (Err (AlistFault 1)) table
   unfolding reading
   sizes-faulty e = rw e (record { replies = refl; leaves = refl })
 
   -- sizes that are none, in the first or the second place
-  pub size_none : (vs s : List ℕ) → line_of 2 text ≡ reads vs s → in_size (get_or vs 0 0) ≡ false → Answers (reading text) table (Refused (AlistFault 1)) table
+  pub size_none : (vs s : List ℕ) → line_of 2 text ≡ reads vs s → in_size (get_or vs 0 0) ≡ false → Answers (reading text) table (Err (AlistFault 1)) table
   unfolding reading
   size_none vs s e f = rw (e, f) (record { replies = refl; leaves = refl })
 
   pub size-none-second : (vs s : List ℕ) → line_of 2 text ≡ reads vs s → in_size (get_or vs 0 0) ≡ true → in_size (get_or vs 1 0) ≡ false
-      → Answers (reading text) table (Refused (AlistFault 1)) table
+      → Answers (reading text) table (Err (AlistFault 1)) table
   unfolding reading
   size-none-second vs s e f g = rw (e, f, g) (record { replies = refl; leaves = refl })
 
 module _ (table : List ℕ) where
-  pub most-faulty : (n m : ℕ) {l : Line} → l ≡ faulty → Answers (on_most n m l) table (Refused (AlistFault 2)) table
+  pub most-faulty : (n m : ℕ) {l : Line} → l ≡ faulty → Answers (on_most n m l) table (Err (AlistFault 2)) table
   most-faulty n m e = rw e (record { replies = refl; leaves = refl })
 
   -- largest weights that do not fit
-  pub tall-over : (n m : ℕ) {l : Line} (vs s : List ℕ) → l ≡ reads vs s → m < get_or vs 0 0 → Answers (on_most n m l) table (Refused (AlistFault 2)) table
+  pub tall-over : (n m : ℕ) {l : Line} (vs s : List ℕ) → l ≡ reads vs s → m < get_or vs 0 0 → Answers (on_most n m l) table (Err (AlistFault 2)) table
   tall-over n m vs s e h = rw (e, lt-leb (get_or vs 0 0) m h) (record { replies = refl; leaves = refl })
 
   pub wide-over : (n m : ℕ) {l : Line} (vs s : List ℕ) → l ≡ reads vs s → get_or vs 0 0 ≤ m → n < get_or vs 1 0
-      → Answers (on_most n m l) table (Refused (AlistFault 2)) table
+      → Answers (on_most n m l) table (Err (AlistFault 2)) table
   wide-over n m vs s e h k = rw (e, le-leb (get_or vs 0 0) m h, lt-leb (get_or vs 1 0) n k) (record { replies = refl; leaves = refl })
 
 -- lines that are good
@@ -125,24 +128,27 @@ pub most-good : (n m : ℕ) {l : Line} (vs s : List ℕ) → l ≡ reads vs s �
     → on_most n m l ≡ on_column_weights n m (get_or vs 0 0) (get_or vs 1 0) (line_of n s)
 most-good n m vs s e h k = rw (e, le-leb (get_or vs 0 0) m h, le-leb (get_or vs 1 0) n k)
 
-module _ (n m tall wide : ℕ) {l : Line} where
-  pub heights-faulty : l ≡ faulty → on_column_weights n m tall wide l ≡ fault_in 3
-  heights-faulty e = rw e
+-- weights whose largest is not met are as a faulty line
+unmet : (b : Bool) (ws s : List ℕ) (x y : Reading) → cond b (reads ws s) faulty ≡ faulty → cond b x y ≡ y
+unmet true ws s x y e = absurd (let z : ◌≡◌ {A = ℕ} 0 1 = cc in omega arith)
+unmet false ws s x y e = refl
 
-  pub heights-unmet : (ws s : List ℕ) → l ≡ reads ws s → (largest ws ≡ tall → ⊥) → on_column_weights n m tall wide l ≡ fault_in 3
-  heights-unmet ws s e h = rw (e, ne_eqb (largest ws) tall h)
+module _ (n m tall wide : ℕ) where
+  pub heights-lost : (l : Line) → met tall l ≡ faulty → on_column_weights n m tall wide l ≡ fault_in 3
+  heights-lost (reads ws s) e = unmet (eqb (largest ws) tall) ws s (on_row_weights n m tall wide ws (line_of m s)) (fault_in 3) e
+  heights-lost faulty e = refl
 
-  pub heights-met : (ws s : List ℕ) → l ≡ reads ws s → largest ws ≡ tall → on_column_weights n m tall wide l ≡ on_row_weights n m tall wide ws (line_of m s)
+  pub heights-met : {l : Line} (ws s : List ℕ) → l ≡ reads ws s → largest ws ≡ tall
+      → on_column_weights n m tall wide l ≡ on_row_weights n m tall wide ws (line_of m s)
   heights-met ws s e h = rw (e, eq-eqb (largest ws) tall h)
 
   module _ (heights : List ℕ) where
-    pub widths-faulty : l ≡ faulty → on_row_weights n m tall wide heights l ≡ fault_in 4
-    widths-faulty e = rw e
+    pub widths-lost : (l : Line) → met wide l ≡ faulty → on_row_weights n m tall wide heights l ≡ fault_in 4
+    widths-lost (reads ws s) e =
+        unmet (eqb (largest ws) wide) ws s (on_columns n wide ws (lists_from tall m [] 0 heights s)) (fault_in 4) e
+    widths-lost faulty e = refl
 
-    pub widths-unmet : (ws s : List ℕ) → l ≡ reads ws s → (largest ws ≡ wide → ⊥) → on_row_weights n m tall wide heights l ≡ fault_in 4
-    widths-unmet ws s e h = rw (e, ne_eqb (largest ws) wide h)
-
-    pub widths-met : (ws s : List ℕ) → l ≡ reads ws s → largest ws ≡ wide
+    pub widths-met : {l : Line} (ws s : List ℕ) → l ≡ reads ws s → largest ws ≡ wide
         → on_row_weights n m tall wide heights l ≡ on_columns n wide ws (lists_from tall m [] 0 heights s)
     widths-met ws s e h = rw (e, eq-eqb (largest ws) wide h)
 

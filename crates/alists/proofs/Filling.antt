@@ -5,7 +5,6 @@ use lib.Seq.{sets}
 use mathlib.Core.Bool.{Bool, false, true}
 use mathlib.Core.List.{List, [], map, ◌∷◌}
 use mathlib.Core.Path.{◌≡◌, refl}
-use native.Mathlib.Decide.{dec_lt}
 use native.Mathlib.Nat.{lt_of_lt_of_le, mul-le-mul_right, pow-le-pow_right, pow-suc, suc-mul, zero-add}
 use native.Mathlib.Numerals.{add-one}
 use native.Mathlib.Omega.{arith}
@@ -101,13 +100,3 @@ listing-end {w} {table} {count} {i} h l =
     let k : 64 - i ≡ 0 = omega arith in
     let n = rw k at l.long in
     (rw k at l.stands, omega (arith, n))
-
--- ---- rows below 2 ^ n
-
--- one row more
-pub below_on : (rows : List ℕ) (n i : ℕ) → ((j : ℕ) → j < i → get_or rows j 0 < 2 ^ n) → get_or rows i 0 < 2 ^ n → (j : ℕ) → j < i + 1 → get_or rows j 0 < 2 ^ n
-below_on rows n i before here' j h = go (dec_lt j i)
-  where
-    go : Dec (j < i) → get_or rows j 0 < 2 ^ n
-    go (yes l) = before j l
-    go (no l) = let e : j ≡ i = omega (arith, h, l) in rw e here'

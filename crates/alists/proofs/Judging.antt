@@ -12,7 +12,8 @@ use Rattle.alists.proofs.Places.{done, here, tail_all}
 use Rattle.alists.specs.Lines.{faulty, line_of, reads}
 use Rattle.alists.specs.Lists.{column}
 use Rattle.alists.specs.Reading.{Lists, faulty_at, list_at, listed, lists, lists_from, ones_of, onto, shows, unlisted, word, word_of, wrong, zeros_only}
-use Rattle.alists.specs.Working.{Laid, fault_of, laid, laid_from}
+use Rattle.std.proofs.Common.{Err, Ok}
+use Rattle.alists.specs.Working.{Laid, laid_from}
 
 -- ---- one list
 
@@ -27,11 +28,7 @@ module _ (size weight : ℕ) (xs : List ℕ) where
       → word_of size weight xs ≡ ones_of size 0 (take weight xs)
   word-padded h e = let z = rw (tail_all xs weight) at e in rw (le-leb weight (length xs) h, z)
 
--- no column is known
-pub shows-unknown : (seen : List ℕ) (i w : ℕ) → length seen ≡ 0 → shows seen i w ≡ true
-shows-unknown [] i w e = refl
-shows-unknown (c ∷ cs) i w e = absurd (omega arith)
-
+-- the columns are known
 pub shows-known : (seen : List ℕ) (i w : ℕ) → 0 < length seen → shows seen i w ≡ eqb w (column seen i)
 shows-known [] i w h = absurd (omega arith)
 shows-known (c ∷ cs) i w h = refl
@@ -70,15 +67,15 @@ module _ {most size : ℕ} {seen weights text : List ℕ} {at i : ℕ} {table : 
 
   -- a list that does not show the columns
   pub laying-hidden : (w next : ℕ) → list_at most size (get_or weights i 0) (drop at text) ≡ listed w (drop next text) → shows seen i w ≡ false
-      → whole ≡ fault_of i
+      → whole ≡ Err i
   laying-hidden w next e t = sym l.stands ∙ rw (here weights i h, e, t)
 
   -- a faulty one
-  pub laying-bad : list_at most size (get_or weights i 0) (drop at text) ≡ unlisted → whole ≡ fault_of i
+  pub laying-bad : list_at most size (get_or weights i 0) (drop at text) ≡ unlisted → whole ≡ Err i
   laying-bad e = sym l.stands ∙ rw (here weights i h, e)
 
 pub laying-end : {most size : ℕ} {seen weights text : List ℕ} {at i : ℕ} {table : List ℕ} {whole : Laid} {size₀ : ℕ} → length weights ≤ i
-    → Laying most size seen weights text at i table whole size₀ → whole ≡ laid table (drop at text)
+    → Laying most size seen weights text at i table whole size₀ → whole ≡ Ok (table, drop at text)
 laying-end {weights = weights} {i = i} h l = sym l.stands ∙ rw (done weights i h)
 
 -- ---- the list at a place

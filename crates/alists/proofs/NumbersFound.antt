@@ -5,10 +5,11 @@ use lib.ListN.{drop, get_or, length}
 use mathlib.Core.Bool.{Bool, ◌&&◌, false, true}
 use mathlib.Core.List.{List, []}
 use mathlib.Core.Path.{◌≡◌, refl}
+use native.Mathlib.Decide.{dec_lt}
+use native.Mathlib.Omega.{arith}
 use Prim.Native.Nat.{◌*◌, ◌+◌, ◌-◌, ◌<◌, ℕ, ◌≤◌}
 use Rattle.alists.proofs.Places.{done, here}
 use Rattle.alists.specs.Lines.{faulty, feed_of, found, is_digit, more_of, next_of, nothing, number_of, reads, skipped}
-use Rattle.alists.specs.Reading.{zeros_only}
 
 pub both : (a b : Bool) → (a && b) ≡ true → (a ≡ true) × (b ≡ true)
 both true b e = (refl, e)
@@ -54,6 +55,21 @@ module _ (s : List ℕ) (at : ℕ) where
   pub number-other : at < length s → is_digit (get_or s at 0) ≡ false → number_of (drop at s) ≡ nothing
   number-other h e = rw (here s at h, e)
 
+  -- no digit stands there
+  pub number-none : (at < length s → is_digit (get_or s at 0) ≡ false) → number_of (drop at s) ≡ nothing
+  number-none f = go (dec_lt at (length s))
+    where
+      go : Dec (at < length s) → number_of (drop at s) ≡ nothing
+      go (yes h) = number-other h (f h)
+      go (no h) = number-end (omega (arith, h))
+
+  pub more-none : (d : ℕ) → (at < length s → is_digit (get_or s at 0) ≡ false) → more_of d (drop at s) ≡ found d (drop at s)
+  more-none d f = go (dec_lt at (length s))
+    where
+      go : Dec (at < length s) → more_of d (drop at s) ≡ found d (drop at s)
+      go (yes h) = more-other d h (f h)
+      go (no h) = more-end d (omega (arith, h))
+
   pub number-here : at < length s → is_digit (get_or s at 0) ≡ true → number_of (drop at s) ≡ more_of (get_or s at 0 - 48) (drop (at + 1) s)
   number-here h e = rw (here s at h, e)
 
@@ -76,14 +92,3 @@ module _ (s : List ℕ) (at : ℕ) where
 
   pub next_here : at < length s → get_or s at 0 ≡ 32 → next_of (drop at s) ≡ number_of (skipped (drop (at + 1) s))
   next_here h e = rw (here s at h, eq-eqb (get_or s at 0) 32 e)
-
-  -- ---- zeros
-
-  pub zeros-end : length s ≤ at → zeros_only (drop at s) ≡ true
-  zeros-end h = rw (done s at h)
-
-  pub zeros-other : at < length s → (get_or s at 0 ≡ 0 → ⊥) → zeros_only (drop at s) ≡ false
-  zeros-other h e = rw (here s at h, ne_eqb (get_or s at 0) 0 e)
-
-  pub zeros-here : at < length s → get_or s at 0 ≡ 0 → zeros_only (drop at s) ≡ zeros_only (drop (at + 1) s)
-  zeros-here h e = rw (here s at h, eq-eqb (get_or s at 0) 0 e)

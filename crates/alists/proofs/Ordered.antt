@@ -137,7 +137,7 @@ inserted-zeros : (x : ℕ) (ys zs : List ℕ) → zeros_only zs ≡ true → ins
 inserted-zeros x [] [] z = refl
 inserted-zeros x [] (y ∷ zs) z = go (eqb y 0) z
   where
-    go : (t : Bool) → cond t (zeros_only zs) false ≡ true → cond t (x ∷ y ∷ zs) (cond (ltb x y) (x ∷ y ∷ zs) (y ∷ inserted x zs)) ≡ x ∷ y ∷ zs
+    go : (t : Bool) → (t && zeros_only zs) ≡ true → cond t (x ∷ y ∷ zs) (cond (ltb x y) (x ∷ y ∷ zs) (y ∷ inserted x zs)) ≡ x ∷ y ∷ zs
     go true e = refl
     go false e = absurd (let f : ◌≡◌ {A = ℕ} 0 1 = cc in omega arith)
 inserted-zeros x (y ∷ ys) zs z = go (eqb y 0) (ltb x y) (inserted-zeros x ys zs z)
@@ -154,7 +154,7 @@ ordered-zeros : (zs : List ℕ) → zeros_only zs ≡ true → ordered zs ≡ zs
 ordered-zeros [] z = refl
 ordered-zeros (x ∷ zs) z = go (eqb x 0) z
   where
-    go : (t : Bool) → cond t (zeros_only zs) false ≡ true → cond t (x ∷ zs) (inserted x (ordered zs)) ≡ x ∷ zs
+    go : (t : Bool) → (t && zeros_only zs) ≡ true → cond t (x ∷ zs) (inserted x (ordered zs)) ≡ x ∷ zs
     go true e = refl
     go false e = absurd (let f : ◌≡◌ {A = ℕ} 0 1 = cc in omega arith)
 

@@ -1,7 +1,7 @@
 -- A text put into a room piece by piece.
 use borrow.Author.Tests.{le-ltb, lt-ltb}
 use lib.ListN.{drop, get_or, length, length-append, set}
-use lib.Seq.{length-sets, set_out, sets}
+use lib.Seq.{length-sets, sets}
 use mathlib.Core.List.{◌++◌, List, [], map, ◌∷◌}
 use mathlib.Core.Path.{◌≡◌, ap, refl, sym, ◌∙◌}
 use native.Mathlib.Omega.{arith}
@@ -17,13 +17,6 @@ sets-append [] b room at = let e : at + 0 ≡ at = omega arith in rw e
 sets-append (x ∷ a) b room at =
     let e : at + suc (length a) ≡ suc at + length a = omega arith in
     sets-append a b (set room at x) (suc at) ∙ rw e
-
--- a byte within the room, and one behind it
-pub byte_put : (room : List ℕ) (at x : ℕ) → Puts room at (x ∷ []) (set room at x) (at + 1)
-byte_put room at x = record { stands = refl; next = omega arith }
-
-pub byte-dropped : (room : List ℕ) (at x : ℕ) → length room ≤ at → Puts room at (x ∷ []) room (at + 1)
-byte-dropped room at x h = record { stands = sym (set_out room at x h); next = omega arith }
 
 pub puts-size : {room text room' : List ℕ} {at r : ℕ} → Puts room at text room' r → length room' ≡ length room
 puts-size {room} {text} {room'} {at} {r} p = ap length p.stands ∙ length-sets room at text

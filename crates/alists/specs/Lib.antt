@@ -4,5 +4,6 @@ pub mod Lines
 pub mod Reading
 pub mod OwnForm
 pub mod Accepted
+pub mod Made
 pub mod Calls
 pub mod Working

@@ -1,5 +1,6 @@
 -- Reading a matrix: each line is judged against those above it, and the first that is faulty, missing or extra is told.
 use Rattle.std.specs.Prelude.{eqb, leb, drop, get_or, length, take, Bool, ◌&&◌, cond, false, true, List, [], ◌∷◌, ◌+◌, ◌-◌, ◌^◌, suc, ℕ}
+use Rattle.std.specs.List.{list_all}
 use Rattle.alists.specs.Lines.{Line, faulty, line_of, reads}
 use Rattle.alists.specs.Lists.{column, largest}
 use Rattle.words.specs.Word.{bit}
@@ -22,8 +23,7 @@ ones_of size used (x ∷ xs) = cond (fits size used x) (ones_of size (used + 2 ^
 
 -- zeros only
 abbrev pub zeros_only : List ℕ → Bool
-zeros_only [] = true
-zeros_only (x ∷ xs) = cond (eqb x 0) (zeros_only xs) false
+zeros_only xs = list_all (λ x. eqb x 0) xs
 
 -- a list has its weight: so many indices, then zeros
 abbrev pub word_of : ℕ → ℕ → List ℕ → Word

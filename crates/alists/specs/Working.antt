@@ -1,18 +1,9 @@
 -- What the functions within the crate promise.
-use Rattle.std.specs.Prelude.{eqb, drop, get_or, length, set, Bool, false, true, List, ◌≡◌, ◌+◌, ◌<◌, ◌^◌, suc, ℕ, ◌≤◌}
+use Rattle.std.specs.Prelude.{◌-◌, cond, Err, None, Ok, Option, Result, Some, eqb, drop, get_or, length, set, Bool, false, true, List, ◌≡◌, ◌+◌, ◌<◌, suc, ℕ, ◌≤◌}
 use Rattle.std.proofs.lemmas.List.Edits.{sets}
-use Rattle.alists.specs.declared.lists.WordFound.{WordFound}
-use Rattle.alists.specs.declared.lists.WordFound.TheVariants as J
-use Rattle.alists.specs.declared.lists.OneList.{OneList}
-use Rattle.alists.specs.declared.lists.OneList.TheVariants as O
-use Rattle.alists.specs.declared.lists.AllLists.{AllLists}
-use Rattle.alists.specs.declared.lists.AllLists.TheVariants as A
-use Rattle.alists.specs.declared.numbers.Number.{Number}
-use Rattle.alists.specs.declared.numbers.Number.TheVariants as N
-use Rattle.alists.specs.declared.numbers.LineEnd.{LineEnd}
-use Rattle.alists.specs.declared.numbers.LineEnd.TheVariants as L
-use Rattle.alists.specs.Lines.{Found, Line, faulty, found, nothing, reads, skipped}
-use Rattle.alists.specs.Lists.{indices, weight}
+use Rattle.alists.specs.declared.numbers.Taken.{Taken}
+use Rattle.alists.specs.Lines.{Found, Line, faulty, found, is_digit, nothing, reads, skipped}
+use Rattle.alists.specs.Lists.{indices, largest, weight}
 use Rattle.alists.specs.Reading.{Listed, Lists, Word, faulty_at, listed, lists, unlisted, word, wrong}
 use Rattle.words.specs.Word.{bit}
 
@@ -45,30 +36,29 @@ pub record FillsList (w : ℕ) (table table' : List ℕ) (r : ℕ) : Type 0 wher
   pub stands : table' ≡ sets table 0 (indices w)
   pub count : r ≡ weight w
 
--- the first row with a one at n or beyond, or the number of rows
-pub record FirstBeyond (n : ℕ) (rows : List ℕ) (r : ℕ) : Type 0 where
-  pub before : (j : ℕ) → j < r → get_or rows j 0 < 2 ^ n
-  pub within : r ≤ length rows
-  pub there : r < length rows → 2 ^ n ≤ get_or rows r 0
-
 -- ---- reading
 
+-- the digit at a place of a text, where one stands there
+abbrev pub DigitAs : List ℕ → ℕ → Option ℕ → Type 0
+DigitAs text at (Some d) = (at < length text) × (is_digit (get_or text at 0) ≡ true) × (d ≡ get_or text at 0 - 48) × (d < 10)
+DigitAs text at None = at < length text → is_digit (get_or text at 0) ≡ false
+
 -- a number found in a text: what stands after it is what stands from the next place on
-abbrev pub NumberAs : Found → List ℕ → Number → Type 0
-NumberAs f text (N.Is v next) = (f ≡ found v (drop next text)) × (next ≤ length text) × (v < 100)
-NumberAs f text N.Bad = f ≡ nothing
+abbrev pub NumberAs : Found → List ℕ → Option (Taken ℕ) → Type 0
+NumberAs f text (Some n) = (f ≡ found n.value (drop n.next text)) × (n.next ≤ length text) × (n.value < 100)
+NumberAs f text None = f ≡ nothing
 
 -- r is that number, or that there is none
-pub record ReadsNumber (f : Found) (text : List ℕ) (r : Number) : Type 0 where
+pub record ReadsNumber (f : Found) (text : List ℕ) (r : Option (Taken ℕ)) : Type 0 where
   pub is : NumberAs f text r
 
 -- the end of a line
-abbrev pub FeedAs : Line → List ℕ → List ℕ → LineEnd → Type 0
-FeedAs l values text (L.Next next) = (l ≡ reads values (drop next text)) × (next ≤ length text)
-FeedAs l values text L.Bad = l ≡ faulty
+abbrev pub FeedAs : Line → List ℕ → List ℕ → Option ℕ → Type 0
+FeedAs l values text (Some next) = (l ≡ reads values (drop next text)) × (next ≤ length text)
+FeedAs l values text None = l ≡ faulty
 
 -- a line whose numbers are the values
-pub record ReadsLine (l : Line) (values text : List ℕ) (r : LineEnd) : Type 0 where
+pub record ReadsLine (l : Line) (values text : List ℕ) (r : Option ℕ) : Type 0 where
   pub is : FeedAs l values text r
 
 -- what stands after spaces
@@ -77,59 +67,62 @@ pub record Skips (text : List ℕ) (at r : ℕ) : Type 0 where
   pub within : r ≤ length text
 
 -- the numbers of a line put into a table from a place on, with what stands after the line
-pub data Stored : Type 0 where
-  kept : List ℕ → List ℕ → Stored
-  lost : Stored
+abbrev pub Stored : Type 0
+Stored = Option (List ℕ × List ℕ)
+
+-- a line of weights, the largest of which is met
+abbrev pub met : ℕ → Line → Line
+met most (reads ws s) = cond (eqb (largest ws) most) (reads ws s) faulty
+met most faulty = faulty
 
 -- where the line is faulty nothing is said of the table
 abbrev pub stored : List ℕ → ℕ → Line → Stored
-stored table i (reads vs s) = kept (sets table i vs) s
-stored table i faulty = lost
+stored table i (reads vs s) = Some (sets table i vs, s)
+stored table i faulty = None
 
 -- the rest of a line, with its numbers in the table from a place on
-abbrev pub StoredAs : Stored → List ℕ → List ℕ → LineEnd → Type 0
-StoredAs l text table' (L.Next next) = (l ≡ kept table' (drop next text)) × (next ≤ length text)
-StoredAs l text table' L.Bad = l ≡ lost
+abbrev pub StoredAs : Stored → List ℕ → List ℕ → Option ℕ → Type 0
+StoredAs l text table' (Some next) = (l ≡ Some (table', drop next text)) × (next ≤ length text)
+StoredAs l text table' None = l ≡ None
 
 -- the table keeps its size
-pub record StoresLine (l : Stored) (text table : List ℕ) (r : LineEnd) (table' : List ℕ) : Type 0 where
+pub record StoresLine (l : Stored) (text table : List ℕ) (r : Option ℕ) (table' : List ℕ) : Type 0 where
   pub size : length table' ≡ length table
   pub is : StoredAs l text table' r
 
 -- the word of a list
-abbrev pub JudgedAs : Word → WordFound → Type 0
-JudgedAs w (J.Is v) = w ≡ word v
-JudgedAs w J.Bad = w ≡ wrong
+abbrev pub JudgedAs : Word → Option ℕ → Type 0
+JudgedAs w (Some v) = w ≡ word v
+JudgedAs w None = w ≡ wrong
 
 -- r is that word, or that the list is faulty
-pub record FindsWord (w : Word) (r : WordFound) : Type 0 where
+pub record FindsWord (w : Word) (r : Option ℕ) : Type 0 where
   pub is : JudgedAs w r
 
 -- the word of a list in a text
-abbrev pub ListedAs : Listed → List ℕ → OneList → Type 0
-ListedAs l text (O.Is v next) = (l ≡ listed v (drop next text)) × (next ≤ length text)
-ListedAs l text O.Bad = l ≡ unlisted
+abbrev pub ListedAs : Listed → List ℕ → Option (Taken ℕ) → Type 0
+ListedAs l text (Some n) = (l ≡ listed n.value (drop n.next text)) × (n.next ≤ length text)
+ListedAs l text None = l ≡ unlisted
 
 -- r is that word with the next place, or that the line is faulty
-pub record ReadsList (l : Listed) (text : List ℕ) (r : OneList) : Type 0 where
+pub record ReadsList (l : Listed) (text : List ℕ) (r : Option (Taken ℕ)) : Type 0 where
   pub is : ListedAs l text r
 
 -- the words of lists put into a table from a place on, with what stands after the lists, or the first list that is faulty
-pub data Laid : Type 0 where
-  laid : List ℕ → List ℕ → Laid
-  fault_of : ℕ → Laid
+abbrev pub Laid : Type 0
+Laid = Result (List ℕ × List ℕ) ℕ
 
 -- by what the lists are
 abbrev pub laid_from : List ℕ → ℕ → Lists → Laid
-laid_from table i (lists ws s) = laid (sets table i ws) s
-laid_from table i (faulty_at j) = fault_of j
+laid_from table i (lists ws s) = Ok (sets table i ws, s)
+laid_from table i (faulty_at j) = Err j
 
 -- what stands after them stands from the next place on
-abbrev pub ListsAs : Laid → ℕ → List ℕ → List ℕ → AllLists → Type 0
-ListsAs l count text table' (A.Next next) = (l ≡ laid table' (drop next text)) × (next ≤ length text)
-ListsAs l count text table' (A.Bad i) = (l ≡ fault_of i) × (i < count)
+abbrev pub ListsAs : Laid → ℕ → List ℕ → List ℕ → Result ℕ ℕ → Type 0
+ListsAs l count text table' (Ok next) = (l ≡ Ok (table', drop next text)) × (next ≤ length text)
+ListsAs l count text table' (Err i) = (l ≡ Err i) × (i < count)
 
 -- r is that place, or the faulty list
-pub record ReadsLists (l : Laid) (count : ℕ) (text table : List ℕ) (r : AllLists) (table' : List ℕ) : Type 0 where
+pub record ReadsLists (l : Laid) (count : ℕ) (text table : List ℕ) (r : Result ℕ ℕ) (table' : List ℕ) : Type 0 where
   pub size : length table' ≡ length table
   pub is : ListsAs l count text table' r

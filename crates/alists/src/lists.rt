@@ -3,106 +3,63 @@ ghost use Rattle.std.specs.Prelude.{◌+◌, ◌≤◌, drop, length, ◌≡◌}
 ghost use Rattle.alists.specs.Reading.{fits, list_at, lists_from, ones_of, shows, word_of, zeros_only};
 ghost use Rattle.alists.specs.Working.{FindsWord, ReadsList, ReadsLists, laid_from};
 
-use crate::matrix::column_at;
-use crate::numbers::{LineEnd, read_line};
-
-// A list's word, or that the list is faulty.
-#[derive(Clone, Copy)]
-pub enum WordFound {
-    Is(u64),
-    Bad,
-}
-
-// A list's word and the place after its line, or that the line is faulty.
-#[derive(Clone, Copy)]
-pub enum OneList {
-    Is { word: u64, next: usize },
-    Bad,
-}
-
-// The place after the last list, or the first list that is faulty.
-#[derive(Clone, Copy)]
-pub enum AllLists {
-    Next(usize),
-    Bad(usize),
-}
+use crate::columns::column_at;
+use crate::numbers::{Taken, read_line};
 
 // Whether a number is an index up to a size that has not been used.
 fn fits_index(size: usize, used: u64, x: usize) -> bool
     ensures { result ≡ fits size used x }
 {
-    if x == 0 {
-        return false;
-    }
-    if x <= size {
-        return words::bit_at(used, x - 1) == 0;
-    }
-    false
+    x != 0 && x <= size && words::bit_at(used, x - 1) == 0
 }
 
 // The word with a one at each index.
-fn ones_of(list: &[usize], size: usize) -> WordFound
+fn ones_of(list: &[usize], size: usize) -> Option<u64>
     requires { size ≤ 64 }
     ensures { FindsWord (ones_of size 0 list.now) result }
 {
     let mut used: u64 = 0;
-    let mut i = 0;
-    while i < list.len() {
-        let x = list[i];
-        if !fits_index(size, used, x) {
-            return WordFound::Bad;
+    for x in list {
+        if !fits_index(size, used, *x) {
+            return None;
         }
         used += 1 << (x - 1);
-        i += 1;
     }
-    WordFound::Is(used)
+    Some(used)
 }
 
 // Whether numbers are all zero.
 fn zeros_only(list: &[usize]) -> bool
     ensures { result ≡ zeros_only list.now }
 {
-    let mut i = 0;
-    while i < list.len() {
-        if list[i] != 0 {
-            return false;
-        }
-        i += 1;
-    }
-    true
+    list.iter().all(|x| *x == 0)
 }
 
 // The word of a list that has its weight.
-fn word_of(list: &[usize], weight: usize, size: usize) -> WordFound
+fn word_of(list: &[usize], weight: usize, size: usize) -> Option<u64>
     requires { size ≤ 64 }
     ensures { FindsWord (word_of size weight list.now) result }
 {
     if list.len() < weight {
-        return WordFound::Bad;
+        return None;
     }
     if !zeros_only(&list[weight..]) {
-        return WordFound::Bad;
+        return None;
     }
     ones_of(&list[..weight], size)
 }
 
-// The list at a place.
-fn list_at(text: &[u8], at: usize, most: usize, size: usize, weight: usize) -> OneList
+// The word of the list at a place.
+fn list_at(text: &[u8], at: usize, most: usize, size: usize, weight: usize) -> Option<Taken<u64>>
     requires at_in_bounds { at ≤ length text.now }
     requires most_bound { most ≤ 64 }
     requires size_bound { size ≤ 64 }
     ensures { ReadsList (list_at most size weight (drop at text.now)) text.now result }
 {
     let mut table = [0usize; 64];
-    let line = read_line(text, at, most, &mut table);
-    let LineEnd::Next(next) = line else {
-        return OneList::Bad;
-    };
-    let judged = word_of(&table[..most], weight, size);
-    let WordFound::Is(word) = judged else {
-        return OneList::Bad;
-    };
-    OneList::Is { word, next }
+    let next = read_line(text, at, most, &mut table)?;
+    let value = word_of(&table[..most], weight, size)?;
+    Some(Taken { value, next })
 }
 
 // Whether a row shows the columns' ones, where columns are known.
@@ -110,13 +67,10 @@ fn shows_columns(seen: &[u64], i: usize, word: u64) -> bool
     requires { length seen.now ≤ 64 }
     ensures { result ≡ shows seen.now i word }
 {
-    if seen.len() == 0 {
-        return true;
-    }
-    word == column_at(seen, i)
+    seen.is_empty() || word == column_at(seen, i)
 }
 
-// A list for each weight, their words into a table.
+// A list for each weight, their words into a table: the place after the last, or the first list that is faulty.
 pub fn lists_at(
     text: &[u8],
     from: usize,
@@ -125,7 +79,7 @@ pub fn lists_at(
     seen: &[u64],
     weights: &[usize],
     table: &mut [u64; 64],
-) -> AllLists
+) -> Result<usize, usize>
     requires from_in_bounds { from ≤ length text.now }
     requires most_bound { most ≤ 64 }
     requires size_bound { size ≤ 64 }
@@ -135,18 +89,15 @@ pub fn lists_at(
         (length weights.now) text.now table.old result table.new }
 {
     let mut at = from;
-    let mut i = 0;
-    while i < weights.len() {
-        let list = list_at(text, at, most, size, weights[i]);
-        let OneList::Is { word, next } = list else {
-            return AllLists::Bad(i);
+    for (i, weight) in weights.iter().enumerate() {
+        let Some(list) = list_at(text, at, most, size, *weight) else {
+            return Err(i);
         };
-        if !shows_columns(seen, i, word) {
-            return AllLists::Bad(i);
+        if !shows_columns(seen, i, list.value) {
+            return Err(i);
         }
-        table[i] = word;
-        at = next;
-        i += 1;
+        table[i] = list.value;
+        at = list.next;
     }
-    AllLists::Next(at)
+    Ok(at)
 }

@@ -5,7 +5,7 @@ ghost use Rattle.alists.specs.Lists.{list_of};
 ghost use Rattle.alists.specs.Text.{alist_text, decimal, line, matrix_text, text_of, weights};
 ghost use Rattle.alists.specs.Working.{Puts, Small};
 
-use crate::matrix;
+use crate::columns;
 
 // One byte.
 fn put_byte(room: &mut [u8], at: usize, byte: u8) -> usize
@@ -14,7 +14,6 @@ fn put_byte(room: &mut [u8], at: usize, byte: u8) -> usize
 {
     if at < room.len() {
         room[at] = byte;
-        return at + 1;
     }
     at + 1
 }
@@ -24,7 +23,7 @@ fn character(digit: usize) -> u8
     requires { digit < 10 }
     ensures { result ≡ 48 + digit }
 {
-    48 + digit as u8
+    b'0' + digit as u8
 }
 
 // A number below 100.
@@ -46,17 +45,15 @@ fn put_line(room: &mut [u8], at: usize, numbers: &[usize]) -> usize
     requires numbers_bound { at + length (line numbers.now) ≤ 32768 }
     ensures { Puts room.old at (line numbers.now) room.new result }
 {
-    if numbers.len() == 0 {
-        return put_byte(room, at, 10);
+    if numbers.is_empty() {
+        return put_byte(room, at, b'\n');
     }
     let mut next = put_number(room, at, numbers[0]);
-    let mut i = 1;
-    while i < numbers.len() {
-        let space = put_byte(room, next, 32);
+    for i in 1..numbers.len() {
+        let space = put_byte(room, next, b' ');
         next = put_number(room, space, numbers[i]);
-        i += 1;
     }
-    put_byte(room, next, 10)
+    put_byte(room, next, b'\n')
 }
 
 // A line of two numbers.
@@ -66,8 +63,7 @@ fn put_pair(room: &mut [u8], at: usize, one: usize, other: usize) -> usize
     requires other_bound_2 { at + length (line (one ∷ other ∷ [])) ≤ 32768 }
     ensures { Puts room.old at (line (one ∷ other ∷ [])) room.new result }
 {
-    let pair = [one, other];
-    put_line(room, at, &pair)
+    put_line(room, at, &[one, other])
 }
 
 // The list of a word.
@@ -77,7 +73,7 @@ fn put_list(room: &mut [u8], at: usize, word: u64, most: usize) -> usize
     ensures { Puts room.old at (line (list_of most word)) room.new result }
 {
     let mut table = [0usize; 64];
-    matrix::fill_list(word, &mut table);
+    columns::fill_list(word, &mut table);
     put_line(room, at, &table[..most])
 }
 
@@ -88,10 +84,8 @@ fn put_lists(room: &mut [u8], at: usize, words: &[u64], most: usize) -> usize
     ensures { Puts room.old at (text_of (map (list_of most) words.now)) room.new result }
 {
     let mut next = at;
-    let mut i = 0;
-    while i < words.len() {
-        next = put_list(room, next, words[i], most);
-        i += 1;
+    for word in words {
+        next = put_list(room, next, *word, most);
     }
     next
 }
@@ -110,8 +104,8 @@ fn put_weighed(
     requires widths_value { widths.now ≡ weights rows.now }
     ensures { Puts room.old 0 (matrix_text columns.now rows.now) room.new result }
 {
-    let tall = matrix::largest_of(heights);
-    let wide = matrix::largest_of(widths);
+    let tall = columns::largest_of(heights);
+    let wide = columns::largest_of(widths);
     let sizes = put_pair(room, 0, columns.len(), rows.len());
     let most = put_pair(room, sizes, tall, wide);
     let first = put_line(room, most, heights);
@@ -130,8 +124,8 @@ fn put_matrix(room: &mut [u8], columns: &[u64], rows: &[u64]) -> usize
     let mut widths = [0usize; 64];
     let n = columns.len();
     let m = rows.len();
-    matrix::fill_weights(columns, &mut heights);
-    matrix::fill_weights(rows, &mut widths);
+    columns::fill_weights(columns, &mut heights);
+    columns::fill_weights(rows, &mut widths);
     put_weighed(room, columns, rows, &heights[..n], &widths[..m])
 }
 
@@ -142,6 +136,6 @@ pub fn put_text(n: usize, rows: &[u64], room: &mut [u8]) -> usize
     ensures { Puts room.old 0 (alist_text n rows.now) room.new result }
 {
     let mut columns = [0u64; 64];
-    matrix::fill_columns(rows, n, &mut columns);
+    columns::fill_columns(rows, n, &mut columns);
     put_matrix(room, &columns[..n], rows)
 }

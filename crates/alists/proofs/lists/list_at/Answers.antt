@@ -8,26 +8,26 @@ use Rattle.alists.proofs.Judging.{list-bad, list-good, list-wrong}
 use native.Mathlib.Omega.{arith}
 use Rattle.alists.proofs.lists.list_at.Goals as goal
 
-pub returns-in_default : goal.returns-in_default
-returns-in_default c =
-    let l = rw c.in_default.is at c.read_line-line.ensures.is in
-    record { is = list-bad c.args.most c.args.size c.args.weight _ (line-lost _ c.args.most (drop c.args.at c.args.text.now) l) }
+pub returns-in_err-next : goal.returns-in_err-next
+returns-in_err-next c =
+    let l = c.in_err-next.ensures.is in
+    record { is = rw c.from_residual.ensures (list-bad c.args.most c.args.size c.args.weight _ (line-lost _ c.args.most (drop c.args.at c.args.text.now) l)) }
 
 pub slice_bounds-word_of-end : goal.slice_bounds-word_of-end
 slice_bounds-word_of-end c =
-    let s = c.read_line-line.ensures.size in
+    let s = c.read_line.ensures.size in
     sym (length-take-le _ _ (omega (arith, s, length-replicate {A = ℕ} 64 0)))
 
-pub returns-in_default-judged : goal.returns-in_default-judged
-returns-in_default-judged c =
-    let l = rw c.in-Next.is at c.read_line-line.ensures.is in
-    let w = rw c.in_default-judged.is at c.word_of-judged.ensures.is in
+pub returns-in_err-value : goal.returns-in_err-value
+returns-in_err-value c =
+    let l = c.in_ok-next.ensures.is in
+    let w = c.in_err-value.ensures.is in
     let k = line_kept c.args.most (drop c.args.at c.args.text.now) c.requires.most_bound l.0 in
-    record { is = list-wrong c.args.most c.args.size c.args.weight _ _ _ k w }
+    record { is = rw c.from_residual-in_err-value.ensures (list-wrong c.args.most c.args.size c.args.weight _ _ _ k w) }
 
 pub returns : goal.returns
 returns c =
-    let l = rw c.in-Next.is at c.read_line-line.ensures.is in
-    let w = rw c.in-Is.is at c.word_of-judged.ensures.is in
+    let l = c.in_ok-next.ensures.is in
+    let w = c.in_ok-value.ensures.is in
     let k = line_kept c.args.most (drop c.args.at c.args.text.now) c.requires.most_bound l.0 in
     record { is = (list-good c.args.most c.args.size c.args.weight _ _ _ _ k w, l.1) }

@@ -1,4 +1,4 @@
--- `lists::ones_of` meets its contract. The invariant: the indices from i on, after those used, are all of them.
+-- `lists::ones_of` meets its contract. The invariant: the indices from the index on, after those used, are all of them.
 use lib.ListN.{get_or}
 use mathlib.Core.Path.{refl, sym, ◌∙◌}
 use Prim.Native.Nat.{◌-◌}
@@ -6,41 +6,41 @@ use Rattle.alists.proofs.OnesRead.{index-fits, one_more, ones-end, ones-here, on
 use native.Mathlib.Omega.{arith}
 use Rattle.alists.proofs.lists.ones_of.Goals as goal
 
-pub loop-i-init : goal.loop-i-init
-loop-i-init c = (omega arith, omega arith, refl)
+pub loop-x-init : goal.loop-x-init
+loop-x-init c = (omega arith, omega arith, refl)
 
 pub returns-then-not-fits_index : goal.returns-then-not-fits_index
 returns-then-not-fits_index c =
     let unfit = sym c.fits_index.ensures ∙ c.if-not-fits_index.true in
-    record { is = sym c.loop-i.invariant.2 ∙ ones-other c.args.size c.loop-i.used c.args.list.now c.loop-i.i (omega arith) unfit }
+    record { is = sym c.loop-x.invariant.2 ∙ ones-other c.args.size c.loop-x.used c.args.list.now c.loop-x.x-index (omega arith) unfit }
 
 pub overflow_sub-used : goal.overflow_sub-used
 overflow_sub-used c =
-    let f = index-fits c.args.size c.loop-i.used (get_or c.args.list.now c.loop-i.i 0) (sym c.fits_index.ensures ∙ c.if-not-fits_index.false) in
+    let f = index-fits c.args.size c.loop-x.used (get_or c.args.list.now c.loop-x.x-index 0) (sym c.fits_index.ensures ∙ c.if-not-fits_index.false) in
     omega (arith, f.low)
 
 pub overflow_shl-used : goal.overflow_shl-used
 overflow_shl-used c =
-    let f = index-fits c.args.size c.loop-i.used (get_or c.args.list.now c.loop-i.i 0) (sym c.fits_index.ensures ∙ c.if-not-fits_index.false) in
+    let f = index-fits c.args.size c.loop-x.used (get_or c.args.list.now c.loop-x.x-index 0) (sym c.fits_index.ensures ∙ c.if-not-fits_index.false) in
     omega (arith, f.low, f.high)
 
 pub overflow_add-used : goal.overflow_add-used
 overflow_add-used c =
-    let x = get_or c.args.list.now c.loop-i.i 0 in
-    let f = index-fits c.args.size c.loop-i.used x (sym c.fits_index.ensures ∙ c.if-not-fits_index.false) in
+    let x = get_or c.args.list.now c.loop-x.x-index 0 in
+    let f = index-fits c.args.size c.loop-x.used x (sym c.fits_index.ensures ∙ c.if-not-fits_index.false) in
     let s = shifted_one (x - 1) (omega (arith, f.low, f.high)) in
-    let o = one_more (x - 1) 64 c.loop-i.used (omega (arith, f.low, f.high)) c.loop-i.invariant.1 f.new in
+    let o = one_more (x - 1) 64 c.loop-x.used (omega (arith, f.low, f.high)) c.loop-x.invariant.1 f.new in
     rw s (omega (arith, o))
 
-pub loop-i-preserved : goal.loop-i-preserved
-loop-i-preserved c =
-    let x = get_or c.args.list.now c.loop-i.i 0 in
-    let f = index-fits c.args.size c.loop-i.used x (sym c.fits_index.ensures ∙ c.if-not-fits_index.false) in
+pub loop-x-preserved : goal.loop-x-preserved
+loop-x-preserved c =
+    let x = get_or c.args.list.now c.loop-x.x-index 0 in
+    let f = index-fits c.args.size c.loop-x.used x (sym c.fits_index.ensures ∙ c.if-not-fits_index.false) in
     let s = shifted_one (x - 1) (omega (arith, f.low, f.high)) in
-    let o = one_more (x - 1) 64 c.loop-i.used (omega (arith, f.low, f.high)) c.loop-i.invariant.1 f.new in
-    let e = ones-here c.args.size c.loop-i.used c.args.list.now c.loop-i.i (omega arith) (sym c.fits_index.ensures ∙ c.if-not-fits_index.false) in
-    (omega arith, rw s o, rw s (sym e ∙ c.loop-i.invariant.2))
+    let o = one_more (x - 1) 64 c.loop-x.used (omega (arith, f.low, f.high)) c.loop-x.invariant.1 f.new in
+    let e = ones-here c.args.size c.loop-x.used c.args.list.now c.loop-x.x-index (omega arith) (sym c.fits_index.ensures ∙ c.if-not-fits_index.false) in
+    (omega arith, rw s o, rw s (sym e ∙ c.loop-x.invariant.2))
 
 pub returns : goal.returns
 returns c =
-    record { is = sym c.loop-i.invariant.2 ∙ ones-end c.args.size c.loop-i.used c.args.list.now c.loop-i.i (omega arith) }
+    record { is = sym c.loop-x.invariant.2 ∙ ones-end c.args.size c.loop-x.used c.args.list.now c.loop-x.x-index (omega arith) }

@@ -8,6 +8,3 @@ use Rattle.alists.proofs.numbers.read_rest.Given as goal
 
 abbrev pub invariant-loop-i : goal.invariant-loop-i
 invariant-loop-i l = Storing l.text l.count l.at l.i l.table (stored l.initial.table 1 (rest_of (l.count - 1) (drop l.from l.text))) (length l.initial.table)
-
-abbrev pub decreases-loop-i : goal.decreases-loop-i
-decreases-loop-i l = l.count - l.i

@@ -1,6 +1,7 @@
 -- `numbers::skip_spaces` meets its contract. The invariant: what stands after the spaces from i on stands after those from `at` on.
 use native.Mathlib.Omega.{arith}
-use mathlib.Core.Path.{refl, sym, ◌∙◌}
+use lib.ListN.{length}
+use mathlib.Core.Path.{◌≡◌, refl, sym, ◌∙◌}
 use Rattle.alists.proofs.NumbersFound.{skip-end, skip-here, skip-other}
 use Rattle.alists.proofs.numbers.skip_spaces.Goals as goal
 
@@ -16,4 +17,5 @@ loop-i-preserved c = (omega arith, sym (skip-here _ c.loop-i.i (omega arith) (om
 
 pub returns : goal.returns
 returns c =
-    record { after = sym (skip-end _ c.loop-i.i (omega arith)) ∙ c.loop-i.invariant.1; within = omega arith }
+    let e : c.loop-i.i ≡ length c.args.text.now = omega arith in
+    record { after = sym (skip-end _ (length c.args.text.now) (omega arith)) ∙ rw e at c.loop-i.invariant.1; within = omega arith }

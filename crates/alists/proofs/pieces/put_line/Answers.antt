@@ -1,5 +1,6 @@
 -- `pieces::put_line` meets its contract: the numbers from i on are still to be put.
-use lib.ListN.{drop, get_or}
+use lib.ListN.{drop, get_or, length}
+use mathlib.Core.Path.{◌≡◌}
 use mathlib.Core.List.{◌++◌, [], ◌∷◌}
 use Prim.Native.Nat.{◌+◌}
 use Rattle.alists.specs.Text.{decimal, following}
@@ -9,21 +10,24 @@ use Rattle.alists.proofs.pieces.put_line.Goals as goal
 
 pub put_byte-requires : goal.put_byte-requires
 put_byte-requires c =
-    let l = rw (empty-line c.args.numbers.now c.if-numbers-eq0.true) at c.requires.numbers_bound in
+    let none : length c.args.numbers.now ≡ 0 = grind arith in
+    let l = rw (empty-line c.args.numbers.now none) at c.requires.numbers_bound in
     omega (arith, l)
 
-pub returns-then-numbers-eq0 : goal.returns-then-numbers-eq0
-returns-then-numbers-eq0 c = rw (empty-line c.args.numbers.now c.if-numbers-eq0.true) c.put_byte.ensures
+pub returns-then-is_empty : goal.returns-then-is_empty
+returns-then-is_empty c =
+    let none : length c.args.numbers.now ≡ 0 = grind arith in
+    rw (empty-line c.args.numbers.now none) c.put_byte.ensures
 
 pub put_number-next-requires : goal.put_number-next-requires
 put_number-next-requires c =
     record {
       value_bound = c.requires.small.below 0;
-      value_bound_2 = first-room c.args.at c.args.numbers.now 32768 (omega arith) c.requires.numbers_bound;
+      value_bound_2 = first-room c.args.at c.args.numbers.now 32768 (grind arith) c.requires.numbers_bound;
     }
 
 pub loop-i-init : goal.loop-i-init
-loop-i-init c = (omega arith, omega arith, going_start _ _ _)
+loop-i-init c = (omega arith, grind arith, going_start _ _ _)
 
 pub put_byte-space-requires : goal.put_byte-space-requires
 put_byte-space-requires c =

@@ -10,8 +10,8 @@ use Rattle.alists.proofs.Chain.{answer-fault, columns-fault, columns-good, fault
 use native.Mathlib.Omega.{arith}
 use Rattle.alists.proofs.reading.on_columns.Goals as goal
 
-pub lists_at-lists-requires : goal.lists_at-lists-requires
-lists_at-lists-requires c =
+pub lists_at-requires : goal.lists_at-requires
+lists_at-requires c =
     record {
       from_in_bounds = c.requires.at_in_bounds;
       most_bound = c.requires.tall_bound;
@@ -22,41 +22,41 @@ lists_at-lists-requires c =
 
 pub overflow_add-result : goal.overflow_add-result
 overflow_add-result c =
-    let e = rw c.in-Bad.is at c.lists_at-lists.ensures.is in
+    let e = c.in-Err.ensures.is in
     omega (arith, e.1)
 
 pub slice_bounds-columns-end : goal.slice_bounds-columns-end
 slice_bounds-columns-end c =
-    let l = c.lists_at-lists.ensures.size in
+    let l = c.lists_at.ensures.size in
     omega (arith, l, length-replicate {A = ℕ} 64 0)
 
 pub slice_bounds-on_rows-end : goal.slice_bounds-on_rows-end
 slice_bounds-on_rows-end c =
-    let l = c.lists_at-lists.ensures.size in
+    let l = c.lists_at.ensures.size in
     sym (length-take-le _ _ (omega (arith, l, length-replicate {A = ℕ} 64 0)))
 
 pub on_rows-requires : goal.on_rows-requires
 on_rows-requires c =
-    let e = rw c.in-Next.is at c.lists_at-lists.ensures.is in
+    let e = c.in-Ok.ensures.is in
     let w = words-read c.args.tall c.args.m [] c.args.heights.now (drop c.args.at c.args.text.now) e.0 in
-    let z = c.lists_at-lists.ensures.size in
+    let z = c.lists_at.ensures.size in
     record {
       at_in_bounds = e.1;
       n_bound = c.requires.n_bound;
       most_bound = c.requires.wide_bound;
-      columns_len_bound = rw (length-take-le c.args.n c.lists_at-lists.new.table (omega (arith, z, length-replicate {A = ℕ} 64 0))) c.requires.n_bound;
+      columns_len_bound = rw (length-take-le c.args.n c.lists_at.new.table (omega (arith, z, length-replicate {A = ℕ} 64 0))) c.requires.n_bound;
       weights_len_bound = c.requires.widths_len_bound;
     }
 
-pub returns-in-Bad : goal.returns-in-Bad
-returns-in-Bad c =
-    let e = rw c.in-Bad.is at c.lists_at-lists.ensures.is in
+pub returns-in-Err : goal.returns-in-Err
+returns-in-Err c =
+    let e = c.in-Err.ensures.is in
     let f = fault-read (lists_from c.args.tall c.args.m [] 0 c.args.heights.now (drop c.args.at c.args.text.now)) _ _ e.0 in
     answer-fault _ c.args.table.now (columns-fault c.args.n c.args.wide c.args.widths.now _ _ f)
 
-pub returns-in-Next : goal.returns-in-Next
-returns-in-Next c =
-    let e = rw c.in-Next.is at c.lists_at-lists.ensures.is in
+pub returns-in-Ok : goal.returns-in-Ok
+returns-in-Ok c =
+    let e = c.in-Ok.ensures.is in
     let w = words-read c.args.tall c.args.m [] c.args.heights.now (drop c.args.at c.args.text.now) e.0 in
     let g = w.long in
     let f = front w.words c.args.n (omega (arith, g)) c.requires.n_bound in
