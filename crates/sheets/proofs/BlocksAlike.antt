@@ -1,4 +1,5 @@
 -- A block or heard line is one both where blocks are found (specs/Blocks) and where lines are read (specs/Lines), and no row comes after it.
+use Rattle.std.proofs.Common.{Result, Ok, Err}
 use Prim.Native.Nat.{ℕ}
 use lib.IntN.{ℤ}
 use mathlib.Core.Bool.{Bool, true, false}
@@ -14,8 +15,6 @@ use Rattle.sheets.specs.Faults.{after, first_word}
 use Rattle.sheets.specs.declared.Order.{Order}
 use Rattle.sheets.specs.declared.word.Word.{Word}
 use Rattle.sheets.specs.declared.word.Word.TheVariants.{Cover, Mask, Row, Block, Heard, End, Other}
-use Rattle.sheets.specs.declared.block.Samples.{Samples}
-use Rattle.sheets.specs.declared.block.Samples.TheVariants as S
 use Rattle.sheets.specs.declared.line.Came.{Came}
 use Rattle.sheets.specs.declared.line.Came.TheVariants.{Nothing, Blocks, Heards}
 use Rattle.sheets.specs.declared.line.Fault.{Fault}
@@ -49,9 +48,9 @@ past-sought false fs = refl
 past-sought true fs = refl
 
 -- a block or heard line is one by both definitions
-abbrev pub Alike : Bool → Word → List ℤ → BlockFound → Line → Type 0
-Alike heard word vs (block us) x = (us ≡ vs) × (x ≡ L.Block) × (word ≡ word_for heard)
-Alike heard word vs no_block x = x ≡ L.Block → ⊥
+abbrev pub Alike : Bool → Word → List ℤ → BlockFound → Result Line Fault → Type 0
+Alike heard word vs (block us) x = (us ≡ vs) × (x ≡ Ok L.Block) × (word ≡ word_for heard)
+Alike heard word vs no_block x = x ≡ Ok L.Block → ⊥
 
 -- a word that is neither
 abbrev is_other : Word → ℕ
@@ -63,12 +62,12 @@ is_other Heard = 0
 is_other End = 1
 is_other Other = 1
 
-pub never-block : (fault : Fault) → L.Bad fault ≡ L.Block → ⊥
+pub never-block : (fault : Fault) → Err fault ≡ Ok L.Block → ⊥
 never-block fault e = let z : ◌≡◌ {A = ℕ} 0 1 = cc in omega arith
 
-samples-alike : (heard : Bool) (vs : List ℤ) (r : Samples) → Alike heard (word_for heard) vs (samples_found r vs) (block_is r)
-samples-alike heard vs (S.Count k) = (refl, refl, refl)
-samples-alike heard vs (S.Bad f) = never-block (F.Value f)
+samples-alike : (heard : Bool) (vs : List ℤ) (r : Result ℕ ℕ) → Alike heard (word_for heard) vs (samples_found r vs) (block_is r)
+samples-alike heard vs (Ok k) = (refl, refl, refl)
+samples-alike heard vs (Err f) = never-block (F.Value f)
 
 heard-alike : (vs : List ℤ) (fs : List (List ℕ)) → Alike true Heard vs (samples_found (heard_rest fs) vs) (heard_fields fs)
 heard-alike vs [] = never-block (F.Count 2)
@@ -76,23 +75,23 @@ heard-alike vs (f ∷ fs) = samples-alike true vs (heard_rest (f ∷ fs))
 
 module _ (n : ℕ) (order : Order) where
   -- no row comes after a block or heard line
-  no-row-by : (heard : Bool) (word : Word) (fs : List (List ℕ)) (w : ℕ) → line_by n order (past heard) word fs ≡ L.Row w → word ≡ Row → ⊥
-  no-row-by false word fs w e q = let z : L.Bad F.Turn ≡ L.Row w = rw q at e in let y : ◌≡◌ {A = ℕ} 0 1 = cc in omega arith
-  no-row-by true word fs w e q = let z : L.Bad F.Turn ≡ L.Row w = rw q at e in let y : ◌≡◌ {A = ℕ} 0 1 = cc in omega arith
+  no-row-by : (heard : Bool) (word : Word) (fs : List (List ℕ)) (w : ℕ) → line_by n order (past heard) word fs ≡ Ok (L.Row w) → word ≡ Row → ⊥
+  no-row-by false word fs w e q = let z : Err F.Turn ≡ Ok (L.Row w) = rw q at e in let y : ◌≡◌ {A = ℕ} 0 1 = cc in omega arith
+  no-row-by true word fs w e q = let z : Err F.Turn ≡ Ok (L.Row w) = rw q at e in let y : ◌≡◌ {A = ℕ} 0 1 = cc in omega arith
 
-  pub no_row : (heard : Bool) (ls : List (List ℕ)) (w : ℕ) → front n order (past heard) ls ≡ L.Row w → ⊥
+  pub no_row : (heard : Bool) (ls : List (List ℕ)) (w : ℕ) → front n order (past heard) ls ≡ Ok (L.Row w) → ⊥
   no_row heard [] w e = let z : ◌≡◌ {A = ℕ} 0 1 = cc in omega arith
   no_row heard (l ∷ []) w e = let z : ◌≡◌ {A = ℕ} 0 1 = cc in omega arith
   no_row heard (l ∷ m ∷ ms) w e = by (fields l) e (subst (LineJudged n (part_of (past heard)) (fields l)) e (line-judged n order (past heard) (fields l))).1
     where
-      by : (fs : List (List ℕ)) → line_of n order (past heard) fs ≡ L.Row w → first_word fs ≡ Row → ⊥
+      by : (fs : List (List ℕ)) → line_of n order (past heard) fs ≡ Ok (L.Row w) → first_word fs ≡ Row → ⊥
       by [] g q = let z : ◌≡◌ {A = ℕ} 0 1 = cc in omega arith
       by (v ∷ fs) g q = no-row-by heard (word_of v) fs w g q
 
   -- a line of another word is no block
-  other_word : (came : Came) (w : List ℕ) (fs : List (List ℕ)) (word : Word) → word_of w ≡ word → is_other word ≡ 1 → line_by n order came word fs ≡ L.Block → ⊥
+  other_word : (came : Came) (w : List ℕ) (fs : List (List ℕ)) (word : Word) → word_of w ≡ word → is_other word ≡ 1 → line_by n order came word fs ≡ Ok L.Block → ⊥
   other_word came w fs word e o g =
-      let f : line_of n order came (w ∷ fs) ≡ L.Block = rw e g in
+      let f : line_of n order came (w ∷ fs) ≡ Ok L.Block = rw e g in
       by (subst (LineJudged n (part_of came) (w ∷ fs)) f (line-judged n order came (w ∷ fs))).1
     where
       by : Received (word_of w) → ⊥

@@ -1,4 +1,7 @@
 -- The lines after the cover and the mask by what was read of them.
+use Rattle.std.proofs.Common.{Result}
+use Rattle.plates.specs.declared.Refusal.{Refusal}
+use Rattle.sheets.specs.declared.Sheet.{Sheet}
 use Prim.Native.Nat.{ℕ}
 use lib.ListN.{length, drop}
 use mathlib.Core.Bool.{Bool}
@@ -9,7 +12,6 @@ use Rattle.sheets.specs.Blocks.{blocks_of, heard_front}
 use Rattle.sheets.specs.Lines.{came_after, rows_of, ending_of}
 use Rattle.sheets.specs.Sheet.{Contents, contents_with, ending_after}
 use Rattle.sheets.specs.Readers.{BlocksRead, RowsRead, closed, lines_reply}
-use Rattle.sheets.specs.declared.SheetReply.{SheetReply}
 use Rattle.sheets.specs.declared.cover.Cover.{Cover}
 use Rattle.sheets.specs.declared.line.Came.{Came}
 use Rattle.sheets.specs.declared.body.Ending.{Ending}
@@ -39,7 +41,7 @@ module _ {s : List ℕ} {from : ℕ} (cover : Cover) {rows blocks : Run} {table 
       ∙ sym (by-position-length cover.order (blocks_of (heard_front left) left))
 
   -- the reply, by how they end
-  pub lines_are : {r : SheetReply}
+  pub lines_are : {r : Result Sheet Refusal}
       → r
       ≡ closed line
       (record {

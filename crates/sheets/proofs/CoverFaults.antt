@@ -1,9 +1,13 @@
 -- The fault of the cover and of the mask: it is the first of all that is wrong with the line, and where there is none nothing is.
+use Rattle.std.proofs.Common.{Option, Some, None, Result, Ok, Err}
+use Rattle.plates.specs.declared.Kind.{Kind}
 use Prim.Native.Nat.{ℕ}
 use mathlib.Core.Bool.{true}
 use mathlib.Core.List.{List, [], ◌∷◌}
 use mathlib.Core.Path.{◌≡◌, refl, ap}
 use native.Mathlib.Omega.{arith}
+use Rattle.sheets.specs.declared.cover.Cover as D
+use Rattle.sheets.specs.declared.line.Fault.{Fault}
 use Rattle.sheets.specs.Words.{word_of}
 use Rattle.sheets.specs.Numbers.{is_number, number_of}
 use Rattle.sheets.specs.Covers.{kind_of, order_of, cover_is, cover_fields, cover_rest, cover_by, cover_of}
@@ -12,29 +16,17 @@ use Rattle.sheets.specs.Lines as lines
 use Rattle.sheets.specs.Masks.{mask_is, mask_by, mask_of}
 use Rattle.sheets.specs.Faults.{on_cover, on_mask, is_kind, is_order, first_word}
 use Rattle.sheets.specs.declared.Order.{Order}
-use Rattle.sheets.specs.declared.number.Number.{Number}
-use Rattle.sheets.specs.declared.number.Number.TheVariants as N
 use Rattle.sheets.specs.declared.word.Word.{Word}
 use Rattle.sheets.specs.declared.word.Word.TheVariants.{Cover, Mask, Row, Block, Heard, End, Other}
-use Rattle.sheets.specs.declared.line.Line.{Line}
-use Rattle.sheets.specs.declared.line.Line.TheVariants as L
-use Rattle.sheets.specs.declared.mask.MaskLine.{MaskLine}
-use Rattle.sheets.specs.declared.mask.MaskLine.TheVariants as M
-use Rattle.sheets.specs.declared.cover.KindField.{KindField}
-use Rattle.sheets.specs.declared.cover.KindField.TheVariants as K
-use Rattle.sheets.specs.declared.cover.OrderField.{OrderField}
-use Rattle.sheets.specs.declared.cover.OrderField.TheVariants as O
-use Rattle.sheets.specs.declared.cover.CoverLine.{CoverLine}
-use Rattle.sheets.specs.declared.cover.CoverLine.TheVariants as C
 use Rattle.sheets.proofs.LineFaults.{BitsJudged, GoodBefore, Right, Told, all_right, few-told, form-told, good-on, many-told, none_before, turn-told}
 use Rattle.sheets.proofs.LineFaults.{bits-judged}
 
 -- ---- the cover
 
 -- what a cover that was read says of all that may be wrong with it, and its word
-abbrev pub CoverJudged : ℕ → List (List ℕ) → CoverLine → Type 0
-CoverJudged n fs (C.Is cover) = Right n on_cover fs × (first_word fs ≡ Cover)
-CoverJudged n fs (C.Bad fault) = Told n on_cover fs (lines.number_of fault) (field_of fault)
+abbrev pub CoverJudged : ℕ → List (List ℕ) → Result D.Cover Fault → Type 0
+CoverJudged n fs (Ok cover) = Right n on_cover fs × (first_word fs ≡ Cover)
+CoverJudged n fs (Err fault) = Told n on_cover fs (lines.number_of fault) (field_of fault)
 
 module _ (n : ℕ) (w : List ℕ) (e : word_of w ≡ Cover) where
   -- three fields after the word
@@ -45,15 +37,15 @@ module _ (n : ℕ) (w : List ℕ) (e : word_of w ≡ Cover) where
       first : GoodBefore n Cover (w ∷ f ∷ g ∷ h ∷ []) 2
       first = good-on none_before refl
 
-      by : (i : Number) → number_of 3 f ≡ i → (k : KindField) → kind_of g ≡ k → (o : OrderField) → order_of h ≡ o
+      by : (i : Option ℕ) → number_of 3 f ≡ i → (k : Option Kind) → kind_of g ≡ k → (o : Option Order) → order_of h ≡ o
           → CoverJudged n (w ∷ f ∷ g ∷ h ∷ []) (cover_is i k o)
-      by N.Bad p k q o r = form-told n on_cover (w ∷ f ∷ g ∷ h ∷ []) Cover e refl refl 2 (omega arith) (omega arith) (ap is_number p) first
-      by (N.Is i) p K.Bad q o r =
+      by None p k q o r = form-told n on_cover (w ∷ f ∷ g ∷ h ∷ []) Cover e refl refl 2 (omega arith) (omega arith) (ap is_number p) first
+      by (Some i) p None q o r =
           form-told n on_cover (w ∷ f ∷ g ∷ h ∷ []) Cover e refl refl 3 (omega arith) (omega arith) (ap is_kind q) (good-on first (ap is_number p))
-      by (N.Is i) p (K.Is k) q O.Bad r =
+      by (Some i) p (Some k) q None r =
           form-told n on_cover (w ∷ f ∷ g ∷ h ∷ []) Cover e refl refl 4 (omega arith) (omega arith) (ap is_order r)
           (good-on (good-on first (ap is_number p)) (ap is_kind q))
-      by (N.Is i) p (K.Is k) q (O.Is o) r =
+      by (Some i) p (Some k) q (Some o) r =
           (all_right n on_cover (w ∷ f ∷ g ∷ h ∷ []) Cover e refl refl (good-on (good-on (good-on first (ap is_number p)) (ap is_kind q)) (ap is_order r)), e)
 
   -- exactly three
@@ -81,17 +73,15 @@ cover-judged n (w ∷ fs) = by (word_of w) refl
 -- ---- the mask
 
 -- what the line after the cover says of all that may be wrong with it, where its word is mask
-abbrev pub MaskJudged : ℕ → List (List ℕ) → MaskLine → Type 0
-MaskJudged n fs (M.Is w) = Right n on_mask fs × (first_word fs ≡ Mask)
-MaskJudged n fs M.NoMask = first_word fs ≡ Mask → ⊥
-MaskJudged n fs (M.Bad fault) = Told n on_mask fs (lines.number_of fault) (field_of fault)
+abbrev pub MaskJudged : ℕ → List (List ℕ) → Result (Option ℕ) Fault → Type 0
+MaskJudged n fs (Ok (Some w)) = Right n on_mask fs × (first_word fs ≡ Mask)
+MaskJudged n fs (Ok None) = first_word fs ≡ Mask → ⊥
+MaskJudged n fs (Err fault) = Told n on_mask fs (lines.number_of fault) (field_of fault)
 
 -- the field after mask is judged as a row's
-field-judged : (n : ℕ) (fs : List (List ℕ)) (x : Line) → BitsJudged n true fs x → MaskJudged n fs (mask_is x)
-field-judged n fs (L.Row w) h = h
-field-judged n fs L.Block h = absurd h
-field-judged n fs L.End h = absurd h
-field-judged n fs (L.Bad fault) h = h
+field-judged : (n : ℕ) (fs : List (List ℕ)) (x : Result ℕ Fault) → BitsJudged n true fs x → MaskJudged n fs (mask_is x)
+field-judged n fs (Ok w) h = h
+field-judged n fs (Err fault) h = h
 
 -- the line after the cover
 pub mask-judged : (n : ℕ) (order : Order) (fs : List (List ℕ)) → MaskJudged n fs (mask_of n order fs)

@@ -1,4 +1,5 @@
 -- Digits one after the other, and how large a number of so many digits is, in any base.
+use Rattle.std.proofs.Common.{Option, Some, None}
 use Prim.Native.Nat.{ℕ, zero, suc, ◌+◌, ◌*◌, ◌-◌, ◌^◌, ◌≤◌, ◌<◌}
 use borrow.Author.Tests.{leb-true}
 use lib.IntN.{pos, neg_ℤ}
@@ -13,8 +14,6 @@ use native.Mathlib.Nat.{pow-suc, pow-le-pow_right, mul-le-mul_right, suc-mul, lt
 use native.Mathlib.Omega.{arith}
 use Rattle.sheets.specs.Numbers.{is_digit, digits_of}
 use Rattle.sheets.specs.Readers.{Below}
-use Rattle.sheets.specs.declared.number.Number.{Number}
-use Rattle.sheets.specs.declared.number.Number.TheVariants.{Is, Bad}
 use Rattle.sheets.proofs.Bytes.{here, done}
 
 module _ (f : List ℕ) (i v : ℕ) where
@@ -23,10 +22,10 @@ module _ (f : List ℕ) (i v : ℕ) where
   digits-on h e = rw (here f i h, e)
 
   -- none of the ten
-  pub digits-bad : i < length f → is_digit (get_or f i 0) ≡ false → digits_of v (drop i f) ≡ Bad
+  pub digits-bad : i < length f → is_digit (get_or f i 0) ≡ false → digits_of v (drop i f) ≡ None
   digits-bad h e = rw (here f i h, e)
 
-  pub digits-done : length f ≤ i → digits_of v (drop i f) ≡ Is v
+  pub digits-done : length f ≤ i → digits_of v (drop i f) ≡ Some v
   digits-done h = rw (done f i h)
 
 both : (a b : Bool) → (a && b) ≡ true → (a ≡ true) × (b ≡ true)
@@ -48,9 +47,9 @@ grow b w d i h k =
 pub grown : (b w d i m : ℕ) → 0 < b → w < b ^ i → d < b → i < m → w * b + d < b ^ m
 grown b w d i m z h k l = lt_of_lt_of_le (grow b w d i h k) (pow-le-pow_right z l)
 
-pub below_more : {k m : ℕ} (r : Number) → k ≤ m → Below k r → Below m r
-below_more (Is v) h b = omega arith
-below_more Bad h b = tt
+pub below_more : {k m : ℕ} (r : Option ℕ) → k ≤ m → Below k r → Below m r
+below_more (Some v) h b = omega arith
+below_more None h b = tt
 
 -- a number of four digits below zero fits a sample
 pub negative_fits : (v : ℕ) → v < 10000 → SFits w16 (neg_ℤ (pos v))

@@ -1,4 +1,6 @@
 -- The lines of a listing one after the other.
+use Rattle.std.proofs.Common.{Option, None}
+use Rattle.sheets.specs.declared.listed.Branch.{Branch}
 use Prim.Native.Nat.{ℕ, ◌+◌, ◌-◌, ◌≤◌, ◌<◌}
 use lib.ListN.{length, take, drop}
 use mathlib.Core.List.{List, [], ◌∷◌}
@@ -9,8 +11,6 @@ use Rattle.sheets.specs.Blocks.{next_line}
 use Rattle.sheets.specs.Listed.{branch_front, branch_of, entries_of, entry_at, unended}
 use Rattle.sheets.specs.Readers.{Until}
 use Rattle.sheets.specs.Text.{fields, line_feed, lines_from, till}
-use Rattle.sheets.specs.declared.listed.BranchLine.{BranchLine}
-use Rattle.sheets.specs.declared.listed.BranchLine.TheVariants.{Bad}
 use Rattle.sheets.specs.declared.listed.Entry.{Entry}
 use Rattle.sheets.proofs.BlockPlaces.{next_is}
 use Rattle.sheets.proofs.Following.{until-there}
@@ -18,18 +18,18 @@ use Rattle.sheets.proofs.Parts.{from_last, from_more, from-none, from_some, part
 use Rattle.sheets.proofs.Passing.{at-end}
 
 -- past the end there is no line
-pub past-entry : (n : ℕ) (s : List ℕ) (at : ℕ) → length s < at → ◌≡◌ {A = Entry} (record { line = Bad; next = at }) (entry_at n s at)
+pub past-entry : (n : ℕ) (s : List ℕ) (at : ℕ) → length s < at → ◌≡◌ {A = Entry} (record { line = None; next = at }) (entry_at n s at)
 past-entry n s at h = let e : at + 0 ≡ at = omega arith in rw (from-none line_feed s at h, e)
 
 module _ (n : ℕ) (s : List ℕ) (at r : ℕ) (h : at ≤ length s) (u : Until line_feed s at r) where
   -- a line that is not ended is bad
-  pub unended-entry : r ≡ length s → ◌≡◌ {A = Entry} (record { line = Bad; next = r + 1 }) (entry_at n s at)
+  pub unended-entry : r ≡ length s → ◌≡◌ {A = Entry} (record { line = None; next = r + 1 }) (entry_at n s at)
   unended-entry e = rw (next_is s at r h u, from_last line_feed s at r h u e)
 
   -- one that is ended is what its fields say
-  pub ended-entry : (r ≡ length s → ⊥) → (b : BranchLine) → b ≡ branch_of n (fields (take (r - at) (drop at s)))
+  pub ended-entry : (r ≡ length s → ⊥) → (b : Option Branch) → b ≡ branch_of n (fields (take (r - at) (drop at s)))
       → ◌≡◌ {A = Entry} (record { line = b; next = r + 1 }) (entry_at n s at)
-  ended-entry d b e = rw (next_is s at r h u, from_more line_feed s at r h u, from_some line_feed s (r + 1) (omega (arith, d))) (ap (λ (b : BranchLine). record { line = b; next = r + 1 }) e)
+  ended-entry d b e = rw (next_is s at r h u, from_more line_feed s at r h u, from_some line_feed s (r + 1) (omega (arith, d))) (ap (λ (b : Option Branch). record { line = b; next = r + 1 }) e)
 
   -- a line, and those after it
   more-lines : (r ≡ length s → ⊥) → entries_of n (lines_from s at) ≡ branch_front n (lines_from s at) ∷ entries_of n (lines_from s (next_line s at))
@@ -39,7 +39,7 @@ module _ (n : ℕ) (s : List ℕ) (at r : ℕ) (h : at ≤ length s) (u : Until 
   last_line e l =
       rw (next_is s at r h u, from_last line_feed s at r h u e, from-none line_feed s (r + 1) (omega arith)) (go (take (r - at) (drop at s)) (part_length line_feed s at r h u))
     where
-      go : (p : List ℕ) → length p ≡ r - at → unended p ≡ Bad ∷ []
+      go : (p : List ℕ) → length p ≡ r - at → unended p ≡ None ∷ []
       go [] q = absurd (omega (arith, q, e, l))
       go (x ∷ xs) q = refl
 

@@ -1,4 +1,6 @@
 -- The refusal of a bad line is the first fault of the sheet's lines: the lowest line, then the lowest number, then the lowest field.
+use Rattle.plates.specs.declared.Refusal.{Refusal}
+use Rattle.std.proofs.Common.{Result, Ok, Err}
 use Prim.Native.Nat.{ℕ, zero, suc, ◌+◌}
 use lib.ListN.{length, drop}
 use mathlib.Core.Bool.{Bool, true, false}
@@ -7,8 +9,6 @@ use mathlib.Core.Logic.{inl, inr}
 use mathlib.Core.Path.{◌≡◌, refl, sym, ◌∙◌, ap, subst}
 use native.Mathlib.Omega.{arith}
 use Rattle.plates.specs.Refusals.{field, number, place}
-use Rattle.plates.specs.declared.Verdict.{Verdict}
-use Rattle.plates.specs.declared.Verdict.TheVariants as J
 use Rattle.sheets.specs.Text.{fields}
 use Rattle.sheets.specs.Blocks.{BlockFound, block, no_block, samples_found, block_line, listed_in, block_then, blocks_of, heard_front}
 use Rattle.sheets.specs.Lines.{field_of, number_of, line_of, front, row_then, rows_of, after_end, came_after, end_by, ending_of}
@@ -28,15 +28,15 @@ use Rattle.sheets.proofs.Replies.{number-of-line}
 
 module _ (n : ℕ) where
   -- what a verdict says of some lines, of which the first is line `line` of the sheet
-  abbrev pub LinesJudged : Part → List (List ℕ) → ℕ → Verdict → Type 0
-  LinesJudged part ls line J.Accepted = (k m b : ℕ) → WrongAt n part ls k m b → ⊥
-  LinesJudged part ls line (J.Refused q) = (k : ℕ) × (place q ≡ line + k) × FirstFault n part ls (suc k) (number q) (field q)
+  abbrev pub LinesJudged : Part → List (List ℕ) → ℕ → Result (Unit {0}) Refusal → Type 0
+  LinesJudged part ls line (Ok _) = (k m b : ℕ) → WrongAt n part ls k m b → ⊥
+  LinesJudged part ls line (Err q) = (k : ℕ) × (place q ≡ line + k) × FirstFault n part ls (suc k) (number q) (field q)
 
   -- ---- the first of the lines is bad
 
   -- by its first fault
   pub first-here : (part : Part) (l m : List ℕ) (ms : List (List ℕ)) (line : ℕ) (fault : Fault)
-      → Told n part (fields l) (number_of fault) (field_of fault) → LinesJudged part (l ∷ m ∷ ms) line (J.Refused (refusal_of line fault))
+      → Told n part (fields l) (number_of fault) (field_of fault) → LinesJudged part (l ∷ m ∷ ms) line (Err (refusal_of line fault))
   first-here part l m ms line fault t =
       let e = number-of-line line fault in
       (0, omega (arith, e.1), rw (e.0, e.2) (record { is = t.is; first = go }))
@@ -48,7 +48,7 @@ module _ (n : ℕ) where
 
   -- it is missing or not ended
   pub open-here : (part : Part) (ls : List (List ℕ)) (line : ℕ) → WrongHere n part ls 10 0 → ((m b : ℕ) → WrongHere n part ls m b → (m ≡ 10) × (b ≡ 0))
-      → LinesJudged part ls line (J.Refused (refusal_of line F.Missing))
+      → LinesJudged part ls line (Err (refusal_of line F.Missing))
   open-here part ls line h only = (0, omega arith, record { is = h; first = go })
     where
       go : (k i b : ℕ) → WrongAt n part ls k i b → BeforeAt 1 10 0 k i b
@@ -59,15 +59,15 @@ module _ (n : ℕ) where
   -- ---- the first of the lines is right
 
   -- the verdict on the lines after it is the verdict on all
-  pub on : (part next : Part) (l m : List ℕ) (ms : List (List ℕ)) (line : ℕ) (v : Verdict) → Right n part (fields l) → after (first_word (fields l)) ≡ next
+  pub on : (part next : Part) (l m : List ℕ) (ms : List (List ℕ)) (line : ℕ) (v : Result (Unit {0}) Refusal) → Right n part (fields l) → after (first_word (fields l)) ≡ next
       → LinesJudged next (m ∷ ms) (line + 1) v → LinesJudged part (l ∷ m ∷ ms) line v
-  on part next l m ms line J.Accepted right e h = go
+  on part next l m ms line (Ok _) right e h = go
     where
       go : (k i b : ℕ) → WrongAt n part (l ∷ m ∷ ms) k i b → ⊥
       go zero i b w = w
       go (suc zero) i b w = right i b w
       go (suc (suc k)) i b w = h (suc k) i b (subst (λ (p : Part). WrongAt n p (m ∷ ms) (suc k) i b) e w)
-  on part next l m ms line (J.Refused q) right e h =
+  on part next l m ms line (Err q) right e h =
       (suc h.0, omega (arith, h.1), record { is = subst (λ (p : Part). WrongAt n p (m ∷ ms) (suc h.0) (number q) (field q)) (sym e) h.2.is; first = go })
     where
       later : (k i b : ℕ) → BeforeAt (suc h.0) (number q) (field q) (suc k) i b → BeforeAt (suc (suc h.0)) (number q) (field q) (suc (suc k)) i b
@@ -98,11 +98,11 @@ module _ (n : ℕ) where
   module _ (order : Order) where
     -- a line that is missing or not ended, before end has come
     missing : (came : Came) (ls : List (List ℕ)) (line : ℕ) → ((m b : ℕ) → WrongHere n (part_of came) ls m b ≡ ((m ≡ 10) × (b ≡ 0)))
-        → LinesJudged (part_of came) ls line (J.Refused (refusal_of line F.Missing))
+        → LinesJudged (part_of came) ls line (Err (refusal_of line F.Missing))
     missing came ls line e = open-here (part_of came) ls line (rw (e 10 0) (refl, refl)) (λ m b w. rw (e m b) at w)
 
     -- neither a row nor a block: end, or the first fault
-    ending-judged : (came : Came) (ls : List (List ℕ)) (line : ℕ) → ((w : ℕ) → front n order came ls ≡ L.Row w → ⊥) → (front n order came ls ≡ L.Block → ⊥)
+    ending-judged : (came : Came) (ls : List (List ℕ)) (line : ℕ) → ((w : ℕ) → front n order came ls ≡ Ok (L.Row w) → ⊥) → (front n order came ls ≡ Ok L.Block → ⊥)
         → LinesJudged (part_of came) ls line (line_verdict line (ending_of n order came ls))
     ending-judged Nothing [] line r b = missing Nothing [] line (λ i j. refl)
     ending-judged Blocks [] line r b = missing Blocks [] line (λ i j. refl)
@@ -112,12 +112,12 @@ module _ (n : ℕ) where
     ending-judged Heards (l ∷ []) line r b = missing Heards (l ∷ []) line (λ i j. refl)
     ending-judged came (l ∷ m ∷ ms) line r b = by (line_of n order came (fields l)) refl (line-judged n order came (fields l))
       where
-        by : (x : Line) → line_of n order came (fields l) ≡ x → LineJudged n (part_of came) (fields l) x
+        by : (x : Result Line Fault) → line_of n order came (fields l) ≡ x → LineJudged n (part_of came) (fields l) x
             → LinesJudged (part_of came) (l ∷ m ∷ ms) line (line_verdict line (end_by x (m ∷ ms)))
-        by (L.Row w) e h = absurd (r w e)
-        by L.Block e h = absurd (b e)
-        by L.End e h = on (part_of came) on_nothing l m ms line (line_verdict line (after_end (m ∷ ms))) h.0 (ap after h.1) (nothing-judged line m ms)
-        by (L.Bad fault) e h = first-here (part_of came) l m ms line fault h
+        by (Ok (L.Row w)) e h = absurd (r w e)
+        by (Ok L.Block) e h = absurd (b e)
+        by (Ok L.End) e h = on (part_of came) on_nothing l m ms line (line_verdict line (after_end (m ∷ ms))) h.0 (ap after h.1) (nothing-judged line m ms)
+        by (Err fault) e h = first-here (part_of came) l m ms line fault h
 
     -- ---- blocks and heard lines
 
@@ -131,7 +131,7 @@ module _ (n : ℕ) where
     blocks_end came heard ls = ending_of n order (came_then came heard (length (blocks_of heard ls))) (drop (length (blocks_of heard ls)) ls)
 
     -- no more comes
-    none-judged : (came : Came) (ls : List (List ℕ)) (line : ℕ) → ((w : ℕ) → front n order came ls ≡ L.Row w → ⊥) → (front n order came ls ≡ L.Block → ⊥)
+    none-judged : (came : Came) (ls : List (List ℕ)) (line : ℕ) → ((w : ℕ) → front n order came ls ≡ Ok (L.Row w) → ⊥) → (front n order came ls ≡ Ok L.Block → ⊥)
         → LinesJudged (part_of came) ls line (line_verdict (0 + line) (ending_of n order came ls))
     none-judged came ls line r b = let z : 0 + line ≡ line = omega arith in rw z (ending-judged came ls line r b)
 
@@ -150,7 +150,7 @@ module _ (n : ℕ) where
     then-past heard (suc k) = refl
 
     -- blocks, and the line after them
-    blocks-judged : (came : Came) (heard : Bool) (ls : List (List ℕ)) (line : ℕ) → SoughtFirst came heard ls → ((w : ℕ) → front n order came ls ≡ L.Row w → ⊥)
+    blocks-judged : (came : Came) (heard : Bool) (ls : List (List ℕ)) (line : ℕ) → SoughtFirst came heard ls → ((w : ℕ) → front n order came ls ≡ Ok (L.Row w) → ⊥)
         → LinesJudged (part_of came) ls line (line_verdict (length (blocks_of heard ls) + line) (blocks_end came heard ls))
     blocks-judged came heard [] line k r = none-judged came [] line r (never-block F.Missing)
     blocks-judged came heard (l ∷ []) line k r = none-judged came (l ∷ []) line r (never-block F.Missing)
@@ -164,7 +164,7 @@ module _ (n : ℕ) where
             (line_verdict (length (block_then found (blocks_of heard (m ∷ ms))) + line)
             (ending_of n order (came_then came heard (length (block_then found (blocks_of heard (m ∷ ms))))) (drop (length (block_then found (blocks_of heard (m ∷ ms)))) (l ∷ m ∷ ms))))
         by h (block us) a =
-            let j : LineJudged n (part_of came) (fields l) L.Block = subst (LineJudged n (part_of came) (fields l)) a.1 (line-judged n order came (fields l)) in
+            let j : LineJudged n (part_of came) (fields l) (Ok L.Block) = subst (LineJudged n (part_of came) (fields l)) a.1 (line-judged n order came (fields l)) in
             let b = length (blocks_of heard (m ∷ ms)) in
             let e : suc b + line ≡ b + (line + 1) = omega arith in
             let g : LinesJudged (part_of (past heard)) (m ∷ ms) (line + 1) (line_verdict (b + (line + 1)) (ending_of n order (past heard) (drop b (m ∷ ms)))) =
@@ -190,7 +190,7 @@ module _ (n : ℕ) where
     front_end ls = ending_of n order (came_after (heard_front ls) (length (blocks_of (heard_front ls) ls))) (drop (length (blocks_of (heard_front ls) ls)) ls)
 
     -- no row comes
-    no_rows : (ls : List (List ℕ)) (line : ℕ) → ((w : ℕ) → front n order Nothing ls ≡ L.Row w → ⊥)
+    no_rows : (ls : List (List ℕ)) (line : ℕ) → ((w : ℕ) → front n order Nothing ls ≡ Ok (L.Row w) → ⊥)
         → LinesJudged on_rows ls line (line_verdict (0 + (length (blocks_of (heard_front ls) ls) + line)) (front_end ls))
     no_rows ls line r =
         let t = heard_front ls in
@@ -207,15 +207,15 @@ module _ (n : ℕ) where
       where
         by : (let left = drop (length (rows_of n order (m ∷ ms))) (m ∷ ms) in
             LinesJudged on_rows (m ∷ ms) (line + 1) (line_verdict (length (rows_of n order (m ∷ ms)) + (length (blocks_of (heard_front left) left) + (line + 1))) (front_end left)))
-            → (x : Line) → line_of n order Nothing (fields l) ≡ x → LineJudged n on_rows (fields l) x
+            → (x : Result Line Fault) → line_of n order Nothing (fields l) ≡ x → LineJudged n on_rows (fields l) x
             → let left = drop (length (row_then x (rows_of n order (m ∷ ms)))) (l ∷ m ∷ ms) in
             LinesJudged on_rows (l ∷ m ∷ ms) line (line_verdict (length (row_then x (rows_of n order (m ∷ ms))) + (length (blocks_of (heard_front left) left) + line)) (front_end left))
-        by h (L.Row w) e j =
+        by h (Ok (L.Row w)) e j =
             let k = length (rows_of n order (m ∷ ms)) in
             let left = drop k (m ∷ ms) in
             let b = length (blocks_of (heard_front left) left) in
             let s : suc k + (b + line) ≡ k + (b + (line + 1)) = omega arith in
             rw s (on on_rows on_rows l m ms line (line_verdict (k + (b + (line + 1))) (front_end left)) j.0 (ap after j.1) h)
-        by h L.Block e j = no_rows (l ∷ m ∷ ms) line (λ w g. (let z : ◌≡◌ {A = ℕ} 0 1 = cc in absurd (omega arith)))
-        by h L.End e j = no_rows (l ∷ m ∷ ms) line (λ w g. (let z : ◌≡◌ {A = ℕ} 0 1 = cc in absurd (omega arith)))
-        by h (L.Bad f) e j = no_rows (l ∷ m ∷ ms) line (λ w g. (let z : ◌≡◌ {A = ℕ} 0 1 = cc in absurd (omega arith)))
+        by h (Ok L.Block) e j = no_rows (l ∷ m ∷ ms) line (λ w g. (let z : ◌≡◌ {A = ℕ} 0 1 = cc in absurd (omega arith)))
+        by h (Ok L.End) e j = no_rows (l ∷ m ∷ ms) line (λ w g. (let z : ◌≡◌ {A = ℕ} 0 1 = cc in absurd (omega arith)))
+        by h (Err f) e j = no_rows (l ∷ m ∷ ms) line (λ w g. (let z : ◌≡◌ {A = ℕ} 0 1 = cc in absurd (omega arith)))

@@ -1,4 +1,5 @@
 -- The block lines of a sheet are where reading one after the other leads, so that they can be produced one by one.
+use Rattle.std.proofs.Common.{Option, Some, None, Result, Ok, Err}
 use Prim.Native.Nat.{ℕ, zero, suc, ◌+◌, ◌-◌, ◌≤◌, ◌<◌}
 use borrow.Author.Tests.{leb-true, leb-false}
 use lib.Dec.{eqb, leb}
@@ -11,7 +12,7 @@ use mathlib.Core.Logic.{⊎_elim}
 use mathlib.Core.Path.{◌≡◌, refl, sym, ◌∙◌, ap}
 use native.Mathlib.Nat.{zero-add, eq-or-lt_of_le}
 use native.Mathlib.Omega.{arith}
-use Rattle.plates.specs.declared.Verdict.TheVariants as J
+use Rattle.sheets.specs.declared.line.Fault.{Fault}
 use Rattle.sheets.specs.Text.{line_feed, till, lines, lines_from, begins}
 use Rattle.sheets.specs.Blocks.{BlockFound, block, no_block, blocks_of, counters_of, counter_at, counter_front, block_at, next_line, block_place}
 use Rattle.sheets.specs.Masks.{mask_front, masks_in}
@@ -20,8 +21,6 @@ use Rattle.sheets.specs.Turning.{by_position, in_order}
 use Rattle.sheets.specs.Readers.{Ended, Until}
 use Rattle.sheets.specs.declared.Order.{Order}
 use Rattle.sheets.specs.declared.line.Fault.TheVariants.{Missing}
-use Rattle.sheets.specs.declared.mask.MaskLine.{MaskLine}
-use Rattle.sheets.specs.declared.mask.MaskLine.TheVariants as M
 use Rattle.sheets.specs.declared.body.Ending.{Ending}
 use Rattle.sheets.specs.declared.body.Ending.TheVariants.{Fine, NoEnd, After}
 use Rattle.sheets.proofs.Parts.{from_start, from-none, from_more, from_last, part_length}
@@ -162,16 +161,16 @@ drop-one : (k : ℕ) (ls : List (List ℕ)) → drop k (drop 1 ls) ≡ drop (suc
 drop-one k [] = drop-nil k
 drop-one k (l ∷ ls) = refl
 
-fine-case : (line : ℕ) (d : Ending) → line_verdict line d ≡ J.Accepted → d ≡ Fine
+fine-case : (line : ℕ) (d : Ending) → line_verdict line d ≡ Ok tt → d ≡ Fine
 fine-case line Fine e = refl
 fine-case line (NoEnd f) e = let z : ◌≡◌ {A = ℕ} 0 1 = cc in absurd (omega arith)
 fine-case line (After f) e = let z : ◌≡◌ {A = ℕ} 0 1 = cc in absurd (omega arith)
 
 -- lines of which none is bad end as they should, after the mask
-pub fine-after : (found : MaskLine) (c : Contents) (ls : List (List ℕ)) → bad_by found c ls ≡ J.Accepted → ending_after c (drop (masks_in found) ls) ≡ Fine
-fine-after (M.Is w) c ls e = fine-case _ _ e
-fine-after M.NoMask c ls e = fine-case _ _ e
-fine-after (M.Bad f) c ls e = let z : ◌≡◌ {A = ℕ} 0 1 = cc in absurd (omega arith)
+pub fine-after : (found : Result (Option ℕ) Fault) (c : Contents) (ls : List (List ℕ)) → bad_by found c ls ≡ Ok tt → ending_after c (drop (masks_in found) ls) ≡ Fine
+fine-after (Ok (Some w)) c ls e = fine-case _ _ e
+fine-after (Ok None) c ls e = fine-case _ _ e
+fine-after (Err f) c ls e = let z : ◌≡◌ {A = ℕ} 0 1 = cc in absurd (omega arith)
 
 module _ (s : List ℕ) (a : Accepts s) where
   abbrev masks : ℕ

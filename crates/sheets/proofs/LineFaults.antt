@@ -1,4 +1,5 @@
 -- The fault of one line after the cover and the mask: it is the first of all that is wrong with the line, and where there is none nothing is.
+use Rattle.std.proofs.Common.{Some, None, Result, Ok, Err}
 use Prim.Native.Nat.{ℕ, suc, ◌+◌, ◌<◌, ◌≤◌}
 use borrow.Author.Tests.{le-ltb, lt-ltb, ne_eqb}
 use lib.Dec.{eqb}
@@ -9,20 +10,19 @@ use mathlib.Core.Logic.{inl, inr, ◌⊎◌}
 use mathlib.Core.Path.{◌≡◌, refl, sym, ◌∙◌, ap}
 use native.Mathlib.Decide.{dec_lt}
 use native.Mathlib.Omega.{arith}
+use Rattle.sheets.specs.declared.line.Fault.{Fault}
 use Rattle.sheets.specs.Words.{word_of}
 use Rattle.sheets.specs.Numbers.{counter_of, is_number, sample_of}
 use Rattle.sheets.specs.Rows.{bits_only, word_from}
 use Rattle.sheets.specs.Turning.{in_order}
 use Rattle.sheets.specs.Blocks.{is_sample, samples_of}
-use Rattle.sheets.specs.Lines.{field_of, row_is, row_rest, block_is, heard_fields, end_rest, line_by, line_of}
+use Rattle.sheets.specs.Lines.{field_of, row_is, row_rest, row_made, block_is, heard_fields, end_rest, line_by, line_of}
 use Rattle.sheets.specs.Lines as lines
 use Rattle.sheets.specs.Faults.{Part, on_mask, on_rows, on_blocks, on_heard, in_turn, due, first_off, good_field, form_number, field_at, first_word}
 use Rattle.sheets.specs.Faults.{Wrong, out_of_turn, miscounted, malformed, Before}
 use Rattle.sheets.specs.declared.Order.{Order}
 use Rattle.sheets.specs.declared.word.Word.{Word}
 use Rattle.sheets.specs.declared.word.Word.TheVariants.{Cover, Mask, Row, Block, Heard, End, Other}
-use Rattle.sheets.specs.declared.row.Row.TheVariants as R
-use Rattle.sheets.specs.declared.block.Samples.TheVariants as S
 use Rattle.sheets.specs.declared.line.Came.{Came}
 use Rattle.sheets.specs.declared.line.Came.TheVariants.{Nothing, Blocks, Heards}
 use Rattle.sheets.specs.declared.line.Line.{Line}
@@ -152,11 +152,11 @@ abbrev pub Received : Word → Type 0
 Received word = (word ≡ Block) ⊎ (word ≡ Heard)
 
 -- what a line that was read says of all that may be wrong with it, and its word
-abbrev pub LineJudged : ℕ → Part → List (List ℕ) → Line → Type 0
-LineJudged n part fs (L.Row w) = Right n part fs × (first_word fs ≡ Row)
-LineJudged n part fs L.Block = Right n part fs × Received (first_word fs)
-LineJudged n part fs L.End = Right n part fs × (first_word fs ≡ End)
-LineJudged n part fs (L.Bad fault) = Told n part fs (lines.number_of fault) (field_of fault)
+abbrev pub LineJudged : ℕ → Part → List (List ℕ) → Result Line Fault → Type 0
+LineJudged n part fs (Ok (L.Row w)) = Right n part fs × (first_word fs ≡ Row)
+LineJudged n part fs (Ok L.Block) = Right n part fs × Received (first_word fs)
+LineJudged n part fs (Ok L.End) = Right n part fs × (first_word fs ≡ End)
+LineJudged n part fs (Err fault) = Told n part fs (lines.number_of fault) (field_of fault)
 
 -- the two words after which a row's field stands, and the parts of the sheet that begin with their lines
 abbrev pub bits_word : Bool → Word
@@ -167,12 +167,10 @@ abbrev pub bits_part : Bool → Part
 bits_part false = on_rows
 bits_part true = on_mask
 
--- what the field after such a word says of all that may be wrong with the line: it makes a row or a fault
-abbrev pub BitsJudged : ℕ → Bool → List (List ℕ) → Line → Type 0
-BitsJudged n mask fs (L.Row w) = Right n (bits_part mask) fs × (first_word fs ≡ bits_word mask)
-BitsJudged n mask fs L.Block = ⊥
-BitsJudged n mask fs L.End = ⊥
-BitsJudged n mask fs (L.Bad fault) = Told n (bits_part mask) fs (lines.number_of fault) (field_of fault)
+-- what the field after such a word says of all that may be wrong with the line: it has a word or a fault
+abbrev pub BitsJudged : ℕ → Bool → List (List ℕ) → Result ℕ Fault → Type 0
+BitsJudged n mask fs (Ok w) = Right n (bits_part mask) fs × (first_word fs ≡ bits_word mask)
+BitsJudged n mask fs (Err fault) = Told n (bits_part mask) fs (lines.number_of fault) (field_of fault)
 
 -- a line in its turn, with the number of fields that it should have, and samples from field `lead` on
 module _ (n : ℕ) (part : Part) (gs : List (List ℕ)) (word : Word) (e : first_word gs ≡ word) (t : in_turn part word ≡ true) (d : length gs ≡ due word (length gs))
@@ -194,7 +192,7 @@ module _ (n : ℕ) (part : Part) (gs : List (List ℕ)) (word : Word) (e : first
       more g = let z : suc (k + lead) ≡ k + 1 + lead = omega arith in rw z at (good-on before (here ∙ g))
 
       by : (is_sample (sample_of f) ≡ true → LineJudged n part gs (block_is (samples_of lead (k + 1) fs))) → (u : Bool) → is_sample (sample_of f) ≡ u
-          → LineJudged n part gs (block_is (cond u (samples_of lead (k + 1) fs) (S.Bad (k + lead))))
+          → LineJudged n part gs (block_is (cond u (samples_of lead (k + 1) fs) (Err (k + lead))))
       by on true g = on g
       by on false g = rw (sym v) (form-told n part gs word e t d (k + lead) (omega arith) (omega arith) (here ∙ g) before)
 
@@ -208,20 +206,18 @@ module _ (n : ℕ) (order : Order) (w : List ℕ) where
   bits-judged mask e (f ∷ []) = by mask e (eqb (length f) n && bits_only f) refl
     where
       by : (m : Bool) → word_of w ≡ bits_word m → (t : Bool) → (eqb (length f) n && bits_only f) ≡ t
-          → BitsJudged n m (w ∷ f ∷ []) (row_is (cond t (R.Is (word_from (in_order order f))) R.Bad))
+          → BitsJudged n m (w ∷ f ∷ []) (row_is (cond t (Some (word_from (in_order order f))) None))
       by false q true h = (all_right n on_rows (w ∷ f ∷ []) Row q refl refl (good-on (good-on none_before refl) h), q)
       by true q true h = (all_right n on_mask (w ∷ f ∷ []) Mask q refl refl (good-on (good-on none_before refl) h), q)
       by false q false h = form-told n on_rows (w ∷ f ∷ []) Row q refl refl 2 (omega arith) (omega arith) h (good-on none_before refl)
       by true q false h = form-told n on_mask (w ∷ f ∷ []) Mask q refl refl 2 (omega arith) (omega arith) h (good-on none_before refl)
 
-  row-judged : word_of w ≡ Row → (fs : List (List ℕ)) → LineJudged n on_rows (w ∷ fs) (row_rest n order fs)
+  row-judged : word_of w ≡ Row → (fs : List (List ℕ)) → LineJudged n on_rows (w ∷ fs) (row_made (row_rest n order fs))
   row-judged e fs = as_row (row_rest n order fs) (bits-judged false e fs)
     where
-      as_row : (x : Line) → BitsJudged n false (w ∷ fs) x → LineJudged n on_rows (w ∷ fs) x
-      as_row (L.Row u) h = h
-      as_row L.Block h = absurd h
-      as_row L.End h = absurd h
-      as_row (L.Bad fault) h = h
+      as_row : (x : Result ℕ Fault) → BitsJudged n false (w ∷ fs) x → LineJudged n on_rows (w ∷ fs) (row_made x)
+      as_row (Ok u) h = h
+      as_row (Err fault) h = h
 
   -- any number of samples after block
   block-judged : (part : Part) → in_turn part Block ≡ true → word_of w ≡ Block → (fs : List (List ℕ)) → LineJudged n part (w ∷ fs) (block_is (samples_of 2 0 fs))
@@ -244,7 +240,7 @@ module _ (n : ℕ) (order : Order) (w : List ℕ) where
           let z : i + (0 + 3) ≡ suc (suc (suc i)) = omega arith in
           rw (z, ne_eqb (suc (suc (suc i))) 1 (λ q. omega arith), ne_eqb (suc (suc (suc i))) 2 (λ q. omega arith))
 
-      by : (t : Bool) → is_number (counter_of f) ≡ t → LineJudged n part (w ∷ f ∷ fs) (block_is (cond t (samples_of 3 0 fs) (S.Bad 2)))
+      by : (t : Bool) → is_number (counter_of f) ≡ t → LineJudged n part (w ∷ f ∷ fs) (block_is (cond t (samples_of 3 0 fs) (Err 2)))
       by true g =
           samples-judged n part (w ∷ f ∷ fs) Heard e turn counted refl (inr e) 3 (omega arith) 0 fs (omega arith) field (good-on (good-on none_before refl) g)
       by false g = form-told n part (w ∷ f ∷ fs) Heard e turn counted 2 (omega arith) (omega arith) g (good-on none_before refl)

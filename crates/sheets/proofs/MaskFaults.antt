@@ -1,12 +1,13 @@
 -- The lines after the cover: the refusal of a bad one is their first fault, whether the first of them is a mask or not.
+use Rattle.plates.specs.declared.Refusal.{Refusal}
+use Rattle.std.proofs.Common.{Option, Some, None, Result, Ok, Err}
 use Prim.Native.Nat.{ℕ, zero, suc, ◌+◌}
 use lib.ListN.{length, drop}
 use mathlib.Core.List.{List, [], ◌∷◌}
 use mathlib.Core.Path.{◌≡◌, refl, sym, ◌∙◌, ap}
 use native.Mathlib.Omega.{arith}
 use Rattle.plates.specs.Refusals.{field, number}
-use Rattle.plates.specs.declared.Verdict.{Verdict}
-use Rattle.plates.specs.declared.Verdict.TheVariants as J
+use Rattle.sheets.specs.declared.line.Fault.{Fault}
 use Rattle.sheets.specs.Text.{fields}
 use Rattle.sheets.specs.Blocks.{blocks_of, heard_front}
 use Rattle.sheets.specs.Lines.{rows_of}
@@ -15,8 +16,6 @@ use Rattle.sheets.specs.Sheet.{contents_with, contents_of, body_bad, bad_by, lin
 use Rattle.sheets.specs.Faults.{Part, on_mask, on_rows, in_turn, after, first_word, Wrong, out_of_turn, miscounted, malformed, WrongAt}
 use Rattle.sheets.specs.declared.word.Word.{Word}
 use Rattle.sheets.specs.declared.word.Word.TheVariants as W
-use Rattle.sheets.specs.declared.mask.MaskLine.{MaskLine}
-use Rattle.sheets.specs.declared.mask.MaskLine.TheVariants as M
 use Rattle.sheets.specs.declared.cover.Cover.{Cover}
 use Rattle.sheets.proofs.CoverFaults.{MaskJudged, mask-judged}
 use Rattle.sheets.proofs.FirstFaults.{LinesJudged, first-here, on, rows-judged}
@@ -63,9 +62,9 @@ module _ (n : ℕ) where
   from-rows [] h (suc (suc k)) m b w = w
   from-rows (l ∷ ls) h (suc (suc k)) m b w = w
 
-  no-mask-judged : (ls : List (List ℕ)) → NoMaskFirst ls → (line : ℕ) (v : Verdict) → LinesJudged n on_rows ls line v → LinesJudged n on_mask ls line v
-  no-mask-judged ls h line J.Accepted j = λ k m b w. j k m b (to-rows ls h k m b w)
-  no-mask-judged ls h line (J.Refused q) j =
+  no-mask-judged : (ls : List (List ℕ)) → NoMaskFirst ls → (line : ℕ) (v : Result (Unit {0}) Refusal) → LinesJudged n on_rows ls line v → LinesJudged n on_mask ls line v
+  no-mask-judged ls h line (Ok _) j = λ k m b w. j k m b (to-rows ls h k m b w)
+  no-mask-judged ls h line (Err q) j =
       (j.0, j.1, record { is = from-rows ls h (suc j.0) (number q) (field q) j.2.is; first = λ k m b w. j.2.first k m b (to-rows ls h k m b w) })
 
 -- ---- the lines after the cover
@@ -82,14 +81,14 @@ module _ (cover : Cover) where
       rw (c, e) (rows-judged cover.n cover.order ls line)
 
   -- by the mask
-  by_mask : (l m : List ℕ) (ms : List (List ℕ)) (found : MaskLine) → MaskJudged cover.n (fields l) found
+  by_mask : (l m : List ℕ) (ms : List (List ℕ)) (found : Result (Option ℕ) Fault) → MaskJudged cover.n (fields l) found
       → let ls = l ∷ m ∷ ms in LinesJudged cover.n on_mask ls 2 (bad_by found (contents_with cover (mask_in found) (drop (masks_in found) ls)) ls)
-  by_mask l m ms (M.Is w) j =
+  by_mask l m ms (Ok (Some w)) j =
       on cover.n on_mask on_rows l m ms 2 (body_bad 3 (contents_with cover w (m ∷ ms)) (m ∷ ms)) j.0 (ap after j.1)
       (after-mask-judged 3 w (m ∷ ms))
-  by_mask l m ms M.NoMask j =
+  by_mask l m ms (Ok None) j =
       no-mask-judged cover.n (l ∷ m ∷ ms) j 2 (body_bad 2 (contents_with cover 0 (l ∷ m ∷ ms)) (l ∷ m ∷ ms)) (after-mask-judged 2 0 (l ∷ m ∷ ms))
-  by_mask l m ms (M.Bad fault) j = first-here cover.n on_mask l m ms 2 fault j
+  by_mask l m ms (Err fault) j = first-here cover.n on_mask l m ms 2 fault j
 
   -- all of them, by the verdict of the sheet's definition
   pub body-judged : (ls : List (List ℕ)) → LinesJudged cover.n on_mask ls 2 (line_bad (contents_of cover ls) ls)

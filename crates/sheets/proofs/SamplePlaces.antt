@@ -1,4 +1,5 @@
 -- The samples of a block line in their places by position: what the loop over the places keeps, and what a whole line leaves.
+use Rattle.std.proofs.Common.{Ok}
 use Prim.Native.Nat.{ℕ, ◌+◌, ◌≤◌, ◌<◌}
 use borrow.Author.Tests.{le-ltb, lt-ltb}
 use lib.IntN.{ℤ, pos}
@@ -13,7 +14,6 @@ use Rattle.sheets.specs.Room.{laid}
 use Rattle.sheets.specs.Turning.{in_order}
 use Rattle.sheets.specs.Blocks.{listed_in, block_line, placed}
 use Rattle.sheets.specs.declared.Order.{Order}
-use Rattle.sheets.specs.declared.block.Samples.TheVariants.{Count}
 use Rattle.sheets.proofs.Laying.{laid_from, laid-front, laid_none, laid_on}
 use Rattle.sheets.proofs.BlockPlaces.{line-counts}
 
@@ -39,7 +39,7 @@ module _ {vs room₀ room : List ℤ} {k : ℕ} (i : Placing vs room₀ room k) 
   pub placing-end : length vs ≤ k → room ≡ laid vs room₀
   placing-end h = sym (laid_none k room) ∙ rw (drop_of_length-le vs h) at i.kept
 
-module _ (heard : Bool) (order : Order) (fields : List (List ℕ)) (count : ℕ) (counted : block_line heard fields ≡ Count count) (room : List ℤ) where
+module _ (heard : Bool) (order : Order) (fields : List (List ℕ)) (count : ℕ) (counted : block_line heard fields ≡ Ok count) (room : List ℤ) where
   abbrev values : List ℤ
   values = listed_in heard fields
 

@@ -1,4 +1,5 @@
 -- The samples of a line one after the other: what the loop over them keeps.
+use Rattle.std.proofs.Common.{Some, None, Result, Ok, Err}
 use Prim.Native.Nat.{ℕ, ◌+◌, ◌-◌, ◌≤◌, ◌<◌}
 use lib.IntN.{ℤ}
 use lib.ListN.{length, take, drop, set, length-set}
@@ -11,17 +12,14 @@ use Rattle.sheets.specs.Numbers.{sample_of}
 use Rattle.sheets.specs.Room.{laid}
 use Rattle.sheets.specs.Blocks.{samples_of, values_of}
 use Rattle.sheets.specs.Readers.{FieldsRead, SamplesRead, Until}
-use Rattle.sheets.specs.declared.number.Sample.TheVariants as S
-use Rattle.sheets.specs.declared.block.Samples.{Samples}
-use Rattle.sheets.specs.declared.block.Samples.TheVariants.{Count, Bad}
 use Rattle.sheets.proofs.Parts.{from_more, from-none}
 use Rattle.sheets.proofs.Laying.{laid_from, laid_none, laid_on}
 
 -- where the answer is a field that is no sample, nothing is asked of the room
-pub read-bad : (d : Samples) (vs room room' : List ℤ) (f : ℕ) → d ≡ Bad f → SamplesRead d vs room (Bad f) room'
+pub read-bad : (d : Result ℕ ℕ) (vs room room' : List ℤ) (f : ℕ) → d ≡ Err f → SamplesRead d vs room (Err f) room'
 read-bad d vs room room' f e = record { is = sym e; stored = λ k q. absurd (never q) }
   where
-    never : {k : ℕ} → Bad f ≡ Count k → ⊥
+    never : {k : ℕ} → Err f ≡ Ok k → ⊥
     never q = let z : ◌≡◌ {A = ℕ} 0 1 = cc in omega arith
 
 -- k samples are taken, and the next field begins at `at`: the fields left, after those, are all of them
@@ -37,7 +35,7 @@ sample-start lead line from room h = record { low = omega arith; high = h; size 
 
 module _ {lead : ℕ} {line : List ℕ} {from : ℕ} {room₀ room : List ℤ} {at k : ℕ} (i : Sampling lead line from room₀ room at k) where
   -- at the end all are taken
-  pub sample-end : length line < at → FieldsRead lead (fields_from line from) room₀ (Count k) room
+  pub sample-end : length line < at → FieldsRead lead (fields_from line from) room₀ (Ok k) room
   sample-end h =
       let e = from-none tab line at h in
       record {
@@ -47,7 +45,7 @@ module _ {lead : ℕ} {line : List ℕ} {from : ℕ} {room₀ room : List ℤ} {
 
   module _ (r : ℕ) (h : at ≤ length line) (u : Until tab line at r) where
     -- one field more, which is a sample
-    pub sample-on : (v : ℤ) → sample_of (take (r - at) (drop at line)) ≡ S.Is v → Sampling lead line from room₀ (set room k v) (r + 1) (k + 1)
+    pub sample-on : (v : ℤ) → sample_of (take (r - at) (drop at line)) ≡ Some v → Sampling lead line from room₀ (set room k v) (r + 1) (k + 1)
     sample-on v e =
         let m = from_more tab line at r h u in
         record {
@@ -59,6 +57,6 @@ module _ {lead : ℕ} {line : List ℕ} {from : ℕ} {room₀ room : List ℤ} {
         }
 
     -- a field that is none
-    pub sample-bad : sample_of (take (r - at) (drop at line)) ≡ S.Bad
-        → FieldsRead lead (fields_from line from) room₀ (Bad (k + lead)) room
+    pub sample-bad : sample_of (take (r - at) (drop at line)) ≡ None
+        → FieldsRead lead (fields_from line from) room₀ (Err (k + lead)) room
     sample-bad e = read-bad _ _ room₀ room (k + lead) (sym i.counted ∙ rw (from_more tab line at r h u, e))

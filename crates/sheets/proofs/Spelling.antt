@@ -1,15 +1,14 @@
 -- Words of a known length, letter by letter.
-use Prim.Native.Nat.{ℕ, suc, ◌+◌, ◌<◌}
-use borrow.Author.Tests.{eq-eqb, ne_eqb}
+use Prim.Native.Nat.{ℕ, suc}
 use lib.Dec.{eqb}
-use lib.ListN.{length, drop, get_or}
-use mathlib.Core.Bool.{Bool, true, false, cond}
+use lib.Pointwise.{pointwise}
+use lib.ListN.{length, get_or}
+use mathlib.Core.Bool.{Bool, true, false, cond, ◌&&◌}
 use mathlib.Core.List.{List, [], ◌∷◌}
 use mathlib.Core.Path.{◌≡◌, refl, ap}
 use native.Mathlib.Omega.{arith}
 use Rattle.sheets.specs.Words.{same, cover, mask, row, block, heard, end, word_of}
 use Rattle.sheets.specs.declared.word.Word.TheVariants.{Cover, Mask, Row, Block, Heard, End, Other}
-use Rattle.sheets.proofs.Bytes.{here}
 
 both : (t u : Bool) → u ≡ false → cond t u false ≡ false
 both true u e = e
@@ -22,14 +21,16 @@ apart [] (y ∷ ys) n = refl
 apart (x ∷ xs) [] n = refl
 apart (x ∷ xs) (y ∷ ys) n = both (eqb x y) (same xs ys) (apart xs ys (λ e. n (ap suc e)))
 
-module _ (f g : List ℕ) (i : ℕ) (h : i < length f) (k : i < length g) where
-  -- one letter more
-  pub same-on : get_or f i 0 ≡ get_or g i 0 → same (drop i f) (drop i g) ≡ same (drop (i + 1) f) (drop (i + 1) g)
-  same-on e = rw (here f i h, here g i k, eq-eqb (get_or f i 0) (get_or g i 0) e)
+and-cond : (t u v : Bool) → u ≡ v → (t && u) ≡ cond t v false
+and-cond true u v e = e
+and-cond false u v e = refl
 
-  -- two letters differ
-  pub same_not : (get_or f i 0 ≡ get_or g i 0 → ⊥) → same (drop i f) (drop i g) ≡ false
-  same_not e = rw (here f i h, here g i k, ne_eqb (get_or f i 0) (get_or g i 0) e)
+-- what `==` of two slices tells
+pub same-pointwise : (f g : List ℕ) → pointwise eqb f g ≡ same f g
+same-pointwise [] [] = refl
+same-pointwise [] (y ∷ ys) = refl
+same-pointwise (x ∷ xs) [] = refl
+same-pointwise (x ∷ xs) (y ∷ ys) = and-cond (eqb x y) (pointwise eqb xs ys) (same xs ys) (same-pointwise xs ys)
 
 -- a text by its letters
 pub listed3 : (f : List ℕ) → length f ≡ 3 → f ≡ get_or f 0 0 ∷ get_or f 1 0 ∷ get_or f 2 0 ∷ []

@@ -1,4 +1,5 @@
 -- The lines after the cover, turned: the same mask and rows, blocks by position and counters, and the same end.
+use Rattle.std.proofs.Common.{Option, Some, None, Result, Ok, Err}
 use Prim.Native.Nat.{ℕ, zero, suc}
 use lib.Dec.{eqb}
 use lib.IntN.{ℤ}
@@ -7,22 +8,19 @@ use mathlib.Core.Bool.{Bool, true, false, cond}
 use mathlib.Core.List.{List, [], ◌∷◌, reverse}
 use mathlib.Core.Path.{◌≡◌, refl, ◌∙◌, ap, ap₂}
 use native.Mathlib.Omega.{arith}
+use Rattle.sheets.specs.declared.line.Fault.{Fault}
 use Rattle.sheets.specs.Text.{fields, onto, parts}
 use Rattle.sheets.specs.Words.{word_of}
 use Rattle.sheets.specs.Turning.{by_position}
 use Rattle.sheets.specs.Numbers.{counter_of, is_number}
 use Rattle.sheets.specs.Rows.{row_of}
 use Rattle.sheets.specs.Blocks.{BlockFound, block, no_block, samples_of, samples_found, values_of, heard_rest, block_by, block_line, values_after, listed_in, block_then, blocks_of, counter_by, counter_in, counters_of, heard_line, heard_front}
-use Rattle.sheets.specs.Lines.{late_row, late_block, late_heard, row_is, row_rest, block_is, heard_fields, line_by, line_of, row_then, rows_of, after_end, end_by, ending_of}
+use Rattle.sheets.specs.Lines.{late_row, late_block, late_heard, row_is, row_rest, row_made, block_is, heard_fields, line_by, line_of, row_then, rows_of, after_end, end_by, ending_of}
 use Rattle.sheets.specs.Masks.{mask_by, mask_front, mask_is, mask_of}
 use Rattle.sheets.specs.Turned.{heard_turned, rest_turned, fields_turned, other, LinesTurned}
 use Rattle.sheets.specs.declared.Order.{Order}
 use Rattle.sheets.specs.declared.word.Word.{Word}
 use Rattle.sheets.specs.declared.word.Word.TheVariants as W
-use Rattle.sheets.specs.declared.row.Row.{Row}
-use Rattle.sheets.specs.declared.row.Row.TheVariants as R
-use Rattle.sheets.specs.declared.block.Samples.{Samples}
-use Rattle.sheets.specs.declared.block.Samples.TheVariants as S
 use Rattle.sheets.specs.declared.line.Came.{Came}
 use Rattle.sheets.specs.declared.line.Came.TheVariants.{Nothing}
 use Rattle.sheets.specs.declared.line.Fault.TheVariants.{Turn}
@@ -37,11 +35,11 @@ use Rattle.sheets.proofs.TurnedLists.{bits-turned, found_turned, other-order, sa
 row-turned : (n : ℕ) (order : Order) (f : List ℕ) → row_of n (other order) (reverse f) ≡ row_of n order f
 row-turned n order f = rw (length-reverse f, bits-turned f, other-order order f)
 
-no_more : (a b : Samples) (ws : List ℕ) → row_then (block_is a) ws ≡ row_then (block_is b) ws
-no_more (S.Count j) (S.Count k) ws = refl
-no_more (S.Count j) (S.Bad k) ws = refl
-no_more (S.Bad j) (S.Count k) ws = refl
-no_more (S.Bad j) (S.Bad k) ws = refl
+no_more : (a b : Result ℕ ℕ) (ws : List ℕ) → row_then (block_is a) ws ≡ row_then (block_is b) ws
+no_more (Ok j) (Ok k) ws = refl
+no_more (Ok j) (Err k) ws = refl
+no_more (Err j) (Ok k) ws = refl
+no_more (Err j) (Err k) ws = refl
 
 -- only a row goes into the rows
 rows-by-word : (n : ℕ) (order : Order) (w : Word) (fs : List (List ℕ)) (ws : List ℕ)
@@ -49,7 +47,7 @@ rows-by-word : (n : ℕ) (order : Order) (w : Word) (fs : List (List ℕ)) (ws :
 rows-by-word n order W.Cover fs ws = refl
 rows-by-word n order W.Mask fs ws = refl
 rows-by-word n order W.Row [] ws = refl
-rows-by-word n order W.Row (f ∷ []) ws = ap (λ (r : Row). row_then (row_is r) ws) (row-turned n order f)
+rows-by-word n order W.Row (f ∷ []) ws = ap (λ (r : Option ℕ). row_then (row_made (row_is r)) ws) (row-turned n order f)
 rows-by-word n order W.Row (f ∷ g ∷ fs) ws = refl
 rows-by-word n order W.Block fs ws = no_more (samples_of 2 0 (reverse fs)) (samples_of 2 0 fs) ws
 rows-by-word n order W.Heard [] ws = refl
@@ -79,7 +77,7 @@ rows-turned n order (l ∷ k ∷ ls) (m ∷ o ∷ ms) h =
 mask-by-word : (n : ℕ) (order : Order) (w : Word) (fs : List (List ℕ)) → mask_by n (other order) w (rest_turned w fs) ≡ mask_by n order w fs
 mask-by-word n order W.Cover fs = refl
 mask-by-word n order W.Mask [] = refl
-mask-by-word n order W.Mask (f ∷ []) = ap (λ (r : Row). mask_is (row_is r)) (row-turned n order f)
+mask-by-word n order W.Mask (f ∷ []) = ap (λ (r : Option ℕ). mask_is (row_is r)) (row-turned n order f)
 mask-by-word n order W.Mask (f ∷ g ∷ fs) = refl
 mask-by-word n order W.Row fs = refl
 mask-by-word n order W.Block fs = refl
@@ -108,7 +106,7 @@ heard-by-word : (fs : List (List ℕ))
 heard-by-word [] = refl
 heard-by-word (f ∷ fs) = by (is_number (counter_of f))
   where
-    by : (t : Bool) → samples_found (cond t (samples_of 3 0 (reverse fs)) (S.Bad 2)) (values_of (reverse fs)) ≡ found_turned (samples_found (cond t (samples_of 3 0 fs) (S.Bad 2)) (values_of fs))
+    by : (t : Bool) → samples_found (cond t (samples_of 3 0 (reverse fs)) (Err 2)) (values_of (reverse fs)) ≡ found_turned (samples_found (cond t (samples_of 3 0 fs) (Err 2)) (values_of fs))
     by true = samples-turned 3 fs
     by false = refl
 
@@ -192,32 +190,32 @@ drop-turned (suc k) (l ∷ ls) [] h = absurd h
 drop-turned (suc k) (l ∷ ls) (m ∷ ms) h = drop-turned k ls ms h.1
 
 module _ (n : ℕ) (order : Order) (came : Came) where
-  row-no-end : (r : Row) → row_is r ≡ L.End → ⊥
-  row-no-end (R.Is w) e = let z : ◌≡◌ {A = ℕ} 0 1 = cc in omega arith
-  row-no-end R.Bad e = let z : ◌≡◌ {A = ℕ} 0 1 = cc in omega arith
+  row-no-end : (r : Option ℕ) → row_made (row_is r) ≡ Ok L.End → ⊥
+  row-no-end (Some w) e = let z : ◌≡◌ {A = ℕ} 0 1 = cc in omega arith
+  row-no-end None e = let z : ◌≡◌ {A = ℕ} 0 1 = cc in omega arith
 
-  rest-no-end : (fs : List (List ℕ)) → row_rest n order fs ≡ L.End → ⊥
+  rest-no-end : (fs : List (List ℕ)) → row_made (row_rest n order fs) ≡ Ok L.End → ⊥
   rest-no-end [] e = let z : ◌≡◌ {A = ℕ} 0 1 = cc in omega arith
   rest-no-end (f ∷ []) e = row-no-end (row_of n order f) e
   rest-no-end (f ∷ g ∷ fs) e = let z : ◌≡◌ {A = ℕ} 0 1 = cc in omega arith
 
-  late-no-end : (t : Bool) (fs : List (List ℕ)) → cond t (L.Bad Turn) (row_rest n order fs) ≡ L.End → ⊥
+  late-no-end : (t : Bool) (fs : List (List ℕ)) → cond t (Err Turn) (row_made (row_rest n order fs)) ≡ Ok L.End → ⊥
   late-no-end true fs e = let z : ◌≡◌ {A = ℕ} 0 1 = cc in omega arith
   late-no-end false fs e = rest-no-end fs e
 
-  block-no-end : (d : Samples) → block_is d ≡ L.End → ⊥
-  block-no-end (S.Count k) e = let z : ◌≡◌ {A = ℕ} 0 1 = cc in omega arith
-  block-no-end (S.Bad k) e = let z : ◌≡◌ {A = ℕ} 0 1 = cc in omega arith
+  block-no-end : (d : Result ℕ ℕ) → block_is d ≡ Ok L.End → ⊥
+  block-no-end (Ok k) e = let z : ◌≡◌ {A = ℕ} 0 1 = cc in omega arith
+  block-no-end (Err k) e = let z : ◌≡◌ {A = ℕ} 0 1 = cc in omega arith
 
-  heard-no-end : (fs : List (List ℕ)) → heard_fields fs ≡ L.End → ⊥
+  heard-no-end : (fs : List (List ℕ)) → heard_fields fs ≡ Ok L.End → ⊥
   heard-no-end [] e = let z : ◌≡◌ {A = ℕ} 0 1 = cc in omega arith
   heard-no-end (f ∷ fs) e = block-no-end (heard_rest (f ∷ fs)) e
 
-  turn-no-end : (t : Bool) (line : Line) → (line ≡ L.End → ⊥) → cond t (L.Bad Turn) line ≡ L.End → ⊥
+  turn-no-end : (t : Bool) (line : Result Line Fault) → (line ≡ Ok L.End → ⊥) → cond t (Err Turn) line ≡ Ok L.End → ⊥
   turn-no-end true line h e = let z : ◌≡◌ {A = ℕ} 0 1 = cc in omega arith
   turn-no-end false line h e = h e
 
-  end-by-word : (w : Word) (fs : List (List ℕ)) → line_by n order came w fs ≡ L.End → line_by n (other order) came w (rest_turned w fs) ≡ L.End
+  end-by-word : (w : Word) (fs : List (List ℕ)) → line_by n order came w fs ≡ Ok L.End → line_by n (other order) came w (rest_turned w fs) ≡ Ok L.End
   end-by-word W.Cover fs e = e
   end-by-word W.Mask fs e = e
   end-by-word W.Row fs e = absurd (late-no-end (late_row came) fs e)
@@ -226,15 +224,15 @@ module _ (n : ℕ) (order : Order) (came : Came) where
   end-by-word W.End fs e = e
   end-by-word W.Other fs e = e
 
-  end-by-fields : (fs : List (List ℕ)) → line_of n order came fs ≡ L.End → line_of n (other order) came (fields_turned fs) ≡ L.End
+  end-by-fields : (fs : List (List ℕ)) → line_of n order came fs ≡ Ok L.End → line_of n (other order) came (fields_turned fs) ≡ Ok L.End
   end-by-fields [] e = e
   end-by-fields (w ∷ fs) e = end-by-word (word_of w) fs e
 
-fine-by-line : (k : Line) (rest : List (List ℕ)) → end_by k rest ≡ Fine → (k ≡ L.End) × (after_end rest ≡ Fine)
-fine-by-line (L.Row w) rest e = let z : ◌≡◌ {A = ℕ} 0 1 = cc in absurd (omega arith)
-fine-by-line L.Block rest e = let z : ◌≡◌ {A = ℕ} 0 1 = cc in absurd (omega arith)
-fine-by-line L.End rest e = (refl, e)
-fine-by-line (L.Bad f) rest e = let z : ◌≡◌ {A = ℕ} 0 1 = cc in absurd (omega arith)
+fine-by-line : (k : Result Line Fault) (rest : List (List ℕ)) → end_by k rest ≡ Fine → (k ≡ Ok L.End) × (after_end rest ≡ Fine)
+fine-by-line (Ok (L.Row w)) rest e = let z : ◌≡◌ {A = ℕ} 0 1 = cc in absurd (omega arith)
+fine-by-line (Ok L.Block) rest e = let z : ◌≡◌ {A = ℕ} 0 1 = cc in absurd (omega arith)
+fine-by-line (Ok L.End) rest e = (refl, e)
+fine-by-line (Err f) rest e = let z : ◌≡◌ {A = ℕ} 0 1 = cc in absurd (omega arith)
 
 -- a text has a part
 some-case : (x : ℕ) (ps : List (List ℕ)) (t : Bool) → cond t ([] ∷ ps) (onto x ps) ≡ [] → ⊥
@@ -271,5 +269,5 @@ fine-turned n order came (l ∷ k ∷ ls) [] h e = absurd h
 fine-turned n order came (l ∷ k ∷ ls) (m ∷ []) h e = absurd h.1
 fine-turned n order came (l ∷ k ∷ ls) (m ∷ o ∷ ms) h e =
     let f = fine-by-line (line_of n order came (fields l)) (k ∷ ls) e in
-    let g : line_of n (other order) came (fields m) ≡ L.End = ap (line_of n (other order) came) h.0 ∙ end-by-fields n order came (fields l) f.0 in
-    ap (λ (line : Line). end_by line (o ∷ ms)) g ∙ after-turned (k ∷ ls) (o ∷ ms) h.1 f.1
+    let g : line_of n (other order) came (fields m) ≡ Ok L.End = ap (line_of n (other order) came) h.0 ∙ end-by-fields n order came (fields l) f.0 in
+    ap (λ (line : Result Line Fault). end_by line (o ∷ ms)) g ∙ after-turned (k ∷ ls) (o ∷ ms) h.1 f.1

@@ -1,4 +1,5 @@
 -- Lists from the far end: what a row's characters and a block's samples are then.
+use Rattle.std.proofs.Common.{Result, Err}
 use Prim.Native.Nat.{ℕ, ◌+◌}
 use lib.IntN.{ℤ}
 use mathlib.Core.Bool.{Bool, true, false, cond, ◌&&◌}
@@ -11,8 +12,6 @@ use Rattle.sheets.specs.Rows.{is_bit, bits_only}
 use Rattle.sheets.specs.Blocks.{BlockFound, block, no_block, is_sample, value_of, values_of, samples_of, samples_found}
 use Rattle.sheets.specs.declared.Order.{Order}
 use Rattle.sheets.specs.declared.Order.TheVariants.{First, Last}
-use Rattle.sheets.specs.declared.block.Samples.{Samples}
-use Rattle.sheets.specs.declared.block.Samples.TheVariants.{Bad}
 
 -- ---- a test of every entry
 
@@ -79,8 +78,8 @@ values-turned (f ∷ fs) =
     ∙ ap (λ (vs : List ℤ). vs ++ value_of (sample_of f) ∷ []) (values-turned fs)
     ∙ sym (reverse-cons (value_of (sample_of f)) (values_of fs))
 
-found-case : (t u : Bool) (d : Samples) (j : ℕ) (vs : List ℤ) → samples_found d vs ≡ cond u (block vs) no_block
-    → samples_found (cond t d (Bad j)) vs ≡ cond (t && u) (block vs) no_block
+found-case : (t u : Bool) (d : Result ℕ ℕ) (j : ℕ) (vs : List ℤ) → samples_found d vs ≡ cond u (block vs) no_block
+    → samples_found (cond t d (Err j)) vs ≡ cond (t && u) (block vs) no_block
 found-case true u d j vs e = e
 found-case false u d j vs e = refl
 

@@ -1,4 +1,6 @@
 -- A sheet that is not refused and the same sheet turned say the same, but for the cover's last word.
+use Rattle.std.proofs.Common.{Option, Some, None, Result, Ok, Err}
+use Rattle.plates.specs.declared.Kind.{Kind}
 use Prim.Native.Nat.{ℕ, ◌+◌, ◌≤◌}
 use borrow.Author.Tests.{le-ltb}
 use lib.ListN.{length, drop}
@@ -6,7 +8,7 @@ use mathlib.Core.Bool.{Bool, true, false, cond}
 use mathlib.Core.List.{List, [], ◌∷◌}
 use mathlib.Core.Path.{◌≡◌, refl, sym, ◌∙◌, ap}
 use native.Mathlib.Omega.{arith}
-use Rattle.plates.specs.declared.Verdict.TheVariants as J
+use Rattle.sheets.specs.declared.line.Fault.{Fault}
 use Rattle.sheets.specs.Text.{fields, lines}
 use Rattle.sheets.specs.Words.{same, first, last, word_of}
 use Rattle.sheets.specs.Numbers.{number_of}
@@ -22,17 +24,7 @@ use Rattle.sheets.specs.declared.Order.{Order}
 use Rattle.sheets.specs.declared.Order.TheVariants.{First, Last}
 use Rattle.sheets.specs.declared.word.Word.{Word}
 use Rattle.sheets.specs.declared.word.Word.TheVariants as W
-use Rattle.sheets.specs.declared.number.Number.{Number}
-use Rattle.sheets.specs.declared.number.Number.TheVariants as N
-use Rattle.sheets.specs.declared.cover.KindField.{KindField}
-use Rattle.sheets.specs.declared.cover.KindField.TheVariants as K
-use Rattle.sheets.specs.declared.cover.OrderField.{OrderField}
-use Rattle.sheets.specs.declared.cover.OrderField.TheVariants as O
 use Rattle.sheets.specs.declared.cover.Cover.{Cover}
-use Rattle.sheets.specs.declared.cover.CoverLine.{CoverLine}
-use Rattle.sheets.specs.declared.cover.CoverLine.TheVariants as C
-use Rattle.sheets.specs.declared.mask.MaskLine.{MaskLine}
-use Rattle.sheets.specs.declared.mask.MaskLine.TheVariants as M
 use Rattle.sheets.specs.declared.body.Ending.TheVariants.{Fine}
 use Rattle.sheets.proofs.Following.{fine-after}
 use Rattle.sheets.proofs.Ranges.{accepted, Accepts, all_pass}
@@ -44,24 +36,24 @@ use Rattle.sheets.proofs.Turns.{by-position-length}
 abbrev cover_under : Cover → Cover
 cover_under cover = record { n = cover.n; kind = cover.kind; order = other cover.order }
 
-order-case : (f : List ℕ) (t u : Bool) (o : Order) → cond t (O.Is First) (cond u (O.Is Last) O.Bad) ≡ O.Is o → order_of (cond t last (cond u first f)) ≡ O.Is (other o)
-order-case f true u o e = let q : First ≡ o = cc in ap (λ (p : Order). O.Is (other p)) q
-order-case f false true o e = let q : Last ≡ o = cc in ap (λ (p : Order). O.Is (other p)) q
+order-case : (f : List ℕ) (t u : Bool) (o : Order) → cond t (Some First) (cond u (Some Last) None) ≡ Some o → order_of (cond t last (cond u first f)) ≡ Some (other o)
+order-case f true u o e = let q : First ≡ o = cc in ap (λ (p : Order). Some (other p)) q
+order-case f false true o e = let q : Last ≡ o = cc in ap (λ (p : Order). Some (other p)) q
 order-case f false false o e = let z : ◌≡◌ {A = ℕ} 0 1 = cc in absurd (omega arith)
 
-order-turned : (f : List ℕ) (o : Order) → order_of f ≡ O.Is o → order_of (other_word f) ≡ O.Is (other o)
+order-turned : (f : List ℕ) (o : Order) → order_of f ≡ Some o → order_of (other_word f) ≡ Some (other o)
 order-turned f o e = order-case f (same f first) (same f last) o e
 
-cover-case : (number : Number) (kind : KindField) (old new : OrderField) (cover : Cover) → ((o : Order) → old ≡ O.Is o → new ≡ O.Is (other o))
-    → cover_is number kind old ≡ C.Is cover → cover_is number kind new ≡ C.Is (cover_under cover)
-cover-case N.Bad kind old new cover g e = let z : ◌≡◌ {A = ℕ} 0 1 = cc in absurd (omega arith)
-cover-case (N.Is n) K.Bad old new cover g e = let z : ◌≡◌ {A = ℕ} 0 1 = cc in absurd (omega arith)
-cover-case (N.Is n) (K.Is kind) O.Bad new cover g e = let z : ◌≡◌ {A = ℕ} 0 1 = cc in absurd (omega arith)
-cover-case (N.Is n) (K.Is kind) (O.Is o) new cover g e =
+cover-case : (number : Option ℕ) (kind : Option Kind) (old new : Option Order) (cover : Cover) → ((o : Order) → old ≡ Some o → new ≡ Some (other o))
+    → cover_is number kind old ≡ Ok cover → cover_is number kind new ≡ Ok (cover_under cover)
+cover-case None kind old new cover g e = let z : ◌≡◌ {A = ℕ} 0 1 = cc in absurd (omega arith)
+cover-case (Some n) None old new cover g e = let z : ◌≡◌ {A = ℕ} 0 1 = cc in absurd (omega arith)
+cover-case (Some n) (Some kind) None new cover g e = let z : ◌≡◌ {A = ℕ} 0 1 = cc in absurd (omega arith)
+cover-case (Some n) (Some kind) (Some o) new cover g e =
     let q : record { n = n; kind = kind; order = o } ≡ cover = cc in
-    ap (cover_is (N.Is n) (K.Is kind)) (g o refl) ∙ ap (λ (c : Cover). C.Is (cover_under c)) q
+    ap (cover_is (Some n) (Some kind)) (g o refl) ∙ ap (λ (c : Cover). Ok (cover_under c)) q
 
-rest-turned : (fs : List (List ℕ)) (cover : Cover) → cover_rest fs ≡ C.Is cover → cover_rest (cover_turned fs) ≡ C.Is (cover_under cover)
+rest-turned : (fs : List (List ℕ)) (cover : Cover) → cover_rest fs ≡ Ok cover → cover_rest (cover_turned fs) ≡ Ok (cover_under cover)
 unfolding cover_fields
 rest-turned [] cover e = let z : ◌≡◌ {A = ℕ} 0 1 = cc in absurd (omega arith)
 rest-turned (f ∷ []) cover e = let z : ◌≡◌ {A = ℕ} 0 1 = cc in absurd (omega arith)
@@ -69,7 +61,7 @@ rest-turned (f ∷ g ∷ []) cover e = let z : ◌≡◌ {A = ℕ} 0 1 = cc in a
 rest-turned (f ∷ g ∷ h ∷ []) cover e = cover-case (number_of 3 f) (kind_of g) (order_of h) (order_of (other_word h)) cover (order-turned h) e
 rest-turned (f ∷ g ∷ h ∷ i ∷ fs) cover e = let z : ◌≡◌ {A = ℕ} 0 1 = cc in absurd (omega arith)
 
-cover-by-word : (w : Word) (fs : List (List ℕ)) (cover : Cover) → cover_by w fs ≡ C.Is cover → cover_by w (rest_turned w fs) ≡ C.Is (cover_under cover)
+cover-by-word : (w : Word) (fs : List (List ℕ)) (cover : Cover) → cover_by w fs ≡ Ok cover → cover_by w (rest_turned w fs) ≡ Ok (cover_under cover)
 cover-by-word W.Cover fs cover e = rest-turned fs cover e
 cover-by-word W.Mask fs cover e = let z : ◌≡◌ {A = ℕ} 0 1 = cc in absurd (omega arith)
 cover-by-word W.Row fs cover e = let z : ◌≡◌ {A = ℕ} 0 1 = cc in absurd (omega arith)
@@ -78,20 +70,20 @@ cover-by-word W.Heard fs cover e = let z : ◌≡◌ {A = ℕ} 0 1 = cc in absur
 cover-by-word W.End fs cover e = let z : ◌≡◌ {A = ℕ} 0 1 = cc in absurd (omega arith)
 cover-by-word W.Other fs cover e = let z : ◌≡◌ {A = ℕ} 0 1 = cc in absurd (omega arith)
 
-cover-by-fields : (fs : List (List ℕ)) (cover : Cover) → cover_of fs ≡ C.Is cover → cover_of (fields_turned fs) ≡ C.Is (cover_under cover)
+cover-by-fields : (fs : List (List ℕ)) (cover : Cover) → cover_of fs ≡ Ok cover → cover_of (fields_turned fs) ≡ Ok (cover_under cover)
 cover-by-fields [] cover e = let z : ◌≡◌ {A = ℕ} 0 1 = cc in absurd (omega arith)
 cover-by-fields (w ∷ fs) cover e = cover-by-word (word_of w) fs cover e
 
-cover-turned : (ls ms : List (List ℕ)) → LinesTurned ls ms → (cover : Cover) → cover_front ls ≡ C.Is cover → cover_front ms ≡ C.Is (cover_under cover)
+cover-turned : (ls ms : List (List ℕ)) → LinesTurned ls ms → (cover : Cover) → cover_front ls ≡ Ok cover → cover_front ms ≡ Ok (cover_under cover)
 cover-turned [] ms h cover e = let z : ◌≡◌ {A = ℕ} 0 1 = cc in absurd (omega arith)
 cover-turned (l ∷ []) ms h cover e = let z : ◌≡◌ {A = ℕ} 0 1 = cc in absurd (omega arith)
 cover-turned (l ∷ k ∷ ls) [] h cover e = absurd h
 cover-turned (l ∷ k ∷ ls) (m ∷ []) h cover e = absurd h.1
 cover-turned (l ∷ k ∷ ls) (m ∷ o ∷ ms) h cover e = ap cover_of h.0 ∙ cover-by-fields (fields l) cover e
 
-cover-is : (found : CoverLine) → cover_bad found ≡ J.Accepted → found ≡ C.Is (cover_in found)
-cover-is (C.Is cover) e = refl
-cover-is (C.Bad f) e = let z : ◌≡◌ {A = ℕ} 0 1 = cc in absurd (omega arith)
+cover-is : (found : Result Cover Fault) → cover_bad found ≡ Ok tt → found ≡ Ok (cover_in found)
+cover-is (Ok cover) e = refl
+cover-is (Err f) e = let z : ◌≡◌ {A = ℕ} 0 1 = cc in absurd (omega arith)
 
 -- ---- the whole
 
@@ -130,7 +122,7 @@ module _ (cover : Cover) (mask : ℕ) where
 contents-under : (cover : Cover) (ls ms : List (List ℕ)) → LinesTurned ls ms → contents_of (cover_under cover) ms ≡ under_other (contents_of cover ls)
 contents-under cover ls ms h =
     let found = mask_front cover.n cover.order ls in
-    ap (λ (f : MaskLine). contents_with (cover_under cover) (mask_in f) (drop (masks_in f) ms)) (mask-turned cover.n cover.order ls ms h)
+    ap (λ (f : Result (Option ℕ) Fault). contents_with (cover_under cover) (mask_in f) (drop (masks_in f) ms)) (mask-turned cover.n cover.order ls ms h)
     ∙ with-under cover (mask_in found) (drop (masks_in found) ls) (drop (masks_in found) ms) (drop-turned (masks_in found) ls ms h)
 
 -- how the lines after the mask end
@@ -142,40 +134,40 @@ after-under c ls ms h e =
     fine-turned c.n c.order (came_after c.heard k) (drop k (drop r ls)) (drop k (drop r ms)) d e
 
 -- lines that end as they should are not bad, where the mask is not
-bad-under : (found : MaskLine) (c : Contents) (ls ms : List (List ℕ)) → LinesTurned ls ms → bad_by found c ls ≡ J.Accepted
-    → bad_by found (under_other c) ms ≡ J.Accepted
+bad-under : (found : Result (Option ℕ) Fault) (c : Contents) (ls ms : List (List ℕ)) → LinesTurned ls ms → bad_by found c ls ≡ Ok tt
+    → bad_by found (under_other c) ms ≡ Ok tt
 bad-under found c ls ms h e =
     let k = masks_in found in
     by found e (after-under c (drop k ls) (drop k ms) (drop-turned k ls ms h) (fine-after found c ls e))
   where
-    by : (f : MaskLine) → bad_by f c ls ≡ J.Accepted → ending_after (under_other c) (drop (masks_in f) ms) ≡ Fine → bad_by f (under_other c) ms ≡ J.Accepted
-    by (M.Is w) g d = ap (line_verdict (3 + length c.rows + length c.blocks)) d
-    by M.NoMask g d = ap (line_verdict (2 + length c.rows + length c.blocks)) d
-    by (M.Bad f) g d = g
+    by : (f : Result (Option ℕ) Fault) → bad_by f c ls ≡ Ok tt → ending_after (under_other c) (drop (masks_in f) ms) ≡ Fine → bad_by f (under_other c) ms ≡ Ok tt
+    by (Ok (Some w)) g d = ap (line_verdict (3 + length c.rows + length c.blocks)) d
+    by (Ok None) g d = ap (line_verdict (2 + length c.rows + length c.blocks)) d
+    by (Err f) g d = g
 
 module _ (s t : List ℕ) (h : IsTurned s t) (short : length t ≤ 32768) (p : Accepts s) where
   abbrev cover : Cover
   cover = cover_in (cover_front (lines s))
 
-  cover-there : cover_front (lines t) ≡ C.Is (cover_under cover)
+  cover-there : cover_front (lines t) ≡ Ok (cover_under cover)
   cover-there = cover-turned (lines s) (lines t) h.turned cover (cover-is (cover_front (lines s)) p.form)
 
   contents-there : contents t ≡ under_other (contents s)
   unfolding contents
   contents-there =
-      ap (λ (found : CoverLine). contents_of (cover_in found) (drop 1 (lines t))) cover-there
+      ap (λ (found : Result Cover Fault). contents_of (cover_in found) (drop 1 (lines t))) cover-there
       ∙ contents-under cover (drop 1 (lines s)) (drop 1 (lines t)) (drop-turned 1 (lines s) (lines t) h.turned)
 
-  ended-there : line_bad (under_other (contents s)) (drop 1 (lines t)) ≡ J.Accepted
+  ended-there : line_bad (under_other (contents s)) (drop 1 (lines t)) ≡ Ok tt
   ended-there =
       let c = contents s in
       let ls = drop 1 (lines s) in
       let ms = drop 1 (lines t) in
       let d = drop-turned 1 (lines s) (lines t) h.turned in
-      ap (λ (f : MaskLine). bad_by f (under_other c) ms) (mask-turned c.n c.order ls ms d)
+      ap (λ (f : Result (Option ℕ) Fault). bad_by f (under_other c) ms) (mask-turned c.n c.order ls ms d)
       ∙ bad-under (mask_front c.n c.order ls) c ls ms d p.ended
 
-  verdict-there : verdict t ≡ J.Accepted
+  verdict-there : verdict t ≡ Ok tt
   unfolding verdict
   verdict-there = rw (le-ltb 32768 (length t) short, cover-there, contents-there, p.range, ended-there, p.few)
 

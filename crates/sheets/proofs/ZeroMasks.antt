@@ -1,4 +1,6 @@
 -- A sheet with no mask line has the mask 0, and a mask line of zeros changes nothing that the sheet says.
+use Rattle.plates.specs.declared.Refusal.{Refusal}
+use Rattle.std.proofs.Common.{Option, Some, None, Result, Ok, Err}
 use Prim.Native.Nat.{ℕ, zero, suc, ◌+◌, ◌≤◌}
 use borrow.Author.Tests.{eq-eqb, le-leb, le-ltb}
 use lib.Dec.{eqb, ltb}
@@ -9,8 +11,6 @@ use mathlib.Core.Path.{◌≡◌, refl, sym, ◌∙◌, ap, ap₂, subst}
 use native.Mathlib.Omega.{arith}
 use Rattle.plates.specs.Refusals.{field, number, place}
 use Rattle.plates.specs.declared.Refusal.TheVariants.{Length, TooManyRows}
-use Rattle.plates.specs.declared.Verdict.{Verdict}
-use Rattle.plates.specs.declared.Verdict.TheVariants as J
 use Rattle.sheets.specs.Text.{fields, line_feed, lines, parts}
 use Rattle.sheets.specs.Rows.{bits_only, row_of, word_from}
 use Rattle.sheets.specs.Turning.{in_order}
@@ -22,14 +22,8 @@ use Rattle.sheets.specs.Turned.{joined_by}
 use Rattle.sheets.specs.ZeroMasks.{zeros, zero_mask, ZeroMasked, moved, AlikeButLine}
 use Rattle.sheets.specs.declared.Order.{Order}
 use Rattle.sheets.specs.declared.Order.TheVariants.{First, Last}
-use Rattle.sheets.specs.declared.row.Row.{Row}
-use Rattle.sheets.specs.declared.row.Row.TheVariants as R
 use Rattle.sheets.specs.declared.cover.Cover.{Cover}
-use Rattle.sheets.specs.declared.cover.CoverLine.{CoverLine}
-use Rattle.sheets.specs.declared.cover.CoverLine.TheVariants as C
 use Rattle.sheets.specs.declared.line.Fault.{Fault}
-use Rattle.sheets.specs.declared.mask.MaskLine.{MaskLine}
-use Rattle.sheets.specs.declared.mask.MaskLine.TheVariants.{Is, NoMask, Bad}
 use Rattle.sheets.specs.declared.body.Ending.{Ending}
 use Rattle.sheets.specs.declared.body.Ending.TheVariants.{Fine, NoEnd, After}
 use Rattle.sheets.proofs.Ranges.{accepted}
@@ -38,10 +32,10 @@ use Rattle.sheets.proofs.TurnedText.{AllFree, Free, joined-parts, parts_free}
 
 -- ---- no mask line
 
-none_is : (found : MaskLine) → masks_in found ≡ 0 → found ≡ NoMask
-none_is (Is w) e = absurd (omega arith)
-none_is NoMask e = refl
-none_is (Bad fault) e = absurd (omega arith)
+none_is : (found : Result (Option ℕ) Fault) → masks_in found ≡ 0 → found ≡ Ok None
+none_is (Ok (Some w)) e = absurd (omega arith)
+none_is (Ok None) e = refl
+none_is (Err fault) e = absurd (omega arith)
 
 -- a sheet with no mask line has the mask 0
 pub no-mask-is-zero : (s : List ℕ) (c : Contents) → reading s ≡ says c → masks_of s c ≡ 0 → c.mask ≡ 0
@@ -81,56 +75,56 @@ zeros-either : (n : ℕ) (order : Order) → word_from (in_order order (zeros n)
 zeros-either n First = zeros-word n
 zeros-either n Last = ap word_from (zeros-turned n) ∙ zeros-word n
 
-zeros-row : (n : ℕ) (order : Order) → row_of n order (zeros n) ≡ R.Is 0
+zeros-row : (n : ℕ) (order : Order) → row_of n order (zeros n) ≡ Some 0
 zeros-row n order = rw (eq-eqb (length (zeros n)) n (zeros-length n), zeros-bits n, zeros-either n order)
 
 -- its mask is 0
-zero_is : (n : ℕ) (order : Order) → mask_of n order (fields (zero_mask n)) ≡ Is 0
-zero_is n order = rw (zeros-part n) (ap (λ (r : Row). mask_is (row_is r)) (zeros-row n order))
+zero_is : (n : ℕ) (order : Order) → mask_of n order (fields (zero_mask n)) ≡ Ok (Some 0)
+zero_is n order = rw (zeros-part n) (ap (λ (r : Option ℕ). mask_is (row_is r)) (zeros-row n order))
 
 -- ---- refusals, but for the line
 
-abbrev VerdictsAlike : Verdict → Verdict → Type 0
-VerdictsAlike J.Accepted J.Accepted = Unit {0}
-VerdictsAlike J.Accepted (J.Refused p) = ⊥
-VerdictsAlike (J.Refused q) J.Accepted = ⊥
-VerdictsAlike (J.Refused q) (J.Refused p) = (number p ≡ number q) × (field p ≡ field q) × (place p ≡ moved (place q))
+abbrev VerdictsAlike : Result (Unit {0}) Refusal → Result (Unit {0}) Refusal → Type 0
+VerdictsAlike (Ok _) (Ok _) = Unit {0}
+VerdictsAlike (Ok _) (Err p) = ⊥
+VerdictsAlike (Err q) (Ok _) = ⊥
+VerdictsAlike (Err q) (Err p) = (number p ≡ number q) × (field p ≡ field q) × (place p ≡ moved (place q))
 
-firsts-alike : (v w : Verdict) (vs ws : List Verdict) → VerdictsAlike v w → VerdictsAlike (first_refusal vs) (first_refusal ws)
+firsts-alike : (v w : Result (Unit {0}) Refusal) (vs ws : List (Result (Unit {0}) Refusal)) → VerdictsAlike v w → VerdictsAlike (first_refusal vs) (first_refusal ws)
     → VerdictsAlike (first_refusal (v ∷ vs)) (first_refusal (w ∷ ws))
-firsts-alike J.Accepted J.Accepted vs ws h k = k
-firsts-alike J.Accepted (J.Refused p) vs ws h k = absurd h
-firsts-alike (J.Refused q) J.Accepted vs ws h k = absurd h
-firsts-alike (J.Refused q) (J.Refused p) vs ws h k = h
+firsts-alike (Ok _) (Ok _) vs ws h k = k
+firsts-alike (Ok _) (Err p) vs ws h k = absurd h
+firsts-alike (Err q) (Ok _) vs ws h k = absurd h
+firsts-alike (Err q) (Err p) vs ws h k = h
 
-readings-alike : (v w : Verdict) (c : Contents) → VerdictsAlike v w → AlikeButLine (reading_by v c) (reading_by w c)
-readings-alike J.Accepted J.Accepted c h = refl
-readings-alike J.Accepted (J.Refused p) c h = absurd h
-readings-alike (J.Refused q) J.Accepted c h = absurd h
-readings-alike (J.Refused q) (J.Refused p) c h = h
+readings-alike : (v w : Result (Unit {0}) Refusal) (c : Contents) → VerdictsAlike v w → AlikeButLine (reading_by v c) (reading_by w c)
+readings-alike (Ok _) (Ok _) c h = refl
+readings-alike (Ok _) (Err p) c h = absurd h
+readings-alike (Err q) (Ok _) c h = absurd h
+readings-alike (Err q) (Err p) c h = h
 
 -- of the cover
-cover-alike : (found : CoverLine) → VerdictsAlike (cover_bad found) (cover_bad found)
-cover-alike (C.Is cover) = tt
-cover-alike (C.Bad fault) = let e = number-of-line 1 fault in (refl, refl, rw e.1)
+cover-alike : (found : Result Cover Fault) → VerdictsAlike (cover_bad found) (cover_bad found)
+cover-alike (Ok cover) = tt
+cover-alike (Err fault) = let e = number-of-line 1 fault in (refl, refl, rw e.1)
 
 -- of n, and for too many rows
-cond-alike : (t : Bool) (v : Verdict) → VerdictsAlike v v → VerdictsAlike (cond t (J.Refused Length) v) (cond t (J.Refused Length) v)
+cond-alike : (t : Bool) (v : Result (Unit {0}) Refusal) → VerdictsAlike v v → VerdictsAlike (cond t (Err Length) v) (cond t (Err Length) v)
 cond-alike true v h = (refl, refl, refl)
 cond-alike false v h = h
 
 length-alike : (n : ℕ) → VerdictsAlike (length_bad n) (length_bad n)
-length-alike n = cond-alike (eqb n 0) (cond (ltb 64 n) (J.Refused Length) J.Accepted) (cond-alike (ltb 64 n) J.Accepted tt)
+length-alike n = cond-alike (eqb n 0) (cond (ltb 64 n) (Err Length) (Ok tt)) (cond-alike (ltb 64 n) (Ok tt) tt)
 
 rows_alike : (k : ℕ) → VerdictsAlike (first_refusal (rows_too_many k ∷ [])) (first_refusal (rows_too_many k ∷ []))
 rows_alike k = by (ltb 64 k)
   where
-    by : (t : Bool) → VerdictsAlike (first_refusal (cond t (J.Refused TooManyRows) J.Accepted ∷ [])) (first_refusal (cond t (J.Refused TooManyRows) J.Accepted ∷ []))
+    by : (t : Bool) → VerdictsAlike (first_refusal (cond t (Err TooManyRows) (Ok tt) ∷ [])) (first_refusal (cond t (Err TooManyRows) (Ok tt) ∷ []))
     by true = (refl, refl, refl)
     by false = tt
 
 -- of a line, which is one later
-line-alike : (line next : ℕ) → 2 ≤ line → next ≡ suc line → (fault : Fault) → VerdictsAlike (J.Refused (refusal_of line fault)) (J.Refused (refusal_of next fault))
+line-alike : (line next : ℕ) → 2 ≤ line → next ≡ suc line → (fault : Fault) → VerdictsAlike (Err (refusal_of line fault)) (Err (refusal_of next fault))
 line-alike line next h k fault =
     let e = number-of-line line fault in
     let g = number-of-line next fault in
@@ -150,10 +144,10 @@ module _ (s t : List ℕ) (z : ZeroMasked s t) where
   abbrev ls : List (List ℕ)
   ls = z.next ∷ z.others
 
-  found_none : mask_front c.n c.order ls ≡ NoMask
+  found_none : mask_front c.n c.order ls ≡ Ok None
   found_none = none_is (mask_front c.n c.order ls) (rw z.without at z.none)
 
-  found-zero : mask_front c.n c.order (zero_mask c.n ∷ ls) ≡ Is 0
+  found-zero : mask_front c.n c.order (zero_mask c.n ∷ ls) ≡ Ok (Some 0)
   found-zero = zero_is c.n c.order
 
   abbrev cover : Cover
@@ -168,7 +162,7 @@ module _ (s t : List ℕ) (z : ZeroMasked s t) where
   order_is = rw z.without
 
   -- what they say, by what is found after the cover
-  abbrev said_by : List (List ℕ) → MaskLine → Contents
+  abbrev said_by : List (List ℕ) → Result (Option ℕ) Fault → Contents
   said_by ms found = contents_with cover (mask_in found) (drop (masks_in found) ms)
 
   said : contents s ≡ contents_with cover 0 ls

@@ -1,36 +1,32 @@
 -- A block line: the word block and any number of samples, here as they are listed. A heard line is a block line with a counter before its
 -- samples: the word heard, a counter and any number of samples. A sheet has lines of one of these words.
-use Rattle.std.specs.Prelude.{ℕ, zero, suc, ◌+◌, ℤ, pos, ltb, length, drop, Bool, true, false, cond, List, [], ◌∷◌, ◌≡◌}
+use Rattle.sheets.specs.declared.SampleLine.{SampleLine}
+use Rattle.sheets.specs.Made.{sample_line_of}
+use Rattle.std.specs.Prelude.{ℕ, zero, suc, ◌+◌, ℤ, pos, ltb, length, drop, Bool, true, false, cond, List, [], ◌∷◌, ◌≡◌, Option, Some, None, Result, Ok, Err}
 use Rattle.sheets.specs.Text.{fields, lines_from, begins}
 use Rattle.sheets.specs.Numbers.{counter_of, is_number, sample_of, worth}
 use Rattle.sheets.specs.Words.{word_of}
 use Rattle.sheets.specs.Turning.{in_order}
 use Rattle.sheets.specs.Room.{laid}
 use Rattle.sheets.specs.declared.Order.{Order}
-use Rattle.sheets.specs.declared.number.Sample.{Sample}
-use Rattle.sheets.specs.declared.number.Sample.TheVariants as S
 use Rattle.sheets.specs.declared.word.Word.{Word}
 use Rattle.sheets.specs.declared.word.Word.TheVariants.{Cover, Mask, Row, Block, Heard, End, Other}
-use Rattle.sheets.specs.declared.block.Samples.{Samples}
-use Rattle.sheets.specs.declared.block.Samples.TheVariants.{Count, Bad}
-use Rattle.sheets.specs.declared.BlockReply.{BlockReply}
-use Rattle.sheets.specs.declared.BlockReply.TheVariants.{Read, NoBlock}
 
 -- whether a field was a sample
-abbrev pub is_sample : Sample → Bool
-is_sample (S.Is v) = true
-is_sample S.Bad = false
+abbrev pub is_sample : Option ℤ → Bool
+is_sample (Some v) = true
+is_sample None = false
 
 -- its value, where it was
-abbrev pub value_of : Sample → ℤ
-value_of (S.Is v) = v
-value_of S.Bad = pos 0
+abbrev pub value_of : Option ℤ → ℤ
+value_of (Some v) = v
+value_of None = pos 0
 
 -- the fields from the first sample on, k samples standing before: how many samples in all, or the first field that is none, field `lead` being
 -- the first sample
-abbrev pub samples_of : ℕ → ℕ → List (List ℕ) → Samples
-samples_of lead k [] = Count k
-samples_of lead k (f ∷ fs) = cond (is_sample (sample_of f)) (samples_of lead (k + 1) fs) (Bad (k + lead))
+abbrev pub samples_of : ℕ → ℕ → List (List ℕ) → Result ℕ ℕ
+samples_of lead k [] = Ok k
+samples_of lead k (f ∷ fs) = cond (is_sample (sample_of f)) (samples_of lead (k + 1) fs) (Err (k + lead))
 
 -- the samples of such fields, as listed
 abbrev pub values_of : List (List ℕ) → List ℤ
@@ -38,25 +34,25 @@ values_of [] = []
 values_of (f ∷ fs) = value_of (sample_of f) ∷ values_of fs
 
 -- the fields after heard: a counter, which is field 2, and samples
-abbrev pub heard_rest : List (List ℕ) → Samples
-heard_rest [] = Bad 2
-heard_rest (f ∷ fs) = cond (is_number (counter_of f)) (samples_of 3 0 fs) (Bad 2)
+abbrev pub heard_rest : List (List ℕ) → Result ℕ ℕ
+heard_rest [] = Err 2
+heard_rest (f ∷ fs) = cond (is_number (counter_of f)) (samples_of 3 0 fs) (Err 2)
 
 -- the first field decides: another word than block, or than heard on a sheet of heard lines, is field 1
-abbrev pub block_by : Bool → Word → List (List ℕ) → Samples
-block_by heard Cover fs = Bad 1
-block_by heard Mask fs = Bad 1
-block_by heard Row fs = Bad 1
+abbrev pub block_by : Bool → Word → List (List ℕ) → Result ℕ ℕ
+block_by heard Cover fs = Err 1
+block_by heard Mask fs = Err 1
+block_by heard Row fs = Err 1
 block_by false Block fs = samples_of 2 0 fs
-block_by true Block fs = Bad 1
-block_by false Heard fs = Bad 1
+block_by true Block fs = Err 1
+block_by false Heard fs = Err 1
 block_by true Heard fs = heard_rest fs
-block_by heard End fs = Bad 1
-block_by heard Other fs = Bad 1
+block_by heard End fs = Err 1
+block_by heard Other fs = Err 1
 
 -- a line by its fields: the word block and samples, or the word heard, a counter and samples
-abbrev pub block_line : Bool → List (List ℕ) → Samples
-block_line heard [] = Bad 1
+abbrev pub block_line : Bool → List (List ℕ) → Result ℕ ℕ
+block_line heard [] = Err 1
 block_line heard (w ∷ fs) = block_by heard (word_of w) fs
 
 -- the samples of the fields after the word, as listed
@@ -90,9 +86,9 @@ pub data BlockFound : Type 0 where
   no_block : BlockFound
 
 -- the line is a block where each field is a sample
-abbrev pub samples_found : Samples → List ℤ → BlockFound
-samples_found (Count k) vs = block vs
-samples_found (Bad f) vs = no_block
+abbrev pub samples_found : Result ℕ ℕ → List ℤ → BlockFound
+samples_found (Ok k) vs = block vs
+samples_found (Err f) vs = no_block
 
 -- the block line at the front of some lines; what follows the last line feed is no line
 abbrev pub block_front : Bool → List (List ℕ) → BlockFound
@@ -159,9 +155,9 @@ block_place s at zero = at
 block_place s at (suc k) = block_place s (next_line s at) k
 
 -- the reply for what was found, the next line beginning at `next`
-abbrev pub block_reply : ℕ → BlockFound → BlockReply
-block_reply next (block vs) = Read (length vs) next
-block_reply next no_block = NoBlock
+abbrev pub block_reply : ℕ → BlockFound → Option SampleLine
+block_reply next (block vs) = Some (sample_line_of (length vs) next)
+block_reply next no_block = None
 
 -- listed samples into their places by position; more than 64, which no length permits, are left out
 abbrev pub placed : Order → List ℤ → List ℤ → List ℤ
@@ -174,6 +170,6 @@ room_after order room no_block = room
 
 -- What reading a block line replies, or a heard line on a sheet of these: the number of its samples and where the next line begins, with the
 -- samples in their places by position; or that no such line begins there, and then the room stays as it was
-pub record ReadsBlock (heard : Bool) (s : List ℕ) (at : ℕ) (order : Order) (room : List ℤ) (r : BlockReply) (room' : List ℤ) : Type 0 where
+pub record ReadsBlock (heard : Bool) (s : List ℕ) (at : ℕ) (order : Order) (room : List ℤ) (r : Option SampleLine) (room' : List ℤ) : Type 0 where
   pub reply : r ≡ block_reply (next_line s at) (block_at heard s at)
   pub samples : room' ≡ room_after order room (block_at heard s at)

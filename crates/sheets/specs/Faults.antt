@@ -1,6 +1,8 @@
 -- What may be wrong with a line, each fault by itself, and which of several is told: the lowest line, then the lowest number, then the lowest field.
 -- The reader's definitions (Covers, Lines, Sheet) do not rest on this; that they tell the first fault is proved (proofs/SheetFaults).
-use Rattle.std.specs.Prelude.{ℕ, zero, suc, ◌<◌, ◌≤◌, eqb, ltb, length, get_or, Bool, true, false, cond, ◌&&◌, List, [], ◌∷◌, ◌⊎◌, ◌≡◌}
+use Rattle.std.specs.Prelude.{ℕ, zero, suc, ◌<◌, ◌≤◌, eqb, ltb, length, get_or, Bool, true, false, cond, ◌&&◌, List, [], ◌∷◌, ◌⊎◌, ◌≡◌, Option, Some, None}
+use Rattle.plates.specs.declared.Kind.{Kind}
+use Rattle.sheets.specs.declared.Order.{Order}
 use Rattle.plates.specs.Refusals.{field, number, place}
 use Rattle.plates.specs.declared.Refusal.{Refusal}
 use Rattle.plates.specs.declared.Refusal.TheVariants.{InputTooLong, Length, TooManyRows}
@@ -11,10 +13,6 @@ use Rattle.sheets.specs.Rows.{bits_only}
 use Rattle.sheets.specs.Blocks.{is_sample}
 use Rattle.sheets.specs.Numbers.{sample_of}
 use Rattle.sheets.specs.Covers.{kind_of, order_of}
-use Rattle.sheets.specs.declared.cover.KindField.{KindField}
-use Rattle.sheets.specs.declared.cover.KindField.TheVariants as K
-use Rattle.sheets.specs.declared.cover.OrderField.{OrderField}
-use Rattle.sheets.specs.declared.cover.OrderField.TheVariants as O
 use Rattle.sheets.specs.declared.word.Word.{Word}
 use Rattle.sheets.specs.declared.word.Word.TheVariants.{Cover, Mask, Row, Block, Heard, End, Other}
 
@@ -96,14 +94,14 @@ abbrev pub first_off : ℕ → ℕ → ℕ
 first_off k d = suc (cond (ltb k d) k d)
 
 -- whether a field was G or H
-abbrev pub is_kind : KindField → Bool
-is_kind (K.Is kind) = true
-is_kind K.Bad = false
+abbrev pub is_kind : Option Kind → Bool
+is_kind (Some kind) = true
+is_kind None = false
 
 -- whether it was first or last
-abbrev pub is_order : OrderField → Bool
-is_order (O.Is order) = true
-is_order O.Bad = false
+abbrev pub is_order : Option Order → Bool
+is_order (Some order) = true
+is_order None = false
 
 -- whether field `at` of a line of this word, from 1, is of its form, on a sheet of length n
 abbrev pub good_field : ℕ → Word → ℕ → List ℕ → Bool

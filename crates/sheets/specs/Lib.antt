@@ -4,6 +4,7 @@ pub mod Words
 pub mod Turning
 pub mod Rows
 pub mod Room
+pub mod Made
 pub mod Blocks
 pub mod Listed
 pub mod Covers

@@ -1,6 +1,6 @@
 -- A line after the cover, by its fields: the first decides among the six words. The mask line, which comes right after the cover, is in specs/Masks.
 -- A fault names the field, from 1; of several in one line it is the one of the lowest number, and of these of the lowest field.
-use Rattle.std.specs.Prelude.{ℕ, zero, suc, drop, Bool, true, false, cond, List, [], ◌∷◌}
+use Rattle.std.specs.Prelude.{ℕ, zero, suc, drop, Bool, true, false, cond, List, [], ◌∷◌, Option, Result, Ok, Err, ok_or}
 use Rattle.sheets.specs.Text.{fields}
 use Rattle.sheets.specs.Words.{word_of}
 use Rattle.sheets.specs.Rows.{row_of}
@@ -8,10 +8,6 @@ use Rattle.sheets.specs.Blocks.{heard_rest, samples_of}
 use Rattle.sheets.specs.declared.Order.{Order}
 use Rattle.sheets.specs.declared.word.Word.{Word}
 use Rattle.sheets.specs.declared.word.Word.TheVariants as W
-use Rattle.sheets.specs.declared.row.Row.{Row}
-use Rattle.sheets.specs.declared.row.Row.TheVariants as R
-use Rattle.sheets.specs.declared.block.Samples.{Samples}
-use Rattle.sheets.specs.declared.block.Samples.TheVariants as S
 use Rattle.sheets.specs.declared.line.Came.{Came}
 use Rattle.sheets.specs.declared.line.Came.TheVariants.{Nothing, Blocks, Heards}
 use Rattle.sheets.specs.declared.line.Fault.{Fault}
@@ -37,35 +33,39 @@ field_of (F.Count at) = at
 field_of (F.Value at) = at
 field_of (F.Row at) = at
 
--- the field after row makes the line
-abbrev pub row_is : Row → Line
-row_is (R.Is w) = L.Row w
-row_is R.Bad = L.Bad (F.Row 2)
+-- the field after row or mask has a word
+abbrev pub row_is : Option ℕ → Result ℕ Fault
+row_is row = ok_or row (F.Row 2)
 
--- exactly one field after row
-abbrev pub row_rest : ℕ → Order → List (List ℕ) → Line
-row_rest n order [] = L.Bad (F.Count 2)
+-- exactly one field after row or mask
+abbrev pub row_rest : ℕ → Order → List (List ℕ) → Result ℕ Fault
+row_rest n order [] = Err (F.Count 2)
 row_rest n order (f ∷ []) = row_is (row_of n order f)
-row_rest n order (f ∷ g ∷ fs) = L.Bad (F.Count 3)
+row_rest n order (f ∷ g ∷ fs) = Err (F.Count 3)
+
+-- that word after row makes the line
+abbrev pub row_made : Result ℕ Fault → Result Line Fault
+row_made (Ok w) = Ok (L.Row w)
+row_made (Err fault) = Err fault
 
 -- the samples after block make the line
-abbrev pub block_is : Samples → Line
-block_is (S.Count k) = L.Block
-block_is (S.Bad f) = L.Bad (F.Value f)
+abbrev pub block_is : Result ℕ ℕ → Result Line Fault
+block_is (Ok k) = Ok L.Block
+block_is (Err f) = Err (F.Value f)
 
 -- any number of samples after block
-abbrev pub block_rest : List (List ℕ) → Line
+abbrev pub block_rest : List (List ℕ) → Result Line Fault
 block_rest fs = block_is (samples_of 2 0 fs)
 
 -- after heard: a counter, and any number of samples
-abbrev pub heard_fields : List (List ℕ) → Line
-heard_fields [] = L.Bad (F.Count 2)
+abbrev pub heard_fields : List (List ℕ) → Result Line Fault
+heard_fields [] = Err (F.Count 2)
 heard_fields (f ∷ fs) = block_is (heard_rest (f ∷ fs))
 
 -- nothing after end
-abbrev pub end_rest : List (List ℕ) → Line
-end_rest [] = L.End
-end_rest (f ∷ fs) = L.Bad (F.Count 2)
+abbrev pub end_rest : List (List ℕ) → Result Line Fault
+end_rest [] = Ok L.End
+end_rest (f ∷ fs) = Err (F.Count 2)
 
 -- where a block or heard line has come, a row is out of its turn
 abbrev pub late_row : Came → Bool
@@ -86,14 +86,14 @@ late_heard Blocks = true
 late_heard Heards = false
 
 -- by what has come before the line; a second cover is always out of its turn, and so is a second mask or one later in the sheet
-abbrev pub line_by : ℕ → Order → Came → Word → List (List ℕ) → Line
-line_by n order came W.Cover fs = L.Bad F.Turn
-line_by n order came W.Mask fs = L.Bad F.Turn
-line_by n order came W.Row fs = cond (late_row came) (L.Bad F.Turn) (row_rest n order fs)
-line_by n order came W.Block fs = cond (late_block came) (L.Bad F.Turn) (block_rest fs)
-line_by n order came W.Heard fs = cond (late_heard came) (L.Bad F.Turn) (heard_fields fs)
+abbrev pub line_by : ℕ → Order → Came → Word → List (List ℕ) → Result Line Fault
+line_by n order came W.Cover fs = Err F.Turn
+line_by n order came W.Mask fs = Err F.Turn
+line_by n order came W.Row fs = cond (late_row came) (Err F.Turn) (row_made (row_rest n order fs))
+line_by n order came W.Block fs = cond (late_block came) (Err F.Turn) (block_rest fs)
+line_by n order came W.Heard fs = cond (late_heard came) (Err F.Turn) (heard_fields fs)
 line_by n order came W.End fs = end_rest fs
-line_by n order came W.Other fs = L.Bad F.Turn
+line_by n order came W.Other fs = Err F.Turn
 
 -- what has come after so many block lines, or heard lines
 abbrev pub came_after : Bool → ℕ → Came
@@ -102,22 +102,22 @@ came_after false (suc k) = Blocks
 came_after true (suc k) = Heards
 
 -- a line by its fields
-abbrev pub line_of : ℕ → Order → Came → List (List ℕ) → Line
-line_of n order came [] = L.Bad F.Turn
+abbrev pub line_of : ℕ → Order → Came → List (List ℕ) → Result Line Fault
+line_of n order came [] = Err F.Turn
 line_of n order came (w ∷ fs) = line_by n order came (word_of w) fs
 
 -- the line at the front of some lines: what follows the last line feed is no line, so that the line is missing or not ended
-abbrev pub front : ℕ → Order → Came → List (List ℕ) → Line
-front n order came [] = L.Bad F.Missing
-front n order came (l ∷ []) = L.Bad F.Missing
+abbrev pub front : ℕ → Order → Came → List (List ℕ) → Result Line Fault
+front n order came [] = Err F.Missing
+front n order came (l ∷ []) = Err F.Missing
 front n order came (l ∷ m ∷ ls) = line_of n order came (fields l)
 
 -- one row more, or no more
-abbrev pub row_then : Line → List ℕ → List ℕ
-row_then (L.Row w) ws = w ∷ ws
-row_then L.Block ws = []
-row_then L.End ws = []
-row_then (L.Bad f) ws = []
+abbrev pub row_then : Result Line Fault → List ℕ → List ℕ
+row_then (Ok (L.Row w)) ws = w ∷ ws
+row_then (Ok L.Block) ws = []
+row_then (Ok L.End) ws = []
+row_then (Err f) ws = []
 
 -- the words of the row lines at the front of some lines
 abbrev pub rows_of : ℕ → Order → List (List ℕ) → List ℕ
@@ -132,11 +132,11 @@ after_end ((x ∷ xs) ∷ []) = After F.Missing
 after_end (l ∷ m ∷ ls) = After F.Turn
 
 -- another line than end: a row, block or heard line here is out of its turn
-abbrev pub end_by : Line → List (List ℕ) → Ending
-end_by (L.Row w) ls = NoEnd F.Turn
-end_by L.Block ls = NoEnd F.Turn
-end_by L.End ls = after_end ls
-end_by (L.Bad f) ls = NoEnd f
+abbrev pub end_by : Result Line Fault → List (List ℕ) → Ending
+end_by (Ok (L.Row w)) ls = NoEnd F.Turn
+end_by (Ok L.Block) ls = NoEnd F.Turn
+end_by (Ok L.End) ls = after_end ls
+end_by (Err f) ls = NoEnd f
 
 -- how lines end that are to be end and nothing after
 abbrev pub ending_of : ℕ → Order → Came → List (List ℕ) → Ending

@@ -1,12 +1,10 @@
 -- A whole sheet. In order: one cover line, a mask line or none, any number of row lines, any number of block lines or any number of heard lines, end,
 -- nothing after.
-use Rattle.std.specs.Prelude.{ℕ, suc, ◌+◌, eqb, ltb, ℤ, length, drop, Bool, cond, List, [], ◌∷◌, ◌≡◌}
+use Rattle.std.specs.Prelude.{ℕ, suc, ◌+◌, eqb, ltb, ℤ, length, drop, Bool, cond, List, [], ◌∷◌, ◌≡◌, Option, Some, None, Result, Ok, Err}
 use Rattle.plates.specs.declared.Kind.{Kind}
 use Rattle.plates.specs.declared.Kind.TheVariants.{G}
 use Rattle.plates.specs.declared.Refusal.{Refusal}
 use Rattle.plates.specs.declared.Refusal.TheVariants.{Length, TooManyRows, SheetLine, InputTooLong, FirstField, FieldCount, FieldValue, RowField}
-use Rattle.plates.specs.declared.Verdict.{Verdict}
-use Rattle.plates.specs.declared.Verdict.TheVariants as J
 use Rattle.sheets.specs.Text.{lines, fields, begins}
 use Rattle.sheets.specs.Room.{laid}
 use Rattle.sheets.specs.Turning.{by_position}
@@ -17,15 +15,9 @@ use Rattle.sheets.specs.Masks.{mask_front, mask_in, masks_in}
 use Rattle.sheets.specs.declared.Order.{Order}
 use Rattle.sheets.specs.declared.Order.TheVariants.{First}
 use Rattle.sheets.specs.declared.Sheet.{Sheet}
-use Rattle.sheets.specs.declared.SheetReply.{SheetReply}
-use Rattle.sheets.specs.declared.SheetReply.TheVariants.{Read, Refused}
 use Rattle.sheets.specs.declared.line.Fault.{Fault}
 use Rattle.sheets.specs.declared.line.Fault.TheVariants as F
 use Rattle.sheets.specs.declared.cover.Cover.{Cover}
-use Rattle.sheets.specs.declared.cover.CoverLine.{CoverLine}
-use Rattle.sheets.specs.declared.cover.CoverLine.TheVariants as C
-use Rattle.sheets.specs.declared.mask.MaskLine.{MaskLine}
-use Rattle.sheets.specs.declared.mask.MaskLine.TheVariants as M
 use Rattle.sheets.specs.declared.body.Ending.{Ending}
 use Rattle.sheets.specs.declared.body.Ending.TheVariants.{Fine, NoEnd, After}
 
@@ -44,15 +36,15 @@ pub record Contents : Type 0 where
   pub counters : List ℕ
 
 -- the cover is the first line; what follows the last line feed is no line
-abbrev pub cover_front : List (List ℕ) → CoverLine
-cover_front [] = C.Bad F.Missing
-cover_front (l ∷ []) = C.Bad F.Missing
+abbrev pub cover_front : List (List ℕ) → Result Cover Fault
+cover_front [] = Err F.Missing
+cover_front (l ∷ []) = Err F.Missing
 cover_front (l ∷ m ∷ ls) = cover_of (fields l)
 
 -- what it says, where it is of its form
-abbrev pub cover_in : CoverLine → Cover
-cover_in (C.Is cover) = cover
-cover_in (C.Bad fault) = record { n = 0; kind = G; order = First }
+abbrev pub cover_in : Result Cover Fault → Cover
+cover_in (Ok cover) = cover
+cover_in (Err fault) = record { n = 0; kind = G; order = First }
 
 -- with this mask, the rows at the front of the lines after the cover and the mask, and the blocks, or the heard lines where the first is one, at the
 -- front of those after the rows
@@ -94,17 +86,17 @@ refusal_of line (F.Value field) = FieldValue line field
 refusal_of line (F.Row field) = RowField line field
 
 -- 15: input over 32,768 bytes
-abbrev pub input_too_long : List ℕ → Verdict
-input_too_long s = cond (ltb 32768 (length s)) (J.Refused InputTooLong) J.Accepted
+abbrev pub input_too_long : List ℕ → Result (Unit {0}) Refusal
+input_too_long s = cond (ltb 32768 (length s)) (Err InputTooLong) (Ok tt)
 
 -- 10, 17 to 20: form of the cover, which is line 1
-abbrev pub cover_bad : CoverLine → Verdict
-cover_bad (C.Is cover) = J.Accepted
-cover_bad (C.Bad fault) = J.Refused (refusal_of 1 fault)
+abbrev pub cover_bad : Result Cover Fault → Result (Unit {0}) Refusal
+cover_bad (Ok cover) = Ok tt
+cover_bad (Err fault) = Err (refusal_of 1 fault)
 
 -- 1: n is 0 or over 64
-abbrev pub length_bad : ℕ → Verdict
-length_bad n = cond (eqb n 0) (J.Refused Length) (cond (ltb 64 n) (J.Refused Length) J.Accepted)
+abbrev pub length_bad : ℕ → Result (Unit {0}) Refusal
+length_bad n = cond (eqb n 0) (Err Length) (cond (ltb 64 n) (Err Length) (Ok tt))
 
 -- how the lines end that stand after the rows and blocks; a row there is late where a block has come, and a heard line, or a block after heard lines
 abbrev pub ending_after : Contents → List (List ℕ) → Ending
@@ -112,41 +104,41 @@ ending_after c ls =
     ending_of c.n c.order (came_after c.heard (length c.blocks)) (drop (length c.blocks) (drop (length c.rows) ls))
 
 -- the bad line is the one that is to be end, or the one after it
-abbrev pub line_verdict : ℕ → Ending → Verdict
-line_verdict line Fine = J.Accepted
-line_verdict line (NoEnd fault) = J.Refused (refusal_of line fault)
-line_verdict line (After fault) = J.Refused (refusal_of (line + 1) fault)
+abbrev pub line_verdict : ℕ → Ending → Result (Unit {0}) Refusal
+line_verdict line Fine = Ok tt
+line_verdict line (NoEnd fault) = Err (refusal_of line fault)
+line_verdict line (After fault) = Err (refusal_of (line + 1) fault)
 
 -- the first bad one of the lines after the cover and the mask, which begin with line `line`: they are good as far as rows and blocks go
-abbrev pub body_bad : ℕ → Contents → List (List ℕ) → Verdict
+abbrev pub body_bad : ℕ → Contents → List (List ℕ) → Result (Unit {0}) Refusal
 body_bad line c ls = line_verdict (line + length c.rows + length c.blocks) (ending_after c ls)
 
 -- the first bad one of the lines after the cover: the mask is line 2, where there is one
-abbrev pub bad_by : MaskLine → Contents → List (List ℕ) → Verdict
-bad_by (M.Is w) c ls = body_bad 3 c (drop 1 ls)
-bad_by M.NoMask c ls = body_bad 2 c ls
-bad_by (M.Bad fault) c ls = J.Refused (refusal_of 2 fault)
+abbrev pub bad_by : Result (Option ℕ) Fault → Contents → List (List ℕ) → Result (Unit {0}) Refusal
+bad_by (Ok (Some w)) c ls = body_bad 3 c (drop 1 ls)
+bad_by (Ok None) c ls = body_bad 2 c ls
+bad_by (Err fault) c ls = Err (refusal_of 2 fault)
 
 -- 10, 17 to 20: the first other bad line. The cover is line 1
-abbrev pub line_bad : Contents → List (List ℕ) → Verdict
+abbrev pub line_bad : Contents → List (List ℕ) → Result (Unit {0}) Refusal
 line_bad c ls = bad_by (mask_front c.n c.order ls) c ls
 
 -- 2: more than 64 rows
-abbrev pub rows_too_many : ℕ → Verdict
-rows_too_many k = cond (ltb 64 k) (J.Refused TooManyRows) J.Accepted
+abbrev pub rows_too_many : ℕ → Result (Unit {0}) Refusal
+rows_too_many k = cond (ltb 64 k) (Err TooManyRows) (Ok tt)
 
 -- in their order: 15; form of the cover, 10 or 17 to 20; 1; the first other bad line, 10 or 17 to 20; then 2
-abbrev pub refusals_of : List ℕ → CoverLine → Contents → List (List ℕ) → List Verdict
+abbrev pub refusals_of : List ℕ → Result Cover Fault → Contents → List (List ℕ) → List (Result (Unit {0}) Refusal)
 refusals_of s cover c ls = input_too_long s ∷ cover_bad cover ∷ length_bad c.n ∷ line_bad c ls ∷ rows_too_many (length c.rows) ∷ []
 
 -- the first of some verdicts that refuses
-abbrev pub first_refusal : List Verdict → Verdict
-first_refusal [] = J.Accepted
-first_refusal (J.Accepted ∷ vs) = first_refusal vs
-first_refusal (J.Refused q ∷ vs) = J.Refused q
+abbrev pub first_refusal : List (Result (Unit {0}) Refusal) → Result (Unit {0}) Refusal
+first_refusal [] = Ok tt
+first_refusal (Ok tt ∷ vs) = first_refusal vs
+first_refusal (Err q ∷ vs) = Err q
 
 -- whether the input is refused
-unfoldable pub verdict : List ℕ → Verdict
+unfoldable pub verdict : List ℕ → Result (Unit {0}) Refusal
 verdict s = first_refusal (refusals_of s (cover_front (lines s)) (contents s) (drop 1 (lines s)))
 
 -- ---- the reading of a sheet
@@ -157,9 +149,9 @@ pub data Reading : Type 0 where
   refused : Refusal → Reading
 
 -- by the verdict
-abbrev pub reading_by : Verdict → Contents → Reading
-reading_by J.Accepted c = says c
-reading_by (J.Refused q) c = refused q
+abbrev pub reading_by : Result (Unit {0}) Refusal → Contents → Reading
+reading_by (Ok _) c = says c
+reading_by (Err q) c = refused q
 
 -- the reading of each input
 abbrev pub reading : List ℕ → Reading
@@ -189,9 +181,9 @@ abbrev pub start_of : List ℕ → Contents → ℕ
 start_of s c = begins (lines s) (suc (masks_of s c + length c.rows))
 
 -- the reply for a reading
-abbrev pub sheet_reply : List ℕ → Reading → SheetReply
-sheet_reply s (says c) = Read (sheet_at (start_of s c) c)
-sheet_reply s (refused q) = Refused q
+abbrev pub sheet_reply : List ℕ → Reading → Result Sheet Refusal
+sheet_reply s (says c) = Ok (sheet_at (start_of s c) c)
+sheet_reply s (refused q) = Err q
 
 -- the table after it
 abbrev pub table_after : List ℕ → Reading → List ℕ
@@ -199,6 +191,6 @@ table_after table (says c) = laid c.rows table
 table_after table (refused q) = table
 
 -- What reading a sheet replies: its numbers and its start, with the rows laid into the table; or the refusal, and then the table stays as it was
-pub record ReadsSheet (s table : List ℕ) (r : SheetReply) (table' : List ℕ) : Type 0 where
+pub record ReadsSheet (s table : List ℕ) (r : Result Sheet Refusal) (table' : List ℕ) : Type 0 where
   pub reply : r ≡ sheet_reply s (reading s)
   pub rows : table' ≡ table_after table (reading s)

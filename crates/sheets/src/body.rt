@@ -8,10 +8,10 @@ ghost use Rattle.sheets.specs.Readers.{closed, lines_reply, RowsRead, BlocksRead
 use crate::block::block_at;
 use crate::cover::Cover;
 use crate::line::{Came, Fault, Line, line_between, refusal_of};
-use crate::mask::{MaskLine, mask_between};
+use crate::mask::mask_between;
 use crate::scan::until;
 use crate::word::{Word, read_word};
-use crate::{BlockReply, Order, Sheet, SheetReply};
+use crate::{Order, SampleLine, Sheet};
 use plates::Refusal;
 
 // So many lines, and where the line after them begins.
@@ -32,15 +32,6 @@ pub enum Ending {
     After(Fault),
 }
 
-// A row's word into its place; beyond the table it is dropped.
-fn put_row(table: &mut [u64], k: usize, word: u64)
-    ensures { table.new ≡ set table.old k word }
-{
-    if k < table.len() {
-        table[k] = word;
-    }
-}
-
 // The row lines from a place on: counted, and their words put into the table.
 pub fn read_rows(input: &[u8], from: usize, n: usize, order: Order, table: &mut [u64]) -> Run
     requires from_in_bounds { from ≤ length input.now }
@@ -49,16 +40,20 @@ pub fn read_rows(input: &[u8], from: usize, n: usize, order: Order, table: &mut 
 {
     let mut at = from;
     let mut rows: usize = 0;
+    // kept a `while`: each turn begins where the line before it was found to end
     while at < input.len() {
         let end = until(input, at, b'\n');
-        let line = line_between(input, at, end, n, order, Came::Nothing);
-        let Line::Row(word) = line else {
-            return Run {
-                count: rows,
-                next: at,
-            };
+        let passed = Run {
+            count: rows,
+            next: at,
         };
-        put_row(table, rows, word);
+        let Ok(line) = line_between(input, at, end, n, order, Came::Nothing) else {
+            return passed;
+        };
+        let Line::Row(word) = line else {
+            return passed;
+        };
+        words::put(table, rows, word);
         rows += 1;
         at = end + 1;
     }
@@ -72,15 +67,7 @@ pub fn read_rows(input: &[u8], from: usize, n: usize, order: Order, table: &mut 
 fn is_heard(word: Word) -> bool
     ensures { result ≡ is_heard word }
 {
-    match word {
-        Word::Heard => true,
-        Word::Cover => false,
-        Word::Mask => false,
-        Word::Row => false,
-        Word::Block => false,
-        Word::End => false,
-        Word::Other => false,
-    }
+    matches!(word, Word::Heard)
 }
 
 // Whether a line begins with heard.
@@ -121,9 +108,10 @@ pub fn read_blocks(heard: bool, input: &[u8], from: usize) -> Run
 {
     let mut at = from;
     let mut blocks: usize = 0;
+    // kept a `while`, as in `read_rows`
     while at < input.len() {
         let reply = block_at(heard, input, at);
-        let BlockReply::Read { samples: _, next } = reply else {
+        let Some(SampleLine { samples: _, next }) = reply else {
             return Run {
                 count: blocks,
                 next: at,
@@ -160,17 +148,16 @@ fn read_end(input: &[u8], at: usize, n: usize, order: Order, came: Came) -> Endi
     ensures { result ≡ ending_of n order came (lines_from input.now at) }
 {
     let end = until(input, at, b'\n');
-    let line = line_between(input, at, end, n, order, came);
-    match line {
-        Line::End => after_end(input, end + 1),
-        Line::Bad(fault) => Ending::NoEnd(fault),
-        Line::Row(_) => Ending::NoEnd(Fault::Turn),
-        Line::Block => Ending::NoEnd(Fault::Turn),
+    match line_between(input, at, end, n, order, came) {
+        Ok(Line::End) => after_end(input, end + 1),
+        Err(fault) => Ending::NoEnd(fault),
+        Ok(Line::Row(_)) => Ending::NoEnd(Fault::Turn),
+        Ok(Line::Block) => Ending::NoEnd(Fault::Turn),
     }
 }
 
 // A sheet by how its lines end: refused at the first bad line, or for too many rows. The rows begin with line `first`.
-fn close(first: usize, sheet: Sheet, ending: Ending) -> SheetReply
+fn close(first: usize, sheet: Sheet, ending: Ending) -> Result<Sheet, Refusal>
     requires first_bound { first ≤ 3 }
     requires blocks_bound { sheet.rows + sheet.blocks ≤ 32768 }
     ensures { result ≡ closed first sheet ending }
@@ -178,19 +165,25 @@ fn close(first: usize, sheet: Sheet, ending: Ending) -> SheetReply
     let rows = sheet.rows;
     let line = first + rows + sheet.blocks;
     match ending {
-        Ending::NoEnd(fault) => SheetReply::Refused(refusal_of(line, fault)),
-        Ending::After(fault) => SheetReply::Refused(refusal_of(line + 1, fault)),
+        Ending::NoEnd(fault) => Err(refusal_of(line, fault)),
+        Ending::After(fault) => Err(refusal_of(line + 1, fault)),
         Ending::Fine => {
             if 64 < rows {
-                return SheetReply::Refused(Refusal::TooManyRows);
+                return Err(Refusal::TooManyRows);
             }
-            SheetReply::Read(sheet)
+            Ok(sheet)
         }
     }
 }
 
 // The lines after the cover and the mask, which begin at `from` with line `first`, without the words of the rows.
-fn check_lines(input: &[u8], from: usize, first: usize, cover: Cover, mask: u64) -> SheetReply
+fn check_lines(
+    input: &[u8],
+    from: usize,
+    first: usize,
+    cover: Cover,
+    mask: u64,
+) -> Result<Sheet, Refusal>
     requires from_in_bounds { from ≤ length input.now }
     requires first_bound { first ≤ 3 }
     requires input_len_bound { length input.now ≤ 32768 }
@@ -229,7 +222,7 @@ fn read_lines(
     cover: Cover,
     mask: u64,
     table: &mut [u64],
-) -> SheetReply
+) -> Result<Sheet, Refusal>
     requires from_in_bounds { from ≤ length input.now }
     requires first_bound { first ≤ 3 }
     requires input_len_bound { length input.now ≤ 32768 }
@@ -238,18 +231,18 @@ fn read_lines(
 {
     let n = cover.n;
     let order = cover.order;
-    let reply = check_lines(input, from, first, cover, mask);
-    match reply {
-        SheetReply::Read(sheet) => {
-            read_rows(input, from, n, order, table);
-            SheetReply::Read(sheet)
-        }
-        SheetReply::Refused(refusal) => SheetReply::Refused(refusal),
-    }
+    let sheet = check_lines(input, from, first, cover, mask)?;
+    read_rows(input, from, n, order, table);
+    Ok(sheet)
 }
 
 // The lines after the cover, which begin at `from`: the mask is line 2 where there is one, and the lines after it begin with line 3.
-pub fn read_body(input: &[u8], from: usize, cover: Cover, table: &mut [u64]) -> SheetReply
+pub fn read_body(
+    input: &[u8],
+    from: usize,
+    cover: Cover,
+    table: &mut [u64],
+) -> Result<Sheet, Refusal>
     requires from_in_bounds { from ≤ length input.now }
     requires input_len_bound { length input.now ≤ 32768 }
     requires n_bound { cover.n ≤ 64 }
@@ -258,10 +251,9 @@ pub fn read_body(input: &[u8], from: usize, cover: Cover, table: &mut [u64]) -> 
     let n = cover.n;
     let order = cover.order;
     let end = until(input, from, b'\n');
-    let line = mask_between(input, from, end, n, order);
-    match line {
-        MaskLine::Is(mask) => read_lines(input, end + 1, 3, cover, mask, table),
-        MaskLine::NoMask => read_lines(input, from, 2, cover, 0, table),
-        MaskLine::Bad(fault) => SheetReply::Refused(refusal_of(2, fault)),
+    match mask_between(input, from, end, n, order) {
+        Ok(Some(mask)) => read_lines(input, end + 1, 3, cover, mask, table),
+        Ok(None) => read_lines(input, from, 2, cover, 0, table),
+        Err(fault) => Err(refusal_of(2, fault)),
     }
 }

@@ -5,7 +5,7 @@ ghost use Rattle.sheets.specs.Numbers.{worth};
 ghost use Rattle.sheets.specs.Readers.{Below};
 ghost use Rattle.sheets.specs.Text.{fields, lines_from};
 
-use crate::number::{Number, read_counter_field};
+use crate::number::read_counter_field;
 use crate::scan::until;
 use crate::word::{Word, read_word};
 
@@ -18,13 +18,13 @@ fn small(value: usize) -> u16
 }
 
 // The value of a counter: 0 where it is none.
-fn worth(number: Number) -> u16
+fn worth(number: Option<usize>) -> u16
     requires { Below 65536 number }
     ensures { result ≡ worth number }
 {
     match number {
-        Number::Is(value) => small(value),
-        Number::Bad => 0,
+        Some(value) => small(value),
+        None => 0,
     }
 }
 

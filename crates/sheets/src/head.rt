@@ -1,39 +1,27 @@
 // The cover as the head of a sheet: its form, then its range.
 ghost use Rattle.sheets.specs.Readers.{HeadRead};
 
-use crate::cover::{Cover, CoverLine, read_cover};
+use crate::cover::{Cover, read_cover};
 use crate::line::refusal_of;
 use crate::scan::until;
 use plates::Refusal;
 
-// The cover and where the next line begins, or a refusal.
-#[derive(Clone, Copy)]
-pub enum Head {
-    Is(Cover, usize),
-    Refused(Refusal),
-}
-
-// The first line, which is to be a cover with n from 1 to 64.
-pub fn read_head(input: &[u8]) -> Head
+// The first line, which is to be a cover with n from 1 to 64, and where the next begins.
+pub fn read_head(input: &[u8]) -> Result<(Cover, usize), Refusal>
     ensures { HeadRead input.now result }
 {
     let end = until(input, 0, b'\n');
     if end == input.len() {
-        return Head::Refused(Refusal::SheetLine(1));
+        return Err(Refusal::SheetLine(1));
     }
     let line = read_cover(&input[..end]);
-    match line {
-        CoverLine::Bad(fault) => Head::Refused(refusal_of(1, fault)),
-        CoverLine::Is(cover) => {
-            let n = cover.n;
-            if n == 0 {
-                return Head::Refused(Refusal::Length);
-            }
-            if 64 < n {
-                return Head::Refused(Refusal::Length);
-            }
-            let next = end + 1;
-            Head::Is(cover, next)
-        }
+    let cover = match line {
+        Ok(cover) => cover,
+        Err(fault) => return Err(refusal_of(1, fault)),
+    };
+    let n = cover.n;
+    if n == 0 || 64 < n {
+        return Err(Refusal::Length);
     }
+    Ok((cover, end + 1))
 }

@@ -8,7 +8,7 @@ ghost use Rattle.sheets.specs.Sheet.{ReadsSheet};
 use block::block_at;
 use body::read_body;
 use counter::counter_at;
-use head::{Head, read_head};
+use head::read_head;
 use placing::place_samples;
 use plates::{Kind, Refusal};
 
@@ -47,32 +47,22 @@ pub struct Sheet {
     pub blocks: usize,
 }
 
-// A sheet, or why the input is refused.
+// A block or heard line: the number of its samples, and where the next line begins.
 #[derive(Clone, Copy)]
-pub enum SheetReply {
-    Read(Sheet),
-    Refused(Refusal),
-}
-
-// A block or heard line's number of samples and where the next line begins, or that no such line begins at that place.
-#[derive(Clone, Copy)]
-pub enum BlockReply {
-    Read { samples: usize, next: usize },
-    NoBlock,
+pub struct SampleLine {
+    pub samples: usize,
+    pub next: usize,
 }
 
 // Reads a whole sheet. The words of its rows go into the table; where the input is refused the table stays as it was.
-pub fn read_sheet(input: &[u8], table: &mut [u64; 64]) -> SheetReply
+pub fn read_sheet(input: &[u8], table: &mut [u64; 64]) -> Result<Sheet, Refusal>
     ensures { ReadsSheet input.now table.old result table.new }
 {
     if 32768 < input.len() {
-        return SheetReply::Refused(Refusal::InputTooLong);
+        return Err(Refusal::InputTooLong);
     }
-    let head = read_head(input);
-    match head {
-        Head::Is(cover, from) => read_body(input, from, cover, table),
-        Head::Refused(refusal) => SheetReply::Refused(refusal),
-    }
+    let (cover, from) = read_head(input)?;
+    read_body(input, from, cover, table)
 }
 
 // Reads the block line, or on a sheet of heard lines the heard line, that begins at a place of a sheet in the cover's order: its samples go into the places of their positions, or are left
@@ -83,16 +73,16 @@ pub fn read_block(
     at: usize,
     order: Order,
     room: &mut [i16; 64],
-) -> BlockReply
+) -> Option<SampleLine>
     ensures { ReadsBlock heard input.now at order room.old result room.new }
 {
     let reply = block_at(heard, input, at);
-    let BlockReply::Read { samples, next } = reply else {
-        return BlockReply::NoBlock;
+    let Some(SampleLine { samples, next }) = reply else {
+        return None;
     };
     let end = next - 1;
     place_samples(heard, &input[at..end], samples, order, room);
-    BlockReply::Read { samples, next }
+    Some(SampleLine { samples, next })
 }
 
 // Reads the counter of the heard line that begins at a place: 0 where none begins there.

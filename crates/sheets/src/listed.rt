@@ -1,9 +1,9 @@
 // A line of a supplier's listing of branches.
 ghost use Rattle.std.specs.Prelude.{◌+◌, ◌≤◌, length, ◌≡◌};
 ghost use Rattle.sheets.specs.Text.{fields, fields_from};
-ghost use Rattle.sheets.specs.Listed.{branch_fields, branch_in, branch_is, branch_of, branch_rest, entry_at};
+ghost use Rattle.sheets.specs.Listed.{branch_fields, branch_in, branch_of, branch_rest, entry_at};
 
-use crate::number::{Number, read_number};
+use crate::number::read_number;
 use crate::scan::until;
 use crate::word::is_text;
 
@@ -16,117 +16,97 @@ pub struct Branch {
     pub to: usize,
 }
 
-// A line's branch, or that it is bad.
-#[derive(Clone, Copy)]
-pub enum BranchLine {
-    Is(Branch),
-    Bad,
-}
-
 // A line, and where the next begins.
 #[derive(Clone, Copy)]
 pub struct Entry {
-    pub line: BranchLine,
+    pub line: Option<Branch>,
     pub next: usize,
 }
 
 // Four numbers in their ranges.
-fn branch_in(branch: Branch, n: usize) -> BranchLine
+fn branch_in(branch: Branch, n: usize) -> Option<Branch>
     ensures { result ≡ branch_in n branch }
 {
     if n <= branch.depth {
-        return BranchLine::Bad;
+        return None;
     }
     if 1024 <= branch.from {
-        return BranchLine::Bad;
+        return None;
     }
     if 2 <= branch.bit {
-        return BranchLine::Bad;
+        return None;
     }
     if 1024 <= branch.to {
-        return BranchLine::Bad;
+        return None;
     }
-    BranchLine::Is(branch)
-}
-
-// The four numbers after the word.
-fn branch_is(depth: Number, from: Number, bit: Number, to: Number, n: usize) -> BranchLine
-    ensures { result ≡ branch_is n depth from bit to }
-{
-    let Number::Is(d) = depth else {
-        return BranchLine::Bad;
-    };
-    let Number::Is(f) = from else {
-        return BranchLine::Bad;
-    };
-    let Number::Is(b) = bit else {
-        return BranchLine::Bad;
-    };
-    let Number::Is(t) = to else {
-        return BranchLine::Bad;
-    };
-    branch_in(
-        Branch {
-            depth: d,
-            from: f,
-            bit: b,
-            to: t,
-        },
-        n,
-    )
+    Some(branch)
 }
 
 // The four fields after the word.
-fn branch_fields(f: &[u8], g: &[u8], h: &[u8], k: &[u8], n: usize) -> BranchLine
+fn branch_fields(f: &[u8], g: &[u8], h: &[u8], k: &[u8], n: usize) -> Option<Branch>
     ensures { result ≡ branch_fields n f.now g.now h.now k.now }
 {
-    let depth = read_number(f, 4);
-    let from = read_number(g, 4);
-    let bit = read_number(h, 4);
-    let to = read_number(k, 4);
-    branch_is(depth, from, bit, to, n)
+    let Some(depth) = read_number(f, 4) else {
+        return None;
+    };
+    let Some(from) = read_number(g, 4) else {
+        return None;
+    };
+    let Some(bit) = read_number(h, 4) else {
+        return None;
+    };
+    let Some(to) = read_number(k, 4) else {
+        return None;
+    };
+    let branch = Branch {
+        depth,
+        from,
+        bit,
+        to,
+    };
+    branch_in(branch, n)
 }
 
 // The fields after the word, which ends at a.
-fn branch_rest(line: &[u8], a: usize, n: usize) -> BranchLine
+fn branch_rest(line: &[u8], a: usize, n: usize) -> Option<Branch>
     requires { a ≤ length line.now }
     ensures { result ≡ branch_rest n (fields_from line.now (a + 1)) }
 {
     if a == line.len() {
-        return BranchLine::Bad;
+        return None;
     }
     let p = a + 1;
     let b = until(line, p, b'\t');
     if b == line.len() {
-        return BranchLine::Bad;
+        return None;
     }
     let q = b + 1;
     let c = until(line, q, b'\t');
     if c == line.len() {
-        return BranchLine::Bad;
+        return None;
     }
     let r = c + 1;
     let d = until(line, r, b'\t');
     if d == line.len() {
-        return BranchLine::Bad;
+        return None;
     }
     let s = d + 1;
     let e = until(line, s, b'\t');
     if e != line.len() {
-        return BranchLine::Bad;
+        return None;
     }
     branch_fields(&line[p..b], &line[q..c], &line[r..d], &line[s..e], n)
 }
 
 // A whole line.
-fn read_branch(line: &[u8], n: usize) -> BranchLine
+fn read_branch(line: &[u8], n: usize) -> Option<Branch>
     ensures { result ≡ branch_of n (fields line.now) }
 {
     let a = until(line, 0, b'\t');
     if is_text(&line[..a], b"branch") {
         return branch_rest(line, a, n);
     }
-    BranchLine::Bad
+    None
 }
 
 // The line that begins at a place of a listing against a plate of length n, and where the next begins. A line that is missing or not
@@ -136,17 +116,14 @@ pub fn read_entry(text: &[u8], at: usize, n: usize) -> Entry
 {
     if text.len() < at {
         return Entry {
-            line: BranchLine::Bad,
+            line: None,
             next: at,
         };
     }
     let end = until(text, at, b'\n');
     let next = end + 1;
     if end == text.len() {
-        return Entry {
-            line: BranchLine::Bad,
-            next,
-        };
+        return Entry { line: None, next };
     }
     let line = read_branch(&text[at..end], n);
     Entry { line, next }

@@ -2,48 +2,28 @@
 ghost use Rattle.std.specs.Prelude.{◌+◌, ◌≤◌, length, ◌≡◌};
 ghost use Rattle.sheets.specs.Text.{line_feed, fields, fields_from, lines_from};
 ghost use Rattle.sheets.specs.Readers.{Until};
-ghost use Rattle.sheets.specs.Masks.{mask_is, mask_by, mask_of, mask_front};
+ghost use Rattle.sheets.specs.Masks.{mask_by, mask_of, mask_front};
 
 use crate::Order;
-use crate::line::{Fault, Line, row_rest};
+use crate::line::{Fault, row_rest};
 use crate::scan::until;
 use crate::word::{Word, read_word};
 
-// A mask line's word, or that the line is none, or what is wrong with it.
-#[derive(Clone, Copy)]
-pub enum MaskLine {
-    Is(u64),
-    NoMask,
-    Bad(Fault),
-}
-
-// A row's line as that of a mask.
-fn mask_is(line: Line) -> MaskLine
-    ensures { result ≡ mask_is line }
-{
-    match line {
-        Line::Row(word) => MaskLine::Is(word),
-        Line::Bad(fault) => MaskLine::Bad(fault),
-        Line::Block => MaskLine::NoMask,
-        Line::End => MaskLine::NoMask,
-    }
-}
-
 // The fields after mask, which ends at a; another word makes no mask line.
-fn mask_by(word: Word, line: &[u8], a: usize, n: usize, order: Order) -> MaskLine
+fn mask_by(word: Word, line: &[u8], a: usize, n: usize, order: Order) -> Result<Option<u64>, Fault>
     requires a_in_bounds { a ≤ length line.now }
     requires n_bound { n ≤ 64 }
     ensures { result ≡ mask_by n order word (fields_from line.now (a + 1)) }
 {
     let Word::Mask = word else {
-        return MaskLine::NoMask;
+        return Ok(None);
     };
-    let row = row_rest(line, a, n, order);
-    mask_is(row)
+    let row = row_rest(line, a, n, order)?;
+    Ok(Some(row))
 }
 
 // A whole line after the cover, as a mask line.
-fn read_mask(line: &[u8], n: usize, order: Order) -> MaskLine
+fn read_mask(line: &[u8], n: usize, order: Order) -> Result<Option<u64>, Fault>
     requires { n ≤ 64 }
     ensures { result ≡ mask_of n order (fields line.now) }
 {
@@ -53,14 +33,20 @@ fn read_mask(line: &[u8], n: usize, order: Order) -> MaskLine
 }
 
 // The line from `at` to `end`, which is none where `end` is the end of the input.
-pub fn mask_between(input: &[u8], at: usize, end: usize, n: usize, order: Order) -> MaskLine
+pub fn mask_between(
+    input: &[u8],
+    at: usize,
+    end: usize,
+    n: usize,
+    order: Order,
+) -> Result<Option<u64>, Fault>
     requires at_in_bounds { at ≤ length input.now }
     requires until { Until line_feed input.now at end }
     requires n_bound { n ≤ 64 }
     ensures { result ≡ mask_front n order (lines_from input.now at) }
 {
     if end == input.len() {
-        return MaskLine::NoMask;
+        return Ok(None);
     }
     read_mask(&input[at..end], n, order)
 }

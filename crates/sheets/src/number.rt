@@ -1,23 +1,9 @@
 // The numbers of a sheet: n on the cover, counters and samples.
 ghost use Rattle.std.specs.Prelude.{◌+◌, ◌-◌, ◌^◌, ◌≤◌, ◌<◌, pos, neg_ℤ, length, ◌≡◌};
-ghost use Rattle.sheets.specs.Numbers.{counter_is, counter_of, leading_zero, digits_of, number_of, plain, negated, sample_of};
+ghost use Rattle.sheets.specs.Numbers.{counter_of, leading_zero, digits_of, number_of, negated, sample_of};
 ghost use Rattle.sheets.specs.Readers.{Below, NumberRead};
 
 use crate::scan::within;
-
-// A field's number, or that it is none.
-#[derive(Clone, Copy)]
-pub enum Number {
-    Is(usize),
-    Bad,
-}
-
-// A field's sample, or that it is none.
-#[derive(Clone, Copy)]
-pub enum Sample {
-    Is(i16),
-    Bad,
-}
 
 // The value of a digit.
 fn digit(x: u8) -> usize
@@ -28,21 +14,18 @@ fn digit(x: u8) -> usize
 }
 
 // The value of a run of at most five digits.
-fn read_digits(f: &[u8]) -> Number
+fn read_digits(f: &[u8]) -> Option<usize>
     requires { length f.now ≤ 5 }
     ensures { NumberRead (digits_of 0 f.now) (10 ^ length f.now) result }
 {
     let mut value: usize = 0;
-    let mut i = 0;
-    while i < f.len() {
-        let x = f[i];
-        if !within(x, b'0', b'9') {
-            return Number::Bad;
+    for x in f {
+        if !within(*x, b'0', b'9') {
+            return None;
         }
-        value = value * 10 + digit(x);
-        i += 1;
+        value = value * 10 + digit(*x);
     }
-    Number::Is(value)
+    Some(value)
 }
 
 // Whether a zero stands before something.
@@ -53,45 +36,35 @@ fn leading_zero(f: &[u8]) -> bool
 }
 
 // A number of one to `most` digits, with no leading zero but for 0 itself.
-pub fn read_number(f: &[u8], most: usize) -> Number
+pub fn read_number(f: &[u8], most: usize) -> Option<usize>
     requires { most ≤ 5 }
     ensures { NumberRead (number_of most f.now) (10 ^ most) result }
 {
     let length = f.len();
     if length == 0 {
-        return Number::Bad;
+        return None;
     }
     if most < length {
-        return Number::Bad;
+        return None;
     }
     if leading_zero(f) {
-        return Number::Bad;
+        return None;
     }
     read_digits(f)
 }
 
-// A number that is at most 65535.
-fn as_counter(number: Number) -> Number
-    ensures value { result ≡ counter_is number }
-    ensures below { Below 65536 result }
-{
-    match number {
-        Number::Is(value) => {
-            if value <= 65535 {
-                return Number::Is(value);
-            }
-            Number::Bad
-        }
-        Number::Bad => Number::Bad,
-    }
-}
-
 // A counter: a number of one to five digits, at most 65535.
-pub fn read_counter_field(f: &[u8]) -> Number
+pub fn read_counter_field(f: &[u8]) -> Option<usize>
     ensures value { result ≡ counter_of f.now }
     ensures below { Below 65536 result }
 {
-    as_counter(read_number(f, 5))
+    let Some(value) = read_number(f, 5) else {
+        return None;
+    };
+    if value <= 65535 {
+        return Some(value);
+    }
+    None
 }
 
 // A number of four digits as a signed one.
@@ -110,42 +83,31 @@ fn below_zero(value: usize) -> i16
     0 - as_signed(value)
 }
 
-// A number as a sample.
-fn as_sample(number: Number) -> Sample
-    requires { Below 10000 number }
-    ensures { result ≡ plain number }
+// The sample after a minus, which never stands before 0.
+fn after_minus(f: &[u8]) -> Option<i16>
+    ensures { result ≡ negated (number_of 4 f.now) }
 {
-    match number {
-        Number::Is(value) => Sample::Is(as_signed(value)),
-        Number::Bad => Sample::Bad,
+    let Some(value) = read_number(f, 4) else {
+        return None;
+    };
+    if value == 0 {
+        return None;
     }
-}
-
-// A number after a minus as a sample: the minus never stands before 0.
-fn after_minus(number: Number) -> Sample
-    requires { Below 10000 number }
-    ensures { result ≡ negated number }
-{
-    match number {
-        Number::Is(value) => {
-            if value == 0 {
-                return Sample::Bad;
-            }
-            Sample::Is(below_zero(value))
-        }
-        Number::Bad => Sample::Bad,
-    }
+    Some(below_zero(value))
 }
 
 // A sample: a number of one to four digits, or a minus and one that is not 0.
-pub fn read_sample(f: &[u8]) -> Sample
+pub fn read_sample(f: &[u8]) -> Option<i16>
     ensures { result ≡ sample_of f.now }
 {
     if f.len() == 0 {
-        return Sample::Bad;
+        return None;
     }
     if f[0] == b'-' {
-        return after_minus(read_number(&f[1..], 4));
+        return after_minus(&f[1..]);
     }
-    as_sample(read_number(f, 4))
+    let Some(value) = read_number(f, 4) else {
+        return None;
+    };
+    Some(as_signed(value))
 }

@@ -1,17 +1,16 @@
 // The samples of a block or heard line in their places by position.
-ghost use Rattle.std.specs.Prelude.{◌<◌, ◌≤◌, length, ◌≡◌};
+ghost use Rattle.std.specs.Prelude.{◌<◌, ◌≤◌, length, ◌≡◌, Ok};
 ghost use Rattle.sheets.specs.Blocks.{block_line, placed, listed_in};
 ghost use Rattle.sheets.specs.Readers.{listed_at};
 ghost use Rattle.sheets.specs.Room.{laid};
 ghost use Rattle.sheets.specs.Text.{fields};
 ghost use Rattle.sheets.specs.Turning.{in_order};
-ghost use Rattle.sheets.specs.declared.block.Samples.TheVariants.{Count};
 
 use crate::Order;
-use crate::block::{put_sample, read_block_line};
+use crate::block::read_block_line;
 
 // Where the sample of a position is listed among n.
-fn listed_at(order: Order, n: usize, position: usize) -> usize
+pub fn listed_at(order: Order, n: usize, position: usize) -> usize
     requires { position < n }
     ensures value { result ≡ listed_at order n position }
     ensures upper_bound { result < n }
@@ -27,25 +26,23 @@ fn place_listed(listed: &[i16], order: Order, room: &mut [i16])
     ensures { room.new ≡ laid (in_order order listed.now) room.old }
 {
     let n = listed.len();
-    let mut k: usize = 0;
-    while k < n {
+    for k in 0..n {
         let from = listed_at(order, n, k);
         let value = listed[from];
-        put_sample(room, k, value);
-        k += 1;
+        words::put(room, k, value);
     }
 }
 
 // The samples of a block or heard line that has `count` of them, which are left out where they are more than 64.
 pub fn place_samples(heard: bool, line: &[u8], count: usize, order: Order, room: &mut [i16])
-    requires { block_line heard (fields line.now) ≡ Count count }
+    requires { block_line heard (fields line.now) ≡ Ok count }
     ensures { room.new ≡ placed order (listed_in heard (fields line.now)) room.old }
 {
     if 64 < count {
         return;
     }
     let mut listed = [0i16; 64];
-    read_block_line(heard, line, &mut listed);
+    let _ = read_block_line(heard, line, &mut listed);
     let values = &listed[..];
     place_listed(&values[..count], order, room);
 }

@@ -7,14 +7,12 @@ pub fn until(text: &[u8], at: usize, stop: u8) -> usize
     requires { at ≤ length text.now }
     ensures { Until stop text.now at result }
 {
-    let mut i = at;
-    while i < text.len() {
+    for i in at..text.len() {
         if text[i] == stop {
             return i;
         }
-        i += 1;
     }
-    i
+    text.len()
 }
 
 // Whether a byte lies between two others, both included.

@@ -13,29 +13,29 @@ returns-in_default c =
 
 pub overflow_sub-end : goal.overflow_sub-end
 overflow_sub-end c =
-    let p = c.block_at-reply.ensures.place _ _ c.in-Read.is in
+    let p = c.block_at-reply.ensures.place _ _ c.in-Some.is in
     omega arith
 
 pub slice_bounds-place_samples-count : goal.slice_bounds-place_samples-count
 slice_bounds-place_samples-count c =
-    let p = c.block_at-reply.ensures.place _ _ c.in-Read.is in
+    let p = c.block_at-reply.ensures.place _ _ c.in-Some.is in
     omega arith
 
 pub place_samples-requires : goal.place_samples-requires
 place_samples-requires c =
     let a = c.args in
     let b = c.block_at-reply.ensures in
-    let p = b.place c.in-Read.samples c.in-Read.next c.in-Read.is in
-    counted-there a.heard a.input.now a.at (c.in-Read.next - 1) (omega arith) p.until (λ q. omega arith) c.in-Read.samples c.in-Read.next (sym c.in-Read.is ∙ b.reply)
+    let p = b.place c.in-Some.field-0.samples c.in-Some.field-0.next c.in-Some.is in
+    counted-there a.heard a.input.now a.at (c.in-Some.field-0.next - 1) (omega arith) p.until (λ q. omega arith) c.in-Some.field-0.samples c.in-Some.field-0.next (sym c.in-Some.is ∙ b.reply)
 
 pub returns : goal.returns
 returns c =
     let a = c.args in
     let s = a.input.now in
-    let k = c.in-Read.samples in
-    let next = c.in-Read.next in
-    let p = c.block_at-reply.ensures.place k next c.in-Read.is in
-    let e = sym c.in-Read.is ∙ c.block_at-reply.ensures.reply in
+    let k = c.in-Some.field-0.samples in
+    let next = c.in-Some.field-0.next in
+    let p = c.block_at-reply.ensures.place k next c.in-Some.is in
+    let e = sym c.in-Some.is ∙ c.block_at-reply.ensures.reply in
     record {
       reply = e;
       samples = placed-there a.heard s a.at (next - 1) (omega arith) p.until (λ q. omega arith) k next e a.order a.room.now _ c.place_samples.ensures;

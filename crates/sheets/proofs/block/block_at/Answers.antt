@@ -23,4 +23,4 @@ pub returns : goal.returns
 returns c =
     let a = c.args in
     let u = c.until-end in
-    block-there a.heard a.input.now a.at u.result (omega arith) u.ensures c.if-end-input.false c.in-Count.samples (sym c.read_block_line-found.ensures.is ∙ c.in-Count.is)
+    block-there a.heard a.input.now a.at u.result (omega arith) u.ensures c.if-end-input.false c.in-Ok.samples (sym c.read_block_line-found.ensures.is ∙ c.in-Ok.is)

@@ -19,4 +19,4 @@ pub returns : goal.returns
 returns c =
     let a = c.args in
     let u = c.until-b in
-    heard-on a.line.now a.a (omega arith) c.if-a-line.false u.result u.ensures c.in-Is.field-0 (sym c.read_counter_field-counter.ensures.value ∙ c.in-Is.is) a.room.now c.read_samples.result _ c.read_samples.ensures
+    heard-on a.line.now a.a (omega arith) c.if-a-line.false u.result u.ensures c.in-Some.field-0 (sym c.read_counter_field-counter.ensures.value ∙ c.in-Some.is) a.room.now c.read_samples.result _ c.read_samples.ensures

@@ -17,9 +17,9 @@ returns-in_default c =
 pub loop-at-preserved : goal.loop-at-preserved
 loop-at-preserved c =
     let u = c.until-end in
-    let v = c.in-Is.value in
-    let g = sym c.read_sample-sample.ensures ∙ c.in-Is.is in
-    rw (c.put_sample.ensures, to_z-of_z {w = w16} {z = v} (record { sfits = c.in-Is.known_told-1-own.given.0.1 }))
+    let v = c.in-Some.value in
+    let g = sym c.read_sample-sample.ensures ∙ c.in-Some.is in
+    rw (c.put.ensures, to_z-of_z {w = w16} {z = v} (record { sfits = c.in-Some.known_told-1-own.given.0.1 }))
     (sample-on c.loop-at.invariant u.result (omega arith) u.ensures v g)
 
 pub returns : goal.returns

@@ -12,11 +12,11 @@ returns-in_default c = block-stop _ c.loop-at.invariant c.block_at-reply.result 
 
 pub loop-at-smaller : goal.loop-at-smaller
 loop-at-smaller c =
-    let p = c.block_at-reply.ensures.place _ _ c.in-Read.is in
+    let p = c.block_at-reply.ensures.place _ _ c.in-Some.is in
     omega arith
 
 pub loop-at-preserved : goal.loop-at-preserved
-loop-at-preserved c = block_on _ c.loop-at.invariant c.block_at-reply.result c.block_at-reply.ensures _ _ c.in-Read.is
+loop-at-preserved c = block_on _ c.loop-at.invariant c.block_at-reply.result c.block_at-reply.ensures _ _ c.in-Some.is
 
 pub returns : goal.returns
 returns c = block_last _ c.loop-at.invariant c.loop-at-test.false

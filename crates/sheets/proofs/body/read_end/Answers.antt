@@ -7,20 +7,20 @@ pub after_end-requires : goal.after_end-requires
 after_end-requires c =
     let a = c.args in
     let u = c.until-end in
-    (end-closed a.n a.order a.came a.input.now a.at u.result c.requires.at_in_bounds u.ensures (sym c.line_between-line.ensures ∙ c.in-End.is)).high
+    (end-closed a.n a.order a.came a.input.now a.at u.result c.requires.at_in_bounds u.ensures (sym (rw c.in-Ok-End.field-0-is at c.in-Ok-End.ensures))).high
 
-pub returns-in-End : goal.returns-in-End
-returns-in-End c =
+pub returns-in-Ok-End : goal.returns-in-Ok-End
+returns-in-Ok-End c =
     let a = c.args in
     let u = c.until-end in
     c.after_end.ensures
-    ∙ sym (end-then a.n a.order a.came a.input.now a.at u.result c.requires.at_in_bounds u.ensures (sym c.line_between-line.ensures ∙ c.in-End.is))
+    ∙ sym (end-then a.n a.order a.came a.input.now a.at u.result c.requires.at_in_bounds u.ensures (sym (rw c.in-Ok-End.field-0-is at c.in-Ok-End.ensures)))
 
-pub returns-in-Bad : goal.returns-in-Bad
-returns-in-Bad c = rw (sym c.line_between-line.ensures, c.in-Bad.is)
+pub returns-in-Err : goal.returns-in-Err
+returns-in-Err c = rw (← c.in-Err.ensures)
 
-pub returns-in-Row : goal.returns-in-Row
-returns-in-Row c = rw (sym c.line_between-line.ensures, c.in-Row.is)
+pub returns-in-Ok-Row : goal.returns-in-Ok-Row
+returns-in-Ok-Row c = rw (← (rw c.in-Ok-Row.field-0-is at c.in-Ok-Row.ensures))
 
-pub returns-in-Block : goal.returns-in-Block
-returns-in-Block c = rw (sym c.line_between-line.ensures, c.in-Block.is)
+pub returns-in-Ok-Block : goal.returns-in-Ok-Block
+returns-in-Ok-Block c = rw (← (rw c.in-Ok-Block.field-0-is at c.in-Ok-Block.ensures))

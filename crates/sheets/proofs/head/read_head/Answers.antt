@@ -1,5 +1,6 @@
 -- `head::read_head` meets its contract.
 use lib.Seq.{length-take-le}
+use mathlib.Core.Logic.{⊎_elim}
 use mathlib.Core.Path.{sym}
 use Rattle.sheets.proofs.Heads.{head-bad, head-is, head-none, head-open, head-over}
 use Rattle.sheets.proofs.head.read_head.Goals as goal
@@ -16,22 +17,19 @@ pub returns-then-n-eq0 : goal.returns-then-n-eq0
 returns-then-n-eq0 c =
     let l = c.read_cover-line in
     let u = c.until-end in
-    head-none c.args.input.now u.result u.ensures c.if-end-input.false l.result (sym l.ensures) c.in-Is.cover c.in-Is.is c.if-n-eq0.true
+    ⊎_elim
+    (λ z. head-none c.args.input.now u.result u.ensures c.if-end-input.false l.result (sym l.ensures) c.in-Ok.cover c.in-Ok.is z)
+    (λ w. head-over c.args.input.now u.result u.ensures c.if-end-input.false l.result (sym l.ensures) c.in-Ok.cover c.in-Ok.is w.0 w.1)
+    c.then-n-eq0.either
 
-pub returns-then-n-gt64 : goal.returns-then-n-gt64
-returns-then-n-gt64 c =
+pub returns-in-Err : goal.returns-in-Err
+returns-in-Err c =
     let l = c.read_cover-line in
     let u = c.until-end in
-    head-over c.args.input.now u.result u.ensures c.if-end-input.false l.result (sym l.ensures) c.in-Is.cover c.in-Is.is c.if-n-eq0.false c.if-n-gt64.true
+    head-bad c.args.input.now u.result u.ensures c.if-end-input.false l.result (sym l.ensures) c.in-Err.fault c.in-Err.is c.refusal_of.result c.refusal_of.ensures
 
-pub returns-in-Bad : goal.returns-in-Bad
-returns-in-Bad c =
+pub returns : goal.returns
+returns c =
     let l = c.read_cover-line in
     let u = c.until-end in
-    head-bad c.args.input.now u.result u.ensures c.if-end-input.false l.result (sym l.ensures) c.in-Bad.fault c.in-Bad.is c.refusal_of.result c.refusal_of.ensures
-
-pub returns-else-n-gt64 : goal.returns-else-n-gt64
-returns-else-n-gt64 c =
-    let l = c.read_cover-line in
-    let u = c.until-end in
-    head-is c.args.input.now u.result u.ensures c.if-end-input.false l.result (sym l.ensures) c.in-Is.cover c.in-Is.is c.if-n-eq0.false c.if-n-gt64.false
+    head-is c.args.input.now u.result u.ensures c.if-end-input.false l.result (sym l.ensures) c.in-Ok.cover c.in-Ok.is c.if-n-eq0.false c.if-n-gt64.false

@@ -16,9 +16,6 @@ returns-in-Cover c = rw c.in-Cover.is
 pub returns-in-Mask : goal.returns-in-Mask
 returns-in-Mask c = rw c.in-Mask.is
 
-pub returns-else-late_row : goal.returns-else-late_row
-returns-else-late_row c = rw (c.in-Row.is, ← c.late_row.ensures, c.if-late_row.false) c.row_rest.ensures
-
 pub returns-else-late_block : goal.returns-else-late_block
 returns-else-late_block c = rw (c.in-Block.is, ← c.late_block.ensures, c.if-late_block.false) c.block_rest.ensures
 

@@ -28,4 +28,4 @@ returns c =
       after_more tab a.line.now a.a (omega arith) c.if-a-line.false u.result u.ensures,
       after_last tab a.line.now u.result u.ensures.high c.if-b-line.false,
     )
-    (c.row_is.ensures ∙ ap row_is c.read_row.ensures)
+    (c.ok_or.ensures.value ∙ ap row_is c.read_row.ensures)

@@ -14,7 +14,7 @@ loop-k-init c = placing-start _ _
 pub loop-k-preserved : goal.loop-k-preserved
 loop-k-preserved c =
     let a = c.args in
-    rw (c.put_sample.ensures, to_z-of_z {w = w16} (record { sfits = c.value-1.given }))
+    rw (c.put.ensures, to_z-of_z {w = w16} (record { sfits = c.value-1.given }))
     (placing-on c.loop-k.invariant _ (rw (in-order-length a.order a.listed.now) (omega arith))
     (rw c.listed_at-from.ensures.value (sym (in-order-entry a.order a.listed.now c.loop-k.k (pos 0) (omega arith)))))
 

@@ -1,7 +1,7 @@
 -- `row::read_row` meets its contract.
+use Rattle.std.proofs.Common.{Some}
 use borrow.Author.Tests.{eq-eqb, ne_eqb}
 use mathlib.Core.Path.{◌∙◌, ap, sym}
-use Rattle.sheets.specs.declared.row.Row.TheVariants.{Is}
 use Rattle.sheets.proofs.row.read_row.Goals as goal
 
 pub returns-then-f-n : goal.returns-then-f-n
@@ -12,4 +12,4 @@ returns-then-not-bits_only c = rw (eq-eqb _ _ c.if-f-n.false, sym c.bits_only.en
 
 pub returns : goal.returns
 returns c =
-    rw (eq-eqb _ _ c.if-f-n.false, sym c.bits_only.ensures ∙ c.if-not-bits_only.false) (ap Is c.word_of.ensures)
+    rw (eq-eqb _ _ c.if-f-n.false, sym c.bits_only.ensures ∙ c.if-not-bits_only.false) (ap Some c.word_of.ensures)

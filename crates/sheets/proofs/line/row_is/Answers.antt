@@ -1,8 +1,0 @@
--- `line::row_is` meets its contract.
-use Rattle.sheets.proofs.line.row_is.Goals as goal
-
-pub returns-in-Is : goal.returns-in-Is
-returns-in-Is c = rw c.in-Is.is
-
-pub returns-in-Bad : goal.returns-in-Bad
-returns-in-Bad c = rw c.in-Bad.is
