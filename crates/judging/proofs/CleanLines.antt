@@ -1,4 +1,5 @@
 -- Lines none of which is faulty or repeats another: their branches are in range, in order of depth, and apart.
+use Rattle.std.proofs.Common.{Option, Some, None}
 use borrow.Author.Tests.{eq-eqb, ltb-false, ltb-true}
 use lib.Dec.{ltb}
 use lib.ListN.{get_or, length}
@@ -9,10 +10,6 @@ use native.Mathlib.Decide.{dec_lt}
 use native.Mathlib.Omega.{arith}
 use Prim.Native.Nat.{◌%◌, ◌*◌, ◌/◌, ◌<◌, suc, zero, ℕ, ◌≤◌}
 use Rattle.sheets.specs.declared.listed.Branch.{Branch}
-use Rattle.sheets.specs.declared.listed.BranchLine.{BranchLine}
-use Rattle.sheets.specs.declared.listed.BranchLine.TheVariants.{Bad, Is}
-use Rattle.sheets.specs.declared.number.Number.{Number}
-use Rattle.sheets.specs.declared.number.Number.TheVariants as N
 use Rattle.sheets.specs.Listed.{branch, branch_fields, branch_in, branch_is, branch_of, branch_rest, entries_of, unended}
 use Rattle.sheets.specs.Numbers.{number_of}
 use Rattle.sheets.specs.Text.{fields}
@@ -29,19 +26,19 @@ module _ (n : ℕ) where
   in-ranged b = go (ltb b.depth n) (ltb b.from 1024) (ltb b.bit 2) (ltb b.to 1024) refl refl refl refl
     where
       go : (p q r s : Bool) → ltb b.depth n ≡ p → ltb b.from 1024 ≡ q → ltb b.bit 2 ≡ r → ltb b.to 1024 ≡ s
-          → RangedLine n (cond p (cond q (cond r (cond s (Is b) Bad) Bad) Bad) Bad)
+          → RangedLine n (cond p (cond q (cond r (cond s (Some b) None) None) None) None)
       go true true true true e f g h = record { depth_small = ltb-true _ _ e; from_small = ltb-true _ _ f; bit_small = ltb-true _ _ g; to_small = ltb-true _ _ h }
       go true true true false e f g h = tt
       go true true false s e f g h = tt
       go true false r s e f g h = tt
       go false q r s e f g h = tt
 
-  is-ranged : (d f b t : Number) → RangedLine n (branch_is n d f b t)
-  is-ranged N.Bad f b t = tt
-  is-ranged (N.Is d) N.Bad b t = tt
-  is-ranged (N.Is d) (N.Is f) N.Bad t = tt
-  is-ranged (N.Is d) (N.Is f) (N.Is b) N.Bad = tt
-  is-ranged (N.Is d) (N.Is f) (N.Is b) (N.Is t) = in-ranged (record { depth = d; from = f; bit = b; to = t })
+  is-ranged : (d f b t : Option ℕ) → RangedLine n (branch_is n d f b t)
+  is-ranged None f b t = tt
+  is-ranged (Some d) None b t = tt
+  is-ranged (Some d) (Some f) None t = tt
+  is-ranged (Some d) (Some f) (Some b) None = tt
+  is-ranged (Some d) (Some f) (Some b) (Some t) = in-ranged (record { depth = d; from = f; bit = b; to = t })
 
   fields-ranged : (f g h k : List ℕ) → RangedLine n (branch_fields n f g h k)
   unfolding branch_fields
@@ -59,16 +56,16 @@ module _ (n : ℕ) where
   line-ranged [] = tt
   line-ranged (w ∷ fs) = go (same w branch)
     where
-      go : (b : Bool) → RangedLine n (cond b (branch_rest n fs) Bad)
+      go : (b : Bool) → RangedLine n (cond b (branch_rest n fs) None)
       go true = rest-ranged fs
       go false = tt
 
-  last-ranged : (l : List ℕ) (i : ℕ) → RangedLine n (get_or (unended l) i Bad)
+  last-ranged : (l : List ℕ) (i : ℕ) → RangedLine n (get_or (unended l) i None)
   last-ranged [] i = tt
   last-ranged (x ∷ xs) zero = tt
   last-ranged (x ∷ xs) (suc i) = tt
 
-  pub entry-ranged : (ls : List (List ℕ)) (i : ℕ) → RangedLine n (get_or (entries_of n ls) i Bad)
+  pub entry-ranged : (ls : List (List ℕ)) (i : ℕ) → RangedLine n (get_or (entries_of n ls) i None)
   entry-ranged [] i = tt
   entry-ranged (l ∷ []) i = last-ranged l i
   entry-ranged (l ∷ m ∷ ls) zero = line-ranged (fields l)
@@ -76,13 +73,13 @@ module _ (n : ℕ) where
 
 -- ---- clean lines
 
-module _ {n : ℕ} {es : List BranchLine} (c : Clean n es) where
+module _ {n : ℕ} {es : List (Option Branch)} (c : Clean n es) where
   pub branch-ranged : (i : ℕ) → i < length es → Ranged n (branch_at es i)
-  branch-ranged i l = go (get_or es i Bad) (c.ranged i) (c.faultless i l)
+  branch-ranged i l = go (get_or es i None) (c.ranged i) (c.faultless i l)
     where
-      go : (e : BranchLine) → RangedLine n e → faulty e (depth_before es i) ≡ false → Ranged n (L.branch_in e)
-      go (Is b) r f = r
-      go Bad r f = absurd (false≢true (sym f))
+      go : (e : Option Branch) → RangedLine n e → faulty e (depth_before es i) ≡ false → Ranged n (L.branch_in e)
+      go (Some b) r f = r
+      go None r f = absurd (false≢true (sym f))
 
   pub all-in-range : AllInRange es
   all-in-range i l =
@@ -90,11 +87,11 @@ module _ {n : ℕ} {es : List BranchLine} (c : Clean n es) where
       record { start = record { depth_small = omega (arith, r.depth_small, c.short); state_small = r.from_small; bit_small = r.bit_small }; to_small = r.to_small }
 
   next-depth : (i : ℕ) → suc i < length es → (branch_at es i).depth ≤ (branch_at es (suc i)).depth
-  next-depth i l = go (get_or es (suc i) Bad) (c.faultless (suc i) l)
+  next-depth i l = go (get_or es (suc i) None) (c.faultless (suc i) l)
     where
-      go : (e : BranchLine) → faulty e (branch_at es i).depth ≡ false → (branch_at es i).depth ≤ (L.branch_in e).depth
-      go (Is b) f = ltb-false _ _ f
-      go Bad f = absurd (false≢true (sym f))
+      go : (e : Option Branch) → faulty e (branch_at es i).depth ≡ false → (branch_at es i).depth ≤ (L.branch_in e).depth
+      go (Some b) f = ltb-false _ _ f
+      go None f = absurd (false≢true (sym f))
 
   pub depths-rise : (i j : ℕ) → i < j → j < length es → (branch_at es i).depth ≤ (branch_at es j).depth
   depths-rise i zero l m = absurd (omega arith)
@@ -105,7 +102,7 @@ module _ {n : ℕ} {es : List BranchLine} (c : Clean n es) where
       go (no d) h = let e : j ≡ i = omega (arith, d, l) in subst (λ (k : ℕ). (branch_at es k).depth ≤ (branch_at es (suc j)).depth) e (next-depth j m)
 
 -- none of the first lines clashes
-none-clashes : (es : List BranchLine) (j : ℕ) (b : Branch) → clashes es j b ≡ false → (i : ℕ) → i < j → i < length es → clash (branch_at es i) b ≡ false
+none-clashes : (es : List (Option Branch)) (j : ℕ) (b : Branch) → clashes es j b ≡ false → (i : ℕ) → i < j → i < length es → clash (branch_at es i) b ≡ false
 none-clashes [] j b e i l m = absurd (omega arith)
 none-clashes (x ∷ es) zero b e i l m = absurd (omega arith)
 none-clashes (x ∷ es) (suc j) b e zero l m = go (clash (L.branch_in x) b) refl e
@@ -122,11 +119,11 @@ none-clashes (x ∷ es) (suc j) b e (suc i) l m = none-clashes es j b (go (clash
 -- ---- in the room
 
 -- the branches of the lines in turn
-pub listed-is : (xs : List BranchLine) (F : ℕ → Branch) → ((i : ℕ) → i < length xs → F i ≡ branch_at xs i) → listed (length xs) F ≡ branches_of xs
+pub listed-is : (xs : List (Option Branch)) (F : ℕ → Branch) → ((i : ℕ) → i < length xs → F i ≡ branch_at xs i) → listed (length xs) F ≡ branches_of xs
 listed-is [] F h = refl
 listed-is (x ∷ xs) F h = ap₂ ◌∷◌ (h 0 (omega arith)) (listed-is xs (λ i. F (suc i)) (λ i l. h (suc i) (omega arith)))
 
-module _ {n : ℕ} {es : List BranchLine} (c : Clean n es) (room : List ℕ) (size : length room ≡ 4 * length es) (s : Stored es (length es) room) where
+module _ {n : ℕ} {es : List (Option Branch)} (c : Clean n es) (room : List ℕ) (size : length room ≡ 4 * length es) (s : Stored es (length es) room) where
   pub clean-holds : Holds n (length es) room
   clean-holds = record {
     size = size;

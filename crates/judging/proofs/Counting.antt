@@ -5,7 +5,6 @@ use mathlib.Core.List.{[], ◌∷◌}
 use mathlib.Core.Path.{ap, refl, sym, ◌∙◌, ◌≡◌}
 use native.Mathlib.Omega.{arith}
 use Prim.Native.Nat.{◌+◌, ◌-◌, ◌<◌, suc, zero, ℕ, ◌≤◌}
-use Rattle.trellises.proofs.SectionFits.{count-at-most}
 use Rattle.words.specs.Choice.{count, more}
 use Rattle.judging.specs.Surplus.{Number}
 
@@ -21,15 +20,6 @@ count_same (suc k) P Q h =
 pub record Tallied (m : ℕ) (P : ℕ → Bool) (j c : ℕ) : Type 0 where
   pub within : j ≤ m
   pub is : c ≡ count (m - j) (λ i. P (j + i))
-
-pub tallied-start : (m : ℕ) (P : ℕ → Bool) → Tallied m P m 0
-tallied-start m P = record { within = omega arith; is = sym (ap (λ (k : ℕ). count k (λ i. P (m + i))) z) }
-  where
-    z : m - m ≡ 0
-    z = omega arith
-
-pub tallied-small : {m : ℕ} {P : ℕ → Bool} {j c : ℕ} → Tallied m P j c → c ≤ m
-tallied-small {m} {P} {j} {c} t = omega (arith, t.is, count-at-most (m - j) (λ i. P (j + i)))
 
 pub tallied-on : (m : ℕ) (P : ℕ → Bool) (j c : ℕ) → 0 < j → Tallied m P j c → (c' : ℕ) → c' ≡ more (P (j - 1)) c → Tallied m P (j - 1) c'
 tallied-on m P j c l t c' e = record { within = omega (arith, t.within); is = e ∙ ap (more (P (j - 1))) t.is ∙ step }

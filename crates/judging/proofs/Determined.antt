@@ -1,4 +1,6 @@
 -- Determined: two replies that meet the promise of `judge` are equal, and so is what stands in the lent room.
+use Rattle.std.proofs.Common.{Err, Ok, Option, Result}
+use Rattle.sheets.specs.declared.listed.Branch.{Branch}
 use lib.ListN.{get_or}
 use lib.Seq.{ext_get_or}
 use mathlib.Core.Bool.{Bool, false≢true}
@@ -14,7 +16,6 @@ use Rattle.plates.specs.declared.Plate.{Plate}
 use Rattle.plates.specs.declared.Refusal.{Refusal}
 use Rattle.plates.specs.declared.Refusal.TheVariants.{BranchFault, BranchTwice}
 use Rattle.plates.specs.Prepare.{IsWord, rows_of}
-use Rattle.sheets.specs.declared.listed.BranchLine.{BranchLine}
 use Rattle.sheets.specs.declared.listed.Entry.{Entry}
 use Rattle.sheets.specs.Listed.{entries, entry_at}
 use Rattle.trellises.specs.Graph.{Graph, Path, Spells}
@@ -22,7 +23,7 @@ use Rattle.words.proofs.Word.{bit-cases}
 use Rattle.words.specs.Word.{Earlier, bit}
 use Rattle.judging.proofs.NoFewer.{fits}
 use Rattle.judging.specs.declared.Judged.{Judged}
-use Rattle.judging.specs.declared.Judged.TheVariants.{NotSpelled, Refused, Right, SpelledWrongly}
+use Rattle.judging.specs.declared.Judged.TheVariants.{NotSpelled, Right, SpelledWrongly}
 use Rattle.judging.specs.declared.Judgement.{Judgement}
 use Rattle.judging.specs.Judging.{FirstLine, Judges, JudgesBy, Missing, Wrongly, graph_against, judging_conditions}
 use Rattle.judging.specs.Listing.{faulty_at, repeats_at}
@@ -84,7 +85,7 @@ module _ (g : Graph) (n : ℕ) (rows : List ℕ) {s s' b b' : List ℕ} where
 
 -- ---- verdicts
 
-first-once : (es : List BranchLine) (test : ℕ → Bool) (i j : ℕ) → FirstLine es test i → FirstLine es test j → i ≡ j
+first-once : (es : List (Option Branch)) (test : ℕ → Bool) (i j : ℕ) → FirstLine es test i → FirstLine es test j → i ≡ j
 first-once es test i j x y = go (dec_lt i j) (dec_lt j i)
   where
     go : Dec (i < j) → Dec (j < i) → i ≡ j
@@ -124,7 +125,7 @@ module _ (g : Graph) (n : ℕ) (C : ℕ → Type 0) where
   pub right-not-missing : (w : ℕ) → Spells g n C → Missing g n C w → ⊥
   right-not-missing w s x = x.not_spelled ((s.exact w).0 x.word).1
 
-module _ (plate : Plate) (es : List BranchLine) (room : List ℕ) where
+module _ (plate : Plate) (es : List (Option Branch)) (room : List ℕ) where
   single : Single (judging_conditions plate es room)
   single = (
     (λ p q x y. x.1 ∙ sym y.1),
@@ -149,37 +150,37 @@ module _ (plate : Plate) (es : List BranchLine) (room : List ℕ) where
   abbrev C : ℕ → Type 0
   C = IsWord plate
 
-  verdict-once : {room' room'' : List ℕ} (v w : Judged) → JudgesBy plate es room room' v → JudgesBy plate es room room'' w → (v ≡ w) × (room' ≡ room'')
-  verdict-once (Refused p) (Refused q) x y = (ap Refused (refuses-once conditions single p q x.0 y.0), x.1 ∙ sym y.1)
-  verdict-once (Refused p) Right x y = absurd (never_both conditions y.0 p x.0)
-  verdict-once (Refused p) (SpelledWrongly w) x y = absurd (never_both conditions y.0 p x.0)
-  verdict-once (Refused p) (NotSpelled w) x y = absurd (never_both conditions y.0 p x.0)
-  verdict-once Right (Refused q) x y = absurd (never_both conditions x.0 q y.0)
-  verdict-once Right Right x y = (refl, x.2 ∙ sym y.2)
-  verdict-once Right (SpelledWrongly w) x y = absurd (right-not-wrongly g plate.n C w x.1 y.1)
-  verdict-once Right (NotSpelled w) x y = absurd (right-not-missing g plate.n C w x.1 y.1)
-  verdict-once (SpelledWrongly v) (Refused q) x y = absurd (never_both conditions x.0 q y.0)
-  verdict-once (SpelledWrongly v) Right x y = absurd (right-not-wrongly g plate.n C v y.1 x.1)
-  verdict-once (SpelledWrongly v) (SpelledWrongly w) x y = (ap SpelledWrongly (wrongly-once g plate.n C v w x.1 y.1), x.2 ∙ sym y.2)
-  verdict-once (SpelledWrongly v) (NotSpelled w) x y = absurd (not-both g plate.n C v w x.1 y.1)
-  verdict-once (NotSpelled v) (Refused q) x y = absurd (never_both conditions x.0 q y.0)
-  verdict-once (NotSpelled v) Right x y = absurd (right-not-missing g plate.n C v y.1 x.1)
-  verdict-once (NotSpelled v) (SpelledWrongly w) x y = absurd (not-both g plate.n C w v y.1 x.1)
-  verdict-once (NotSpelled v) (NotSpelled w) x y = (ap NotSpelled (missing-once g plate.n C v w x.1 y.1), x.2 ∙ sym y.2)
+  verdict-once : {room' room'' : List ℕ} (v w : Result Judged Refusal) → JudgesBy plate es room room' v → JudgesBy plate es room room'' w → (v ≡ w) × (room' ≡ room'')
+  verdict-once (Err p) (Err q) x y = (ap Err (refuses-once conditions single p q x.0 y.0), x.1 ∙ sym y.1)
+  verdict-once (Err p) (Ok Right) x y = absurd (never_both conditions y.0 p x.0)
+  verdict-once (Err p) (Ok (SpelledWrongly w)) x y = absurd (never_both conditions y.0 p x.0)
+  verdict-once (Err p) (Ok (NotSpelled w)) x y = absurd (never_both conditions y.0 p x.0)
+  verdict-once (Ok Right) (Err q) x y = absurd (never_both conditions x.0 q y.0)
+  verdict-once (Ok Right) (Ok Right) x y = (refl, x.2 ∙ sym y.2)
+  verdict-once (Ok Right) (Ok (SpelledWrongly w)) x y = absurd (right-not-wrongly g plate.n C w x.1 y.1)
+  verdict-once (Ok Right) (Ok (NotSpelled w)) x y = absurd (right-not-missing g plate.n C w x.1 y.1)
+  verdict-once (Ok (SpelledWrongly v)) (Err q) x y = absurd (never_both conditions x.0 q y.0)
+  verdict-once (Ok (SpelledWrongly v)) (Ok Right) x y = absurd (right-not-wrongly g plate.n C v y.1 x.1)
+  verdict-once (Ok (SpelledWrongly v)) (Ok (SpelledWrongly w)) x y = (ap (λ (u : ℕ). Ok (SpelledWrongly u)) (wrongly-once g plate.n C v w x.1 y.1), x.2 ∙ sym y.2)
+  verdict-once (Ok (SpelledWrongly v)) (Ok (NotSpelled w)) x y = absurd (not-both g plate.n C v w x.1 y.1)
+  verdict-once (Ok (NotSpelled v)) (Err q) x y = absurd (never_both conditions x.0 q y.0)
+  verdict-once (Ok (NotSpelled v)) (Ok Right) x y = absurd (right-not-missing g plate.n C v y.1 x.1)
+  verdict-once (Ok (NotSpelled v)) (Ok (SpelledWrongly w)) x y = absurd (not-both g plate.n C w v y.1 x.1)
+  verdict-once (Ok (NotSpelled v)) (Ok (NotSpelled w)) x y = (ap (λ (u : ℕ). Ok (NotSpelled u)) (missing-once g plate.n C v w x.1 y.1), x.2 ∙ sym y.2)
 
-  surplus-same : (v : Judged) {s s' b b' : List ℕ} → SurplusIn g plate.n (rows_of plate) v s b → SurplusIn g plate.n (rows_of plate) v s' b' → (s ≡ s') × (b ≡ b')
-  surplus-same Right x y = surplus-once g plate.n (rows_of plate) x y
-  surplus-same (SpelledWrongly w) x y = (x.0 ∙ sym y.0, x.1 ∙ sym y.1)
-  surplus-same (NotSpelled w) x y = (x.0 ∙ sym y.0, x.1 ∙ sym y.1)
-  surplus-same (Refused q) x y = (x.0 ∙ sym y.0, x.1 ∙ sym y.1)
+  surplus-same : (v : Result Judged Refusal) {s s' b b' : List ℕ} → SurplusIn g plate.n (rows_of plate) v s b → SurplusIn g plate.n (rows_of plate) v s' b' → (s ≡ s') × (b ≡ b')
+  surplus-same (Ok Right) x y = surplus-once g plate.n (rows_of plate) x y
+  surplus-same (Ok (SpelledWrongly w)) x y = (x.0 ∙ sym y.0, x.1 ∙ sym y.1)
+  surplus-same (Ok (NotSpelled w)) x y = (x.0 ∙ sym y.0, x.1 ∙ sym y.1)
+  surplus-same (Err q) x y = (x.0 ∙ sym y.0, x.1 ∙ sym y.1)
 
 pub judge-determined : (plate : Plate) (text room room' room'' : List ℕ) (r s : Judgement) → Judges plate text room room' r → Judges plate text room room'' s
     → (r ≡ s) × (room' ≡ room'')
 judge-determined plate text room room' room'' r s x y =
     let v = verdict-once plate (entries plate.n text) room r.verdict s.verdict x.reply y.reply in
     let z = surplus-same plate (entries plate.n text) room s.verdict
-    (subst (λ (w : Judged). SurplusIn (graph_against plate (entries plate.n text)) plate.n (rows_of plate) w r.states r.branches) v.0 x.surplus) y.surplus in (
-      ap (λ (w : Judged). record { verdict = w; states = r.states; branches = r.branches }) v.0
+    (subst (λ (w : Result Judged Refusal). SurplusIn (graph_against plate (entries plate.n text)) plate.n (rows_of plate) w r.states r.branches) v.0 x.surplus) y.surplus in (
+      ap (λ (w : Result Judged Refusal). record { verdict = w; states = r.states; branches = r.branches }) v.0
           ∙ ap (λ (l : List ℕ). record { verdict = s.verdict; states = l; branches = r.branches }) z.0
           ∙ ap (λ (l : List ℕ). record { verdict = s.verdict; states = s.states; branches = l }) z.1,
       v.1,
@@ -192,24 +193,24 @@ read-entry-determined n text at r s p q = p ∙ sym q
 -- ---- right exactly if the full paths spell exactly the plate's words
 
 -- a verdict that is not right
-abbrev NotRight : Judged → Type 0
-NotRight Right = ⊥
-NotRight (SpelledWrongly w) = Unit {0}
-NotRight (NotSpelled w) = Unit {0}
-NotRight (Refused q) = Unit {0}
+abbrev NotRight : Result Judged Refusal → Type 0
+NotRight (Ok Right) = ⊥
+NotRight (Ok (SpelledWrongly w)) = Unit {0}
+NotRight (Ok (NotSpelled w)) = Unit {0}
+NotRight (Err q) = Unit {0}
 
-not_right : (v : Judged) → NotRight v → v ≡ Right → ⊥
+not_right : (v : Result Judged Refusal) → NotRight v → v ≡ Ok Right → ⊥
 not_right v n e = subst NotRight e n
 
-pub right-exactly : (plate : Plate) (text room room' : List ℕ) (r : Judgement) → Judges plate text room room' r → ((q : Refusal) → r.verdict ≡ Refused q → ⊥)
-    → (r.verdict ≡ Right) ↔ Spells (graph_against plate (entries plate.n text)) plate.n (IsWord plate)
+pub right-exactly : (plate : Plate) (text room room' : List ℕ) (r : Judgement) → Judges plate text room room' r → ((q : Refusal) → r.verdict ≡ Err q → ⊥)
+    → (r.verdict ≡ Ok Right) ↔ Spells (graph_against plate (entries plate.n text)) plate.n (IsWord plate)
 right-exactly plate text room room' r x d = go r.verdict x.reply d
   where
-    go : (v : Judged) → JudgesBy plate (entries plate.n text) room room' v → ((q : Refusal) → v ≡ Refused q → ⊥)
-        → (v ≡ Right) ↔ Spells (graph_against plate (entries plate.n text)) plate.n (IsWord plate)
-    go Right y d = ((λ e. y.1), λ s. refl)
-    go (SpelledWrongly w) y d =
-        ((λ e. absurd (not_right (SpelledWrongly w) tt e)), λ s. absurd (right-not-wrongly (graph_against plate (entries plate.n text)) plate.n (IsWord plate) w s y.1))
-    go (NotSpelled w) y d =
-        ((λ e. absurd (not_right (NotSpelled w) tt e)), λ s. absurd (right-not-missing (graph_against plate (entries plate.n text)) plate.n (IsWord plate) w s y.1))
-    go (Refused q) y d = absurd (d q refl)
+    go : (v : Result Judged Refusal) → JudgesBy plate (entries plate.n text) room room' v → ((q : Refusal) → v ≡ Err q → ⊥)
+        → (v ≡ Ok Right) ↔ Spells (graph_against plate (entries plate.n text)) plate.n (IsWord plate)
+    go (Ok Right) y d = ((λ e. y.1), λ s. refl)
+    go (Ok (SpelledWrongly w)) y d =
+        ((λ e. absurd (not_right (Ok (SpelledWrongly w)) tt e)), λ s. absurd (right-not-wrongly (graph_against plate (entries plate.n text)) plate.n (IsWord plate) w s y.1))
+    go (Ok (NotSpelled w)) y d =
+        ((λ e. absurd (not_right (Ok (NotSpelled w)) tt e)), λ s. absurd (right-not-missing (graph_against plate (entries plate.n text)) plate.n (IsWord plate) w s y.1))
+    go (Err q) y d = absurd (d q refl)

@@ -10,7 +10,8 @@ use Rattle.trellises.proofs.Digits.{without-at-most}
 use Rattle.trellises.specs.Numbers.{bit_of, leads_to, without}
 use Rattle.trellises.specs.declared.Section.{Section}
 use Rattle.judging.specs.Ours.{Classed, Small, follows, suits}
-use Rattle.judging.specs.Working.{FirstFound}
+use Rattle.judging.specs.Working.{FirstAt, FirstFound}
+use Rattle.std.proofs.Common.{None}
 
 module _ (c : Section) where
   -- a branch leads to no greater number than its own
@@ -47,22 +48,22 @@ module _ (c : Section) where
 
   -- ---- the number whose branches lead where asked
 
-  module _ (x0 x1 : ℕ) (small : Small c) (a : ℕ) (first : FirstFound (2 ^ c.live) (λ a. suits c (suc a) x0 x1) a) where
+  module _ (x0 x1 : ℕ) (small : Small c) where
     few : 2 ^ c.live ≤ 4096
     few = omega (arith, pow_mono small.live)
 
     -- it is found
-    pub classed-found : a < 2 ^ c.live → Classed c x0 x1 (a + 1)
-    classed-found l = record {
-      found = λ z k e. let q : a ≡ z = omega arith in subst (λ (m : ℕ). suits c (suc m) x0 x1 ≡ true) q (first.here l);
-      finds = λ z k e. (a, l, add-one a);
+    pub classed-found : (a : ℕ) → FirstAt (2 ^ c.live) (λ a. suits c (suc a) x0 x1) a → Classed c x0 x1 (a + 1)
+    classed-found a first = record {
+      found = λ z k e. let q : a ≡ z = omega arith in subst (λ (m : ℕ). suits c (suc m) x0 x1 ≡ true) q first.here;
+      finds = λ z k e. (a, first.there, add-one a);
       none = λ e. absurd (omega (arith, e));
       dead = λ p q. omega arith;
     }
 
-    module _ (l : 2 ^ c.live ≤ a) where
+    module _ (none : FirstFound (2 ^ c.live) (λ a. suits c (suc a) x0 x1) None) where
       never : (z : ℕ) → z < 2 ^ c.live → suits c (suc z) x0 x1 ≡ true → ⊥
-      never z k e = false≢true (sym (first.before z (omega arith)) ∙ e)
+      never z k e = false≢true (sym (none z k) ∙ e)
 
       -- no state has such branches
       pub classed-beyond : ((x0 ≡ 0) × (x1 ≡ 0) → ⊥) → Classed c x0 x1 8192
@@ -71,12 +72,4 @@ module _ (c : Section) where
         finds = λ z k e. absurd (never z k e);
         none = λ e. absurd (omega (arith, e));
         dead = λ p q. absurd (d (p, q));
-      }
-
-      pub classed-none : x0 ≡ 0 → x1 ≡ 0 → Classed c x0 x1 0
-      classed-none p q = record {
-        found = λ z k e. absurd (omega (arith, e));
-        finds = λ z k e. absurd (never z k e);
-        none = λ e. (p, q);
-        dead = λ u v. omega arith;
       }

@@ -1,4 +1,5 @@
 -- From the ways of the two starts to the full paths and the plate's words.
+use Rattle.std.proofs.Common.{Option}
 use borrow.Author.Tests.{eq-eqb, ne_eqb}
 use lib.ListN.{length}
 use mathlib.Core.Bool.{Bool, false, true}
@@ -13,7 +14,6 @@ use Rattle.plates.specs.Prepare.{IsWord, rows_of}
 use Rattle.plates.specs.Sound.{Sound}
 use Rattle.trellises.proofs.WordsTrellis.{words-spelled}
 use Rattle.sheets.specs.declared.listed.Branch.{Branch}
-use Rattle.sheets.specs.declared.listed.BranchLine.{BranchLine}
 use Rattle.trellises.specs.Graph.{Graph, Spells}
 use Rattle.trellises.specs.Graph as Graphs
 use Rattle.judging.proofs.CleanLines.{branch-ranged, listed-is}
@@ -27,7 +27,7 @@ use Rattle.judging.specs.Listing.{branch_at, branches_of, listed_graph}
 use Rattle.judging.specs.Ways.{Differs, Same, Way}
 
 -- the graph of clean lines has one state at each end
-pub listed-ends : {n : ℕ} {es : List BranchLine} → Clean n es → 1 ≤ n → Ended (listed_graph n (branches_of es)) n
+pub listed-ends : {n : ℕ} {es : List (Option Branch)} → Clean n es → 1 ≤ n → Ended (listed_graph n (branches_of es)) n
 listed-ends {n} {es} k p = subst (λ (bs : List Branch). Ended (listed_graph n bs) n) (listed-is es (branch_at es) (λ i l. refl)) (record {
   start = refl;
   end = rw (ne_eqb n 0 (λ e. omega (arith, e, p)), eq-eqb n n refl);

@@ -1,9 +1,11 @@
 -- The calls of the judgement: from a text of clean lines to what is found of its graph.
+use Rattle.std.proofs.Common.{Ok, Result}
 use lib.ListN.{length, replicate}
 use mathlib.Core.List.{List}
 use mathlib.Core.Path.{ap, subst, sym, ◌∙◌, ◌≡◌}
 use native.Mathlib.Omega.{arith}
 use Prim.Native.Nat.{◌%◌, ◌-◌, ◌/◌, ◌<◌, ℕ}
+use Rattle.plates.specs.declared.Refusal.{Refusal}
 use Rattle.sheets.specs.Listed.{entries}
 use Rattle.trellises.specs.Graph.{Graph}
 use Rattle.judging.proofs.CleanLines.{clean-graph, clean-holds}
@@ -93,17 +95,18 @@ module _ {rows : List ℕ} {mask n : ℕ} {text : List ℕ} {lines : ℕ} {room 
       }
       asks-for (J.SpelledWrongly w) h = tt
       asks-for (J.NotSpelled w) h = tt
-      asks-for (J.Refused q) h = tt
 
       pub surplus-for : SurplusFor v rows n room3 lines
       surplus-for = asks-for v f
 
-      pub judged-to : (r : Judgement) → (r.verdict ≡ v) × SurplusIn (theirs n lines room3) n rows v r.states r.branches → JudgedTo (listed_graph n (branches_of (entries n text))) rows mask n r
+      pub judged-to : (r : Judgement) → (r.verdict ≡ Ok v) × SurplusIn (theirs n lines room3) n rows (Ok v) r.states r.branches → JudgedTo (listed_graph n (branches_of (entries n text))) rows mask n r
       judged-to r e = record {
-        found = subst (Found (listed_graph n (branches_of (entries n text))) (ours rows mask) n) (sym e.0) (found_of v f);
+        judged = v;
+        is = e.0;
+        found = found_of v f;
         surplus =
-            subst (λ (v : Judged). SurplusIn (listed_graph n (branches_of (entries n text))) n rows v r.states r.branches) (sym e.0)
-            (subst (λ (g : Graph). SurplusIn g n rows v r.states r.branches) (graph3 ∙ theirs-same a.same n ∙ graph1) e.1);
+            subst (λ (v : Result Judged Refusal). SurplusIn (listed_graph n (branches_of (entries n text))) n rows v r.states r.branches) (sym e.0)
+            (subst (λ (g : Graph). SurplusIn g n rows (Ok v) r.states r.branches) (graph3 ∙ theirs-same a.same n ∙ graph1) e.1);
       }
 
       pub cleared-of : (room4 : List ℕ) → room4 ≡ replicate (length room3) 0 → room4 ≡ replicate (length room) 0

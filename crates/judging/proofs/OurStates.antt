@@ -1,4 +1,5 @@
 -- Our states: where their branches lead, that each has a way to the end, and that no two have the same branches.
+use Rattle.std.proofs.Common.{Ok, Option, Some, None}
 use borrow.Author.Tests.{eq-eqb}
 use lib.Bits.{bit_xor, differ, xor_lt}
 use lib.Dec.{T}
@@ -14,7 +15,6 @@ use Rattle.plates.proofs.SoundIsPrepared.{prepared}
 use Rattle.plates.specs.declared.Plate.{Plate}
 use Rattle.plates.specs.Prepare.{rows_of}
 use Rattle.plates.specs.Profile.{live, live_at}
-use Rattle.plates.specs.Refusals.{Refuses}
 use Rattle.plates.specs.Sound.{Sound}
 use Rattle.trellises.proofs.Active.{active-is, is-active}
 use Rattle.trellises.proofs.BranchDetermined.{next-determined}
@@ -22,9 +22,7 @@ use Rattle.trellises.proofs.MaskedGraph.{has-off, xor-twice}
 use Rattle.trellises.proofs.NextIsBranch.{next-branches}
 use Rattle.trellises.proofs.PathsOnce.{nth-branch}
 use Rattle.trellises.proofs.PlateTrellis.{plate-spans, plate-spells}
-use Rattle.trellises.specs.Branching.{Branches, branch_conditions, code_trellis}
-use Rattle.trellises.specs.declared.Next.{Next}
-use Rattle.trellises.specs.declared.Next.TheVariants.{NoBranch, Refused, State}
+use Rattle.trellises.specs.Branching.{Branches, code_trellis}
 use Rattle.trellises.specs.Following.{next_of}
 use Rattle.trellises.specs.Graph.{Branch, Has}
 use Rattle.trellises.specs.Masking.{turned}
@@ -143,27 +141,19 @@ module _ {plate : Plate} (s : Sound plate) where
 
   module _ (t : ℕ) (h : t < plate.n) where
     -- by what the branch asked for is answered
-    by_next : (a b : ℕ) → a < 2 ^ live_at (rows_of plate) t → b ≤ 1 → (N : Next) → Branches plate t a b N → Leads (ours (rows_of plate) plate.mask) t (suc a) b (number_of N)
-    by_next a b l m (State z) x = record {
+    by_next : (a b : ℕ) → a < 2 ^ live_at (rows_of plate) t → b ≤ 1 → (N : Option ℕ) → Branches plate t a b (Ok N) → Leads (ours (rows_of plate) plate.mask) t (suc a) b (number_of N)
+    by_next a b l m (Some z) x = record {
       none = λ e. absurd (omega (arith, e));
       all = λ v k e q.
           let i : a ≡ v = omega (arith, e) in
           ap suc (next-determined (rows_of plate) _ _ spans t a _ z k (own x.1) (own (subst (λ (y : ℕ). Has (ours (rows_of plate) plate.mask) t y b k) (sym i) q)));
       some = λ k e. let i : z ≡ k = omega (arith, e) in (a, refl, subst (Has (ours (rows_of plate) plate.mask) t a b) i x.1);
     }
-    by_next a b l m NoBranch x = record {
+    by_next a b l m None x = record {
       none = λ e. absurd (omega (arith, e));
       all = λ v k e q. let i : a ≡ v = omega (arith, e) in absurd (x.1 k (subst (λ (y : ℕ). Has (ours (rows_of plate) plate.mask) t y b k) (sym i) q));
       some = λ k e. absurd (omega (arith, e));
     }
-    by_next a b l m (Refused q) x = absurd (never x)
-      where
-        never : Refuses (branch_conditions plate t a b) q → ⊥
-        never (inl y) = y.0 (prepared s)
-        never (inr (n, inl ((inl y), e))) = omega (arith, y, h)
-        never (inr (n, inl ((inr (inl y)), e))) = omega (arith, y, l)
-        never (inr (n, inl ((inr (inr y)), e))) = omega (arith, y, m)
-        never (inr (n, inr (k, y))) = y
 
     -- where our branches lead: the bit of the code's branch is the mask's added
     pub our-leads : (y b : ℕ) → y ≤ 2 ^ live_at (rows_of plate) t → b < 2

@@ -1,4 +1,5 @@
 -- The lines of a listing as a loop passes them.
+use Rattle.std.proofs.Common.{Option, None}
 use lib.ListN.{drop, get_or, length}
 use mathlib.Core.Bool.{Bool, true, false}
 use mathlib.Core.List.{List, [], ◌∷◌}
@@ -12,11 +13,9 @@ use Rattle.sheets.proofs.Parts.{from_start}
 use Rattle.sheets.specs.Listed.{entries, entries_of, entry_at}
 use Rattle.sheets.specs.Text.{line_feed, lines_from}
 use Rattle.sheets.specs.declared.listed.Branch.{Branch}
-use Rattle.sheets.specs.declared.listed.BranchLine.{BranchLine}
-use Rattle.sheets.specs.declared.listed.BranchLine.TheVariants.{Bad}
 use Rattle.sheets.specs.declared.listed.Entry.{Entry}
 use Rattle.judging.specs.Listing.{branch_in, clash, clashes, depth_before}
-use Rattle.judging.specs.Working.{FirstFound}
+use Rattle.judging.specs.Working.{FirstAt}
 
 -- what a list has from a place on says what it has there
 module _ {A : Type 0} (z : A) where
@@ -56,7 +55,7 @@ module _ (n : ℕ) (s : List ℕ) (i at : ℕ) (r : Reading n s i at) where
   -- one line more
   pub record More (e : Entry) : Type 0 where
     pub there : i < length (entries n s)
-    pub line_is : get_or (entries n s) i Bad ≡ e.line
+    pub line_is : get_or (entries n s) i None ≡ e.line
     pub on : Reading n s (i + 1) e.next
     pub further : at < e.next
     pub small : e.next ≤ length s + 1
@@ -71,12 +70,12 @@ module _ (n : ℕ) (s : List ℕ) (i at : ℕ) (r : Reading n s i at) where
         small = entry-small n s at l;
       })
     where
-      m : (i < length (entries n s)) × (get_or (entries n s) i Bad ≡ (entry_at n s at).line) × (drop (i + 1) (entries n s) ≡ entries_of n (lines_from s (entry_at n s at).next))
-      m = drop-there Bad (entries n s) i (entry_at n s at).line (entries_of n (lines_from s (entry_at n s at).next)) (sym r.left ∙ entry_first n s at l)
+      m : (i < length (entries n s)) × (get_or (entries n s) i None ≡ (entry_at n s at).line) × (drop (i + 1) (entries n s) ≡ entries_of n (lines_from s (entry_at n s at).next))
+      m = drop-there None (entries n s) i (entry_at n s at).line (entries_of n (lines_from s (entry_at n s at).next)) (sym r.left ∙ entry_first n s at l)
 
   -- or all are read
   pub reading-end : length s ≤ at → i ≡ length (entries n s)
-  reading-end l = omega (arith, r.few, drop_all Bad (entries n s) i (sym r.left ∙ entries_none n s at l))
+  reading-end l = omega (arith, r.few, drop_all None (entries n s) i (sym r.left ∙ entries_none n s at l))
 
 -- ---- a search from the front
 
@@ -94,11 +93,11 @@ module _ {m : ℕ} {test : ℕ → Bool} {i : ℕ} (s : Searching m test i) wher
       go j l (yes d) = s.before j d
       go j l (no d) = let q : i ≡ j = omega arith in subst (λ (k : ℕ). test k ≡ false) q e
 
-  pub searching-found : i < m → test i ≡ true → FirstFound m test i
-  searching-found l e = record { within = omega arith; here = λ k. e; before = s.before }
+  pub searching-found : i < m → test i ≡ true → FirstAt m test i
+  searching-found l e = record { there = l; here = e; before = s.before }
 
-  pub searching-none : i ≡ m → FirstFound m test i
-  searching-none e = record { within = omega arith; here = λ k. absurd (omega arith); before = s.before }
+  pub searching-none : m ≤ i → (j : ℕ) → j < m → test j ≡ false
+  searching-none e j l = s.before j (omega arith)
 
 -- ---- clashes among the first lines
 
@@ -111,7 +110,7 @@ module _ (n : ℕ) (s : List ℕ) (first : ℕ) (b : Branch) where
   pub clashing-start : first ≤ length (entries n s) → Clashing 0 first
   clashing-start l =
       let e : entries n s ≡ entries_of n (lines_from s 0) = ap (entries_of n) (sym (from_start line_feed s)) in
-      record { same = ap (λ (es : List BranchLine). clashes es first b) (sym e); few = subst (λ (es : List BranchLine). first ≤ length es) e l }
+      record { same = ap (λ (es : List (Option Branch)). clashes es first b) (sym e); few = subst (λ (es : List (Option Branch)). first ≤ length es) e l }
 
   module _ (at left : ℕ) (c : Clashing at left) (l : 0 < left) where
     inside : at < length s
@@ -122,13 +121,13 @@ module _ (n : ℕ) (s : List ℕ) (first : ℕ) (b : Branch) where
         go (no d) = absurd (omega (arith, c.few, l, ap length (entries_none n s at (omega (arith, d)))))
 
     split : (t : Bool) → clash (branch_in (entry_at n s at).line) b ≡ t → clashes (entries_of n (lines_from s at)) left b ≡ clashes ((entry_at n s at).line ∷ entries_of n (lines_from s (entry_at n s at).next)) left b
-    split t q = ap (λ (es : List BranchLine). clashes es left b) (entry_first n s at inside)
+    split t q = ap (λ (es : List (Option Branch)). clashes es left b) (entry_first n s at inside)
 
-    step : (left : ℕ) → 0 < left → (e : BranchLine) (es : List BranchLine) → clash (branch_in e) b ≡ true → clashes (e ∷ es) left b ≡ true
+    step : (left : ℕ) → 0 < left → (e : Option Branch) (es : List (Option Branch)) → clash (branch_in e) b ≡ true → clashes (e ∷ es) left b ≡ true
     step zero l e es q = absurd (omega arith)
     step (suc k) l e es q = rw q
 
-    pass : (left k : ℕ) → left ≡ suc k → (e : BranchLine) (es : List BranchLine) → clash (branch_in e) b ≡ false → clashes (e ∷ es) left b ≡ clashes es k b
+    pass : (left k : ℕ) → left ≡ suc k → (e : Option Branch) (es : List (Option Branch)) → clash (branch_in e) b ≡ false → clashes (e ∷ es) left b ≡ clashes es k b
     pass left k h e es q = rw (h, q)
 
     pub clashing-found : (e : Entry) → e ≡ entry_at n s at → clash (branch_in e.line) b ≡ true → true ≡ clashes (entries n s) first b
@@ -147,11 +146,11 @@ module _ (n : ℕ) (s : List ℕ) (first : ℕ) (b : Branch) where
   pub clashing-none : (at left : ℕ) → Clashing at left → left ≡ 0 → false ≡ clashes (entries n s) first b
   clashing-none at left c e = sym (none (entries_of n (lines_from s at)) left e) ∙ c.same
     where
-      none : (es : List BranchLine) (k : ℕ) → k ≡ 0 → clashes es k b ≡ false
+      none : (es : List (Option Branch)) (k : ℕ) → k ≡ 0 → clashes es k b ≡ false
       none [] k e = refl
       none (x ∷ es) zero e = refl
       none (x ∷ es) (suc k) e = absurd (omega arith)
 
 -- the depth before the next line
-pub depth-after : (es : List BranchLine) (i : ℕ) (b : Branch) → b ≡ branch_in (get_or es i Bad) → b.depth ≡ depth_before es (i + 1)
+pub depth-after : (es : List (Option Branch)) (i : ℕ) (b : Branch) → b ≡ branch_in (get_or es i None) → b.depth ≡ depth_before es (i + 1)
 depth-after es i b e = ap (λ (x : Branch). x.depth) e ∙ ap (depth_before es) (sym (add-one i))

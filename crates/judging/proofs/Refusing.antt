@@ -1,6 +1,7 @@
 -- The replies of judging: which refusal comes first, and the judgement where none does.
+use Rattle.sheets.specs.declared.listed.Branch.{Branch}
 use lib.ListN.{length, replicate}
-use mathlib.Core.Bool.{Bool, false, false≢true}
+use mathlib.Core.Bool.{Bool, false≢true}
 use mathlib.Core.List.{List}
 use mathlib.Core.Logic.{inl, inr}
 use mathlib.Core.Path.{ap, refl, subst, sym, ◌∙◌, ◌≡◌}
@@ -13,7 +14,6 @@ use Rattle.plates.specs.declared.Refusal.{Refusal}
 use Rattle.plates.specs.declared.Refusal.TheVariants.{BranchFault, BranchTwice, MetricRoom, NotPrepared, TooManyLines}
 use Rattle.plates.specs.Prepare.{IsPrepared, rows_of}
 use Rattle.plates.specs.Refusals.{Passes, Refuses}
-use Rattle.sheets.specs.declared.listed.BranchLine.{BranchLine}
 use Rattle.sheets.specs.Listed.{entries}
 use Rattle.sheets.specs.Text.{lines}
 use Rattle.judging.proofs.CleanLines.{entry-ranged}
@@ -27,26 +27,23 @@ use Rattle.judging.specs.Listing.{branches_of, faulty_at, listed_graph, repeats_
 use Rattle.judging.specs.Ours.{OfPlate, ours}
 use Rattle.judging.specs.Steps.{Found, JudgedTo}
 use Rattle.judging.specs.Surplus.{SurplusIn}
-use Rattle.judging.specs.Working.{FirstFound}
+use Rattle.judging.specs.Working.{FirstAt, FirstFound}
+use Rattle.std.proofs.Common.{Err, None, Ok, Option, Result}
 
 -- the first line that a test finds
-first-line : (es : List BranchLine) (test : ℕ → Bool) (r : ℕ) → FirstFound (length es) test r → r < length es → FirstLine es test r
-first-line es test r f l = record { there = l; found = f.here l; first = f.before }
-
--- where it finds none, there is none
-no_line : (es : List BranchLine) (test : ℕ → Bool) (r : ℕ) → FirstFound (length es) test r → length es ≤ r → (i : ℕ) → i < length es → test i ≡ false
-no_line es test r f l i m = f.before i (omega arith)
+first-line : (es : List (Option Branch)) (test : ℕ → Bool) (r : ℕ) → FirstAt (length es) test r → FirstLine es test r
+first-line es test r f = record { there = f.there; found = f.here; first = f.before }
 
 module _ (plate : Plate) (text room : List ℕ) where
-  abbrev es : List BranchLine
+  abbrev es : List (Option Branch)
   es = entries plate.n text
 
   -- a refusal, with no surplus and the room unchanged
   pub refused-reply : (q : Refusal) → Refuses (judging_conditions plate (entries plate.n text) room) q → (r : Judgement)
-      → (r.verdict ≡ J.Refused q) × (r.states ≡ replicate 65 0) × (r.branches ≡ replicate 64 0) → Judges plate text room room r
+      → (r.verdict ≡ Err q) × (r.states ≡ replicate 65 0) × (r.branches ≡ replicate 64 0) → Judges plate text room room r
   refused-reply q x r e = record {
     reply = subst (JudgesBy plate (entries plate.n text) room room) (sym e.0) (x, refl);
-    surplus = subst (λ (v : Judged). SurplusIn (graph_against plate (entries plate.n text)) plate.n (rows_of plate) v r.states r.branches) (sym e.0) (e.1, e.2);
+    surplus = subst (λ (v : Result Judged Refusal). SurplusIn (graph_against plate (entries plate.n text)) plate.n (rows_of plate) v r.states r.branches) (sym e.0) (e.1, e.2);
   }
 
   pub refused-5 : (IsPrepared plate → ⊥) → Refuses (judging_conditions plate es room) NotPrepared
@@ -59,26 +56,25 @@ module _ (plate : Plate) (text room : List ℕ) where
     pub refused-28 : 1024 < length es → Refuses (judging_conditions plate es room) TooManyLines
     refused-28 l = inr (not-5, inl (l, refl))
 
-    module _ (few : length (entries plate.n text) ≤ 1024) (f : ℕ) (first : FirstFound (length (entries plate.n text)) (faulty_at (entries plate.n text)) f) where
+    module _ (few : length (entries plate.n text) ≤ 1024) where
       not-28 : (q : Refusal) → too_many_lines es q → ⊥
       not-28 q x = omega (arith, x.0, few)
 
-      pub refused-26 : f < length es → Refuses (judging_conditions plate es room) (BranchFault (f + 1))
-      refused-26 l =
-          inr (not-5, inr (not-28, inl (record { line = f; at = first-line es (faulty_at es) f first l; is = ap BranchFault (add-one f) })))
+      pub refused-26 : (f : ℕ) → FirstAt (length es) (faulty_at es) f → Refuses (judging_conditions plate es room) (BranchFault (f + 1))
+      refused-26 f first =
+          inr (not-5, inr (not-28, inl (record { line = f; at = first-line es (faulty_at es) f first; is = ap BranchFault (add-one f) })))
 
-      module _ (clear : length (entries plate.n text) ≤ f) (g : ℕ)
-          (second : FirstFound (length (entries plate.n text)) (repeats_at (entries plate.n text)) g) where
+      module _ (clear : FirstFound (length (entries plate.n text)) (faulty_at (entries plate.n text)) None) where
         not-26 : (q : Refusal) → FaultyLine es q → ⊥
-        not-26 q x = false≢true (sym (no_line es (faulty_at es) f first clear x.line x.at.there) ∙ x.at.found)
+        not-26 q x = false≢true (sym (clear x.line x.at.there) ∙ x.at.found)
 
-        pub refused-27 : g < length es → Refuses (judging_conditions plate es room) (BranchTwice (g + 1))
-        refused-27 l =
-            inr (not-5, inr (not-28, inr (not-26, inl (record { line = g; at = first-line es (repeats_at es) g second l; is = ap BranchTwice (add-one g) }))))
+        pub refused-27 : (g : ℕ) → FirstAt (length es) (repeats_at es) g → Refuses (judging_conditions plate es room) (BranchTwice (g + 1))
+        refused-27 g second =
+            inr (not-5, inr (not-28, inr (not-26, inl (record { line = g; at = first-line es (repeats_at es) g second; is = ap BranchTwice (add-one g) }))))
 
-        module _ (single : length (entries plate.n text) ≤ g) where
+        module _ (single : FirstFound (length (entries plate.n text)) (repeats_at (entries plate.n text)) None) where
           not-27 : (q : Refusal) → RepeatedLine es q → ⊥
-          not-27 q x = false≢true (sym (no_line es (repeats_at es) g second single x.line x.at.there) ∙ x.at.found)
+          not-27 q x = false≢true (sym (single x.line x.at.there) ∙ x.at.found)
 
           pub refused-8 : length room < room_need es → Refuses (judging_conditions plate es room) MetricRoom
           refused-8 l = inr (not-5, inr (not-28, inr (not-26, inr (not-27, inl (l, refl)))))
@@ -88,8 +84,8 @@ module _ (plate : Plate) (text room : List ℕ) where
             few = few;
             short = (sound given).short;
             ranged = entry-ranged plate.n (lines text);
-            faultless = no_line es (faulty_at es) f first clear;
-            single = no_line es (repeats_at es) g second single;
+            faultless = clear;
+            single = single;
           }
 
           pub of-this-plate : OfPlate (rows_of plate) plate.mask plate.n
@@ -100,15 +96,17 @@ module _ (plate : Plate) (text room : List ℕ) where
             passes = (not-5, (not-28, (not-26, (not-27, ((λ q x. omega (arith, x.0, enough)), tt)))))
 
             by-verdict : (v : Judged) → Found (listed_graph plate.n (branches_of (entries plate.n text))) (ours (rows_of plate) plate.mask) plate.n v
-                → (room' : List ℕ) → Zeroed (room_need (entries plate.n text)) room room' → JudgesBy plate (entries plate.n text) room room' v
+                → (room' : List ℕ) → Zeroed (room_need (entries plate.n text)) room room' → JudgesBy plate (entries plate.n text) room room' (Ok v)
             by-verdict J.Right h room' z =
                 (passes, found_right (sound given) (listed_graph plate.n (branches_of (entries plate.n text))) (listed-ends all-clean (sound given).positive) h, z)
             by-verdict (J.SpelledWrongly w) h room' z =
                 (passes, found-wrongly (sound given) (listed_graph plate.n (branches_of (entries plate.n text))) (listed-ends all-clean (sound given).positive) w h, z)
             by-verdict (J.NotSpelled w) h room' z =
                 (passes, found-missing (sound given) (listed_graph plate.n (branches_of (entries plate.n text))) (listed-ends all-clean (sound given).positive) w h, z)
-            by-verdict (J.Refused q) h room' z = absurd h
 
             pub judged-reply : (r : Judgement) → JudgedTo (listed_graph plate.n (branches_of (entries plate.n text))) (rows_of plate) plate.mask plate.n r
                 → (room' : List ℕ) → Zeroed (room_need (entries plate.n text)) room room' → Judges plate text room room' r
-            judged-reply r j room' z = record { reply = by-verdict r.verdict j.found room' z; surplus = j.surplus }
+            judged-reply r j room' z = record {
+              reply = subst (JudgesBy plate (entries plate.n text) room room') (sym j.is) (by-verdict j.judged j.found room' z);
+              surplus = j.surplus;
+            }

@@ -1,17 +1,16 @@
--- The working room step by step: a line put into it, a line looked up, all of it put to zero.
-use borrow.Author.Tests.{lt-ltb, le-ltb}
-use lib.ListN.{get_or, length, length-set, replicate, set}
+-- The working room step by step: a line put into it, and a line looked up.
+use Rattle.std.proofs.Common.{None, Option, Some}
+use lib.ListN.{length, length-set, set}
 use lib.Seq.{get_or-set_other, get_or-set_same}
-use mathlib.Core.List.{List, [], ◌∷◌}
+use mathlib.Core.List.{List}
 use mathlib.Core.Logic.{inl, inr, ◌⊎◌}
 use mathlib.Core.Path.{ap, refl, subst, sym, ◌∙◌, ◌≡◌}
 use native.Mathlib.Decide.{dec_lt}
 use native.Mathlib.Omega.{arith}
-use Prim.Native.Nat.{◌*◌, ◌+◌, ◌-◌, ◌<◌, suc, ℕ, ◌≤◌}
+use Prim.Native.Nat.{◌*◌, ◌+◌, ◌-◌, ◌<◌, ℕ, ◌≤◌}
 use Rattle.sheets.specs.declared.listed.Branch.{Branch}
-use Rattle.sheets.specs.declared.listed.BranchLine.{BranchLine}
 use Rattle.judging.specs.Listing.{branch_at}
-use Rattle.judging.specs.Room.{LineFrom, Put, Stored, key_of, key_test, lead_at, lead_number, start_at, told_at, told_number}
+use Rattle.judging.specs.Room.{LineFrom, Put, Stored, key_of, key_test, lead_at, start_at}
 use Rattle.judging.specs.Working.{FirstFound}
 
 -- ---- one line
@@ -32,7 +31,7 @@ put-done room line k b l e = record {
 
 -- ---- one line more
 
-module _ (es : List BranchLine) (i : ℕ) (room room' : List ℕ) (b : Branch) (s : Stored es i room) (p : Put room i b room') (e : b ≡ branch_at es i) where
+module _ (es : List (Option Branch)) (i : ℕ) (room room' : List ℕ) (b : Branch) (s : Stored es i room) (p : Put room i b room') (e : b ≡ branch_at es i) where
   pub stored_more : Stored es (i + 1) room'
   stored_more = record { start = λ j l. start j l (dec_lt j i); lead = λ j l. lead j l (dec_lt j i) }
     where
@@ -49,61 +48,24 @@ module _ (es : List BranchLine) (i : ℕ) (room room' : List ℕ) (b : Branch) (
           let q : i ≡ j = omega arith in
           subst (λ (j : ℕ). lead_at room' j ≡ (branch_at es j).to) q (p.lead ∙ ap (λ (x : Branch). x.to) e)
 
-pub stored-none : (es : List BranchLine) (room : List ℕ) → Stored es 0 room
+pub stored-none : (es : List (Option Branch)) (room : List ℕ) → Stored es 0 room
 stored-none es room = record { start = λ j l. absurd (omega arith); lead = λ j l. absurd (omega arith) }
 
 -- ---- a line looked up
 
-pub line-none : (room : List ℕ) (lines t u b : ℕ) → u ≡ 0 → LineFrom room lines t u b lines
-line-none room lines t u b e = record { none = λ q. refl; some = λ v q. absurd (omega (arith, e, q)) }
+pub line-none : (room : List ℕ) (lines t u b : ℕ) → u ≡ 0 → LineFrom room lines t u b None
+line-none room lines t u b e = record { none = λ q. refl; some = λ v q. absurd (omega (arith, e, q)); there = λ j q. cc }
 
-pub line-some : (room : List ℕ) (lines t u b r k : ℕ) → (u ≡ 0 → ⊥) → k ≡ key_of t (u - 1) b → FirstFound lines (key_test room k) r → LineFrom room lines t u b r
+pub line-some : (room : List ℕ) (lines t u b : ℕ) (r : Option ℕ) (k : ℕ) → (u ≡ 0 → ⊥) → k ≡ key_of t (u - 1) b → FirstFound lines (key_test room k) r
+    → LineFrom room lines t u b r
 line-some room lines t u b r k d e f = record {
   none = λ q. absurd (d q);
   some = λ v q.
       let z : u - 1 ≡ v = omega (arith, q) in
       subst (λ (k : ℕ). FirstFound lines (key_test room k) r) (e ∙ ap (λ (x : ℕ). key_of t x b) z) f;
-}
-
-pub lead-there : (room : List ℕ) (lines j : ℕ) → j < lines → lead_at room j + 1 ≡ lead_number room lines j
-lead-there room lines j l = rw (lt-ltb j lines l) (omega arith)
-
-pub lead-none : (room : List ℕ) (lines j : ℕ) → lines ≤ j → 0 ≡ lead_number room lines j
-lead-none room lines j l = rw (le-ltb j lines l)
-
-pub told-there : (room : List ℕ) (lines j : ℕ) → j < lines → told_at room j ≡ told_number room lines j
-told-there room lines j l = rw (lt-ltb j lines l)
-
-pub told_none : (room : List ℕ) (lines j : ℕ) → lines ≤ j → 0 ≡ told_number room lines j
-told_none room lines j l = rw (le-ltb j lines l)
-
--- ---- zeros
-
--- the first i numbers are zero
-pub record Cleared (room₀ room : List ℕ) (i : ℕ) : Type 0 where
-  pub size : length room ≡ length room₀
-  pub few : i ≤ length room₀
-  pub zeros : (k : ℕ) → k < i → get_or room k 0 ≡ 0
-
-pub cleared-none : (room : List ℕ) → Cleared room room 0
-cleared-none room = record { size = refl; few = omega arith; zeros = λ k l. absurd (omega arith) }
-
-pub cleared_more : (room₀ room : List ℕ) (i : ℕ) → Cleared room₀ room i → i < length room₀ → Cleared room₀ (set room i 0) (i + 1)
-cleared_more room₀ room i c l = record {
-  size = length-set room i 0 ∙ c.size;
-  few = omega arith;
-  zeros = λ k m. go k m (dec_lt k i);
+  there = there r f;
 }
   where
-    go : (k : ℕ) → k < i + 1 → Dec (k < i) → get_or (set room i 0) k 0 ≡ 0
-    go k m (yes d) = get_or-set_other room i k 0 0 (λ q. omega (arith, q)) ∙ c.zeros k d
-    go k m (no d) = let q : i ≡ k = omega arith in subst (λ (k : ℕ). get_or (set room i 0) k 0 ≡ 0) q (get_or-set_same room i 0 0 (omega (arith, c.size)))
-
-zero-list : (xs : List ℕ) → ((k : ℕ) → k < length xs → get_or xs k 0 ≡ 0) → xs ≡ replicate (length xs) 0
-zero-list [] h = refl
-zero-list (x ∷ xs) h =
-    let z : x ≡ 0 = h 0 (omega arith) in
-    ap (λ (y : ℕ). y ∷ xs) z ∙ ap (λ (ys : List ℕ). 0 ∷ ys) (zero-list xs (λ k l. h (suc k) (omega arith)))
-
-pub cleared-all : (room₀ room : List ℕ) (i : ℕ) → Cleared room₀ room i → length room ≤ i → room ≡ replicate (length room₀) 0
-cleared-all room₀ room i c l = zero-list room (λ k m. c.zeros k (omega arith)) ∙ ap (λ (k : ℕ). replicate k 0) c.size
+    there : (r : Option ℕ) → FirstFound lines (key_test room k) r → (j : ℕ) → r ≡ Some j → j < lines
+    there (Some i) f j q = let z : i ≡ j = cc in subst (λ (x : ℕ). x < lines) z f.there
+    there None f j q = absurd cc

@@ -1,9 +1,7 @@
 -- What one state of theirs tells, by the lines of its depth; the same for a plate's rows and length.
-use borrow.Author.Tests.{le-ltb, lt-ltb}
 use lib.Bits.{bit_xor, xor_lt}
 use mathlib.Core.List.{List}
 use mathlib.Core.Path.{ap, refl, subst, sym, ◌≡◌}
-use native.Mathlib.Decide.{dec_lt}
 use native.Mathlib.Omega.{arith}
 use lib.ListN.{length}
 use Prim.Native.Nat.{◌*◌, ◌+◌, ◌-◌, ◌/◌, ◌<◌, ◌^◌, suc, zero, ℕ, ◌≤◌}
@@ -21,6 +19,7 @@ use Rattle.judging.proofs.Theirs.{found-start, line-leads}
 use Rattle.judging.specs.Ours.{Classed, OfPlate, Small, follows, ours}
 use Rattle.judging.specs.Room.{Holds, LineFrom, ToldIn, Within, key_of, lead_at, lead_number, start_at, theirs, told_at, told_number}
 use Rattle.judging.specs.Steps.{Asking}
+use Rattle.std.proofs.Common.{None, Option, Some}
 use Rattle.judging.specs.Ways.{Leads, Tells, Way}
 
 -- what holds of a sound plate's rows, mask and length
@@ -94,40 +93,41 @@ module _ {rows : List ℕ} {mask n : ℕ} (o : OfPlate rows mask n) where
   -- ---- a line looked up tells of where it leads
 
   module _ (room : List ℕ) (lines : ℕ) (holds : Holds n lines room) (t : ℕ) (h : t < n) (told : ToldIn n lines rows mask room t) where
-    pub line-told : (u b j : ℕ) → u ≤ 1024 → b < 2 → LineFrom room lines t u b j
-        → Tells (theirs n lines room) (ours rows mask) (n - suc t) (suc t) (lead_number room lines j) (told_number room lines j)
-    line-told u b j small two l = go (dec_lt j lines) u refl
+    pub line-told : (u b : ℕ) (j : Option ℕ) → u ≤ 1024 → b < 2 → LineFrom room lines t u b j
+        → Tells (theirs n lines room) (ours rows mask) (n - suc t) (suc t) (lead_number room j) (told_number room j)
+    line-told u b j small two l = go j refl u refl
       where
-        go : Dec (j < lines) → (w : ℕ) → w ≡ u → Tells (theirs n lines room) (ours rows mask) (n - suc t) (suc t) (lead_number room lines j) (told_number room lines j)
-        go (no d) w q = rw (le-ltb j lines (omega (arith, d))) (none_told (theirs n lines room) (n - suc t) (suc t) (omega (arith, h)))
-        go (yes d) zero q = absurd (omega (arith, l.none (sym q), d))
-        go (yes d) (suc v) q =
-            let k : start_at room j ≡ key_of t v b = found-start n lines room holds t u b j small two l v (sym q) d in
-            let e : start_at room j / 2048 ≡ t = omega (arith, k, q, small, two) in
-            rw (lt-ltb j lines d)
-            (subst (λ (m : ℕ). Tells (theirs n lines room) (ours rows mask) (n - suc m) (suc m) (suc (lead_at room j)) (told_at room j)) e (told j d e).tells)
+        go : (o : Option ℕ) → j ≡ o → (w : ℕ) → w ≡ u → Tells (theirs n lines room) (ours rows mask) (n - suc t) (suc t) (lead_number room j) (told_number room j)
+        go None p w q = rw p (none_told (theirs n lines room) (n - suc t) (suc t) (omega (arith, h)))
+        go (Some i) p zero q = rw (l.none (sym q)) (none_told (theirs n lines room) (n - suc t) (suc t) (omega (arith, h)))
+        go (Some i) p (suc v) q =
+            let k : start_at room i ≡ key_of t v b = found-start n lines room holds t u b j small two l i v p (sym q) in
+            let e : start_at room i / 2048 ≡ t = omega (arith, k, q, small, two) in
+            rw p
+            (subst (λ (m : ℕ). Tells (theirs n lines room) (ours rows mask) (n - suc m) (suc m) (suc (lead_at room i)) (told_at room i)) e
+            (told i (l.there i p) e).tells)
 
     flipped : (b : ℕ) → b < 2 → bit_xor b (bit mask t) < 2
     flipped b l = xor_lt 1 b (bit mask t) l (bit-lt t mask)
 
     -- a state by its two lines
-    pub state-told : (u j0 j1 x0 x1 x : ℕ) → u ≤ 1024 → LineFrom room lines t u (bit_xor 0 (bit mask t)) j0
-        → LineFrom room lines t u (bit_xor 1 (bit mask t)) j1 → x0 ≡ told_number room lines j0 → x1 ≡ told_number room lines j1
+    pub state-told : (u : ℕ) (j0 j1 : Option ℕ) (x0 x1 x : ℕ) → u ≤ 1024 → LineFrom room lines t u (bit_xor 0 (bit mask t)) j0
+        → LineFrom room lines t u (bit_xor 1 (bit mask t)) j1 → x0 ≡ told_number room j0 → x1 ≡ told_number room j1
         → (c : Section) → c ≡ held (section_of rows t) → Classed c x0 x1 x → Tells (theirs n lines room) (ours rows mask) (n - t) t u x
     state-told u j0 j1 x0 x1 x small l0 l1 e0 e1 c ec k =
         let z : suc (n - suc t) ≡ n - t = omega (arith, h) in
         let A = theirs n lines room in
         subst (λ (d : ℕ). Tells (theirs n lines room) (ours rows mask) d t u x) z
         (class-told (theirs n lines room) t h x0 x1 x (subst (λ (c : Section). Classed c x0 x1 x) (section-is t h c ec) k) (n - suc t) u
-        (lead_number room lines j0) (lead_number room lines j1)
+        (lead_number room j0) (lead_number room j1)
         (line-leads n lines room holds t u (bit_xor 0 (bit mask t)) j0 small (flipped 0 (omega arith)) l0)
         (line-leads n lines room holds t u (bit_xor 1 (bit mask t)) j1 small (flipped 1 (omega arith)) l1)
-        (subst (Tells (theirs n lines room) (ours rows mask) (n - suc t) (suc t) (lead_number room lines j0)) (sym e0) (line-told u (bit_xor 0 (bit mask t)) j0 small (flipped 0 (omega arith)) l0))
-        (subst (Tells (theirs n lines room) (ours rows mask) (n - suc t) (suc t) (lead_number room lines j1)) (sym e1) (line-told u (bit_xor 1 (bit mask t)) j1 small (flipped 1 (omega arith)) l1)))
+        (subst (Tells (theirs n lines room) (ours rows mask) (n - suc t) (suc t) (lead_number room j0)) (sym e0) (line-told u (bit_xor 0 (bit mask t)) j0 small (flipped 0 (omega arith)) l0))
+        (subst (Tells (theirs n lines room) (ours rows mask) (n - suc t) (suc t) (lead_number room j1)) (sym e1) (line-told u (bit_xor 1 (bit mask t)) j1 small (flipped 1 (omega arith)) l1)))
 
     -- the same by the bit that the code found in the mask
-    pub state-told-by : {flip : ℕ} → flip ≡ bit mask t → (u j0 j1 x0 x1 x : ℕ) → u ≤ 1024 → LineFrom room lines t u flip j0
-        → LineFrom room lines t u (bit_xor 1 flip) j1 → x0 ≡ told_number room lines j0 → x1 ≡ told_number room lines j1
+    pub state-told-by : {flip : ℕ} → flip ≡ bit mask t → (u : ℕ) (j0 j1 : Option ℕ) (x0 x1 x : ℕ) → u ≤ 1024 → LineFrom room lines t u flip j0
+        → LineFrom room lines t u (bit_xor 1 flip) j1 → x0 ≡ told_number room j0 → x1 ≡ told_number room j1
         → (c : Section) → c ≡ held (section_of rows t) → Classed c x0 x1 x → Tells (theirs n lines room) (ours rows mask) (n - t) t u x
     state-told-by q u j0 j1 x0 x1 x small l0 l1 =
         state-told u j0 j1 x0 x1 x small (subst (λ (b : ℕ). LineFrom room lines t u b j0) q l0) (subst (λ (b : ℕ). LineFrom room lines t u (bit_xor 1 b) j1) q l1)

@@ -1,5 +1,5 @@
 -- The graph that the room holds: its branches are the lines, and a line looked up is the branch asked for.
-use borrow.Author.Tests.{eq-eqb, eqb-true, le-ltb, lt-ltb}
+use borrow.Author.Tests.{eq-eqb, eqb-true}
 use lib.Dec.{eqb}
 use lib.ListN.{get_or, length}
 use mathlib.Core.Bool.{Bool, false, false≢true, true}
@@ -12,8 +12,10 @@ use Rattle.sheets.specs.declared.listed.Branch.{Branch}
 use Rattle.trellises.specs.Graph.{Has}
 use Rattle.trellises.specs.Graph as Graphs
 use Rattle.judging.specs.Listing.{section_at, with}
-use Rattle.judging.specs.Room.{Holds, LineFrom, decoded, key_of, lead_at, lead_number, listed, start_at, theirs}
+use Rattle.judging.specs.Room.{Holds, LineFrom, decoded, key_of, key_test, lead_at, lead_number, listed, start_at, theirs}
 use Rattle.judging.specs.Ways.{Leads}
+use Rattle.judging.specs.Working.{FirstAt, FirstFound}
+use Rattle.std.proofs.Common.{None, Option, Some}
 
 -- a listed branch as a branch of the graph
 abbrev plain : Branch → Graphs.Branch
@@ -89,40 +91,47 @@ module _ (n lines : ℕ) (room : List ℕ) where
         leads = ap (λ (x : Graphs.Branch). x.to) r.2;
       }
 
-  module _ (holds : Holds n lines room) (t u b j : ℕ) (small : u ≤ 1024) (two : b < 2) (l : LineFrom room lines t u b j) where
+  module _ (holds : Holds n lines room) (t u b : ℕ) (j : Option ℕ) (small : u ≤ 1024) (two : b < 2) (l : LineFrom room lines t u b j) where
+    found-at : (i v : ℕ) → j ≡ Some i → u ≡ suc v → FirstAt lines (key_test room (key_of t v b)) i
+    found-at i v q e = subst (FirstFound lines (key_test room (key_of t v b))) q (l.some v e)
+
     -- the line that is found has the start asked for
-    pub found-start : (v : ℕ) → u ≡ suc v → j < lines → start_at room j ≡ key_of t v b
-    found-start v e m = eqb-true (start_at room j) (key_of t v b) ((l.some v e).here m)
+    pub found-start : (i v : ℕ) → j ≡ Some i → u ≡ suc v → start_at room i ≡ key_of t v b
+    found-start i v q e = eqb-true (start_at room i) (key_of t v b) (found-at i v q e).here
 
-    lead_is : j < lines → lead_number room lines j ≡ suc (lead_at room j)
-    lead_is m = rw (lt-ltb j lines m)
+    lead_is : (i : ℕ) → j ≡ Some i → lead_number room j ≡ suc (lead_at room i)
+    lead_is i q = ap (lead_number room) q
 
-    no_lead : lines ≤ j → lead_number room lines j ≡ 0
-    no_lead m = rw (le-ltb j lines m)
+    no_lead : j ≡ None → lead_number room j ≡ 0
+    no_lead q = ap (lead_number room) q
 
     -- a line with that start is the one that is found
-    only : (v : ℕ) → u ≡ suc v → (i : ℕ) → i < lines → start_at room i ≡ key_of t v b → j ≡ i
-    only v e i m q = go (dec_lt i j) (dec_lt j i)
+    only : (v : ℕ) → u ≡ suc v → (i : ℕ) → i < lines → start_at room i ≡ key_of t v b → j ≡ Some i
+    only v e i m q = go j refl
       where
-        go : Dec (i < j) → Dec (j < i) → j ≡ i
-        go (yes d) x = absurd (false≢true (sym ((l.some v e).before i d) ∙ eq-eqb (start_at room i) (key_of t v b) q))
-        go (no d) (yes x) = absurd (holds.apart j i x m (found-start v e (omega (arith, x, m)) ∙ sym q))
-        go (no d) (no x) = omega arith
+        tested : key_test room (key_of t v b) i ≡ true
+        tested = eq-eqb (start_at room i) (key_of t v b) q
 
-    some : (c : ℕ) → Dec (j < lines) → lead_number room lines j ≡ suc c → (w : ℕ) → w ≡ u → (v : ℕ) × (u ≡ suc v) × Has (theirs n lines room) t v b c
-    some c (no d) e w q = absurd (omega (arith, e, no_lead (omega (arith, d))))
-    some c (yes d) e zero q = absurd (omega (arith, l.none (sym q)))
-    some c (yes d) e (suc v) q =
-        let k : lead_at room j ≡ c = omega (arith, lead_is d, e) in
-        (v, sym q, subst (Has (theirs n lines room) t v b) k (line-has t v b j (omega (arith, q, small)) two d (found-start v (sym q) d)))
+        same : (k : ℕ) → j ≡ Some k → Dec (i < k) → Dec (k < i) → k ≡ i
+        same k p (yes d) x = absurd (false≢true (sym ((found-at k v p e).before i d) ∙ tested))
+        same k p (no d) (yes x) = absurd (holds.apart k i x m (found-start k v p e ∙ sym q))
+        same k p (no d) (no x) = omega arith
+
+        go : (o : Option ℕ) → j ≡ o → j ≡ Some i
+        go None p = absurd (false≢true (sym (subst (FirstFound lines (key_test room (key_of t v b))) p (l.some v e) i m) ∙ tested))
+        go (Some k) p = p ∙ ap Some (same k p (dec_lt i k) (dec_lt k i))
+
+    some : (c : ℕ) (o : Option ℕ) → j ≡ o → lead_number room j ≡ suc c → (w : ℕ) → w ≡ u → (v : ℕ) × (u ≡ suc v) × Has (theirs n lines room) t v b c
+    some c None p e w q = absurd (omega (arith, e, no_lead p))
+    some c (Some i) p e zero q = absurd (omega (arith, e, no_lead (l.none (sym q))))
+    some c (Some i) p e (suc v) q =
+        let k : lead_at room i ≡ c = omega (arith, lead_is i p, e) in
+        (v, sym q, subst (Has (theirs n lines room) t v b) k (line-has t v b i (omega (arith, q, small)) two (l.there i p) (found-start i v p (sym q))))
 
     -- it leads where the branch asked for leads
-    pub line-leads : Leads (theirs n lines room) t u b (lead_number room lines j)
+    pub line-leads : Leads (theirs n lines room) t u b (lead_number room j)
     line-leads = record {
-      none = λ e. no_lead (omega (arith, l.none e));
-      all = λ v c e h.
-          let r = has-line t v b c h in
-          let q : j ≡ r.0 = only v e r.0 r.1 r.2 in
-          lead_is (omega (arith, r.1)) ∙ ap suc (ap (lead_at room) q ∙ r.3);
-      some = λ c e. some c (dec_lt j lines) e u refl;
+      none = λ e. no_lead (l.none e);
+      all = λ v c e h. let r = has-line t v b c h in lead_is r.0 (only v e r.0 r.1 r.2) ∙ ap suc r.3;
+      some = λ c e. some c j refl e u refl;
     }

@@ -1,12 +1,12 @@
 -- The walk to the earliest word that tells: one section, and all of them.
-use borrow.Author.Tests.{eq-eqb, le-ltb, lt-ltb, ne_eqb}
+use borrow.Author.Tests.{eq-eqb, ne_eqb}
 use lib.Bits.{bit_xor, xor_lt}
 use lib.Dec.{eqb}
 use lib.ListN.{length}
 use mathlib.Core.Bool.{Bool, false, true}
 use mathlib.Core.List.{List}
 use mathlib.Core.Path.{ap, subst, sym, ◌∙◌, ◌≡◌}
-use native.Mathlib.Decide.{dec_lt, ℕ_discrete}
+use native.Mathlib.Decide.{ℕ_discrete}
 use native.Mathlib.Nat.{add-mul, mul_assoc, mul_comm, one-mul, pow-suc, zero-mul}
 use native.Mathlib.Omega.{arith}
 use Prim.Native.Nat.{◌*◌, ◌+◌, ◌-◌, ◌<◌, ◌^◌, suc, zero, ℕ, ◌≤◌}
@@ -22,15 +22,13 @@ use Rattle.judging.proofs.Theirs.{line-leads}
 use Rattle.judging.specs.declared.walking.Place.{Place}
 use Rattle.judging.specs.Ours.{Small, follows, ours}
 use Rattle.judging.specs.Room.{Holds, LineFrom, Within, lead_number, theirs, told_number}
+use Rattle.std.proofs.Common.{None, Option, Some, refl}
 use Rattle.judging.specs.Steps.{SteppedTo, Stepping}
 use Rattle.judging.specs.Ways.{Differs, From, Leads, Same}
 
-lead-most : (n : ℕ) (room : List ℕ) (lines : ℕ) → Holds n lines room → (j : ℕ) → lead_number room lines j ≤ 1024
-lead-most n room lines h j = go (dec_lt j lines)
-  where
-    go : Dec (j < lines) → lead_number room lines j ≤ 1024
-    go (yes d) = rw (lt-ltb j lines d) (omega (arith, h.leads j d))
-    go (no d) = rw (le-ltb j lines (omega (arith, d))) (omega arith)
+lead-most : (n : ℕ) (room : List ℕ) (lines : ℕ) → Holds n lines room → (j : Option ℕ) → ((i : ℕ) → j ≡ Some i → i < lines) → lead_number room j ≤ 1024
+lead-most n room lines h None l = omega arith
+lead-most n room lines h (Some j) l = omega (arith, h.leads j (l j refl))
 
 -- what looking up a line and following a branch of ours ask
 module _ {rows : List ℕ} {mask n : ℕ} {room : List ℕ} {lines t u y : ℕ} (p : Stepping rows mask n room lines t u y) where
@@ -62,48 +60,48 @@ module _ (rows : List ℕ) (mask n : ℕ) (room : List ℕ) (lines t u y : ℕ) 
       )
 
   -- theirs
-  their-leads : (b j : ℕ) → b < 2 → LineFrom room lines t u b j → Leads (theirs n lines room) t u b (lead_number room lines j)
+  their-leads : (b : ℕ) (j : Option ℕ) → b < 2 → LineFrom room lines t u b j → Leads (theirs n lines room) t u b (lead_number room j)
   their-leads b j two l = line-leads n lines room p.asking.ready.holds t u b j p.theirs_small two l
 
-  module _ (j0 z0 : ℕ) (l0 : LineFrom room lines t u 0 j0) (e0 : z0 ≡ follows c y (bit_xor 0 (bit mask t))) where
+  module _ (j0 : Option ℕ) (z0 : ℕ) (l0 : LineFrom room lines t u 0 j0) (e0 : z0 ≡ follows c y (bit_xor 0 (bit mask t))) where
     -- what the ways with 0 tell
-    told-zero : told_number room lines j0 ≡ z0 → Same (theirs n lines room) (ours rows mask) (n - suc t) (suc t) (lead_number room lines j0) z0
+    told-zero : told_number room j0 ≡ z0 → Same (theirs n lines room) (ours rows mask) (n - suc t) (suc t) (lead_number room j0) z0
     told-zero q =
         (line-told p.asking.ready.plate room lines p.asking.ready.holds t p.before (p.asking.told p.before) u 0 j0 p.theirs_small (omega arith) l0
         ).to z0 (our-branch-leads 0 z0 (omega arith) e0).1 q
 
-    zero-told : Same (theirs n lines room) (ours rows mask) (n - suc t) (suc t) (lead_number room lines j0) z0 → told_number room lines j0 ≡ z0
+    zero-told : Same (theirs n lines room) (ours rows mask) (n - suc t) (suc t) (lead_number room j0) z0 → told_number room j0 ≡ z0
     zero-told q =
         (line-told p.asking.ready.plate room lines p.asking.ready.holds t p.before (p.asking.told p.before) u 0 j0 p.theirs_small (omega arith) l0
         ).from z0 (our-branch-leads 0 z0 (omega arith) e0).1 q
 
     -- they differ: the walk takes 0
-    pub step-zero : (told_number room lines j0 ≡ z0 → ⊥) → (lead : ℕ) → lead ≡ lead_number room lines j0
+    pub step-zero : (told_number room j0 ≡ z0 → ⊥) → (lead : ℕ) → lead ≡ lead_number room j0
         → SteppedTo (theirs n lines room) (ours rows mask) n t u y (record { theirs = lead; ours = z0; bit = 0 })
     step-zero d lead e = subst (λ (k : ℕ). SteppedTo (theirs n lines room) (ours rows mask) n t u y (record { theirs = k; ours = z0; bit = 0 })) (sym e) (record {
-      theirs_small = lead-most n room lines p.asking.ready.holds j0;
+      theirs_small = lead-most n room lines p.asking.ready.holds j0 l0.there;
       ours_small = (our-branch-leads 0 z0 (omega arith) e0).1;
       bit_small = omega arith;
       apart = λ a s. d (zero-told s);
       on = λ r s a f. subst (λ (k : ℕ). Differs (theirs n lines room) (ours rows mask) k t u y (r * 2 + 0) s) one_more
-          (differs-on (theirs n lines room) (ours rows mask) (n - suc t) t u y (lead_number room lines j0) z0 0 (lead_number room lines j0) z0 r s (omega arith)
+          (differs-on (theirs n lines room) (ours rows mask) (n - suc t) t u y (lead_number room j0) z0 0 (lead_number room j0) z0 r s (omega arith)
           (their-leads 0 j0 (omega arith) l0) (our-branch-leads 0 z0 (omega arith) e0).0 (λ q. absurd (omega (arith, q)))
           (their-leads 0 j0 (omega arith) l0) (our-branch-leads 0 z0 (omega arith) e0).0 f);
     })
 
     -- they are the same: it takes 1
-    pub step-one : told_number room lines j0 ≡ z0 → (j1 z1 lead : ℕ) → LineFrom room lines t u 1 j1 → z1 ≡ follows c y (bit_xor 1 (bit mask t)) → lead ≡ lead_number room lines j1
+    pub step-one : told_number room j0 ≡ z0 → (j1 : Option ℕ) (z1 lead : ℕ) → LineFrom room lines t u 1 j1 → z1 ≡ follows c y (bit_xor 1 (bit mask t)) → lead ≡ lead_number room j1
         → SteppedTo (theirs n lines room) (ours rows mask) n t u y (record { theirs = lead; ours = z1; bit = 1 })
     step-one q j1 z1 lead l1 e1 e = subst (λ (k : ℕ). SteppedTo (theirs n lines room) (ours rows mask) n t u y (record { theirs = k; ours = z1; bit = 1 })) (sym e) (record {
-      theirs_small = lead-most n room lines p.asking.ready.holds j1;
+      theirs_small = lead-most n room lines p.asking.ready.holds j1 l1.there;
       ours_small = (our-branch-leads 1 z1 (omega arith) e1).1;
       bit_small = omega arith;
       apart = λ a s. a (subst (λ (k : ℕ). Same (theirs n lines room) (ours rows mask) k t u y) one_more
-          (same-both (theirs n lines room) (ours rows mask) (n - suc t) t u (lead_number room lines j0) (lead_number room lines j1)
+          (same-both (theirs n lines room) (ours rows mask) (n - suc t) t u (lead_number room j0) (lead_number room j1)
           (their-leads 0 j0 (omega arith) l0) (their-leads 1 j1 (omega arith) l1) y z0 z1
           (our-branch-leads 0 z0 (omega arith) e0).0 (our-branch-leads 1 z1 (omega arith) e1).0 (told-zero q) s));
       on = λ r s a f. subst (λ (k : ℕ). Differs (theirs n lines room) (ours rows mask) k t u y (r * 2 + 1) s) one_more
-          (differs-on (theirs n lines room) (ours rows mask) (n - suc t) t u y (lead_number room lines j0) z0 1 (lead_number room lines j1) z1 r s (omega arith)
+          (differs-on (theirs n lines room) (ours rows mask) (n - suc t) t u y (lead_number room j0) z0 1 (lead_number room j1) z1 r s (omega arith)
           (their-leads 0 j0 (omega arith) l0) (our-branch-leads 0 z0 (omega arith) e0).0 (λ x. told-zero q)
           (their-leads 1 j1 (omega arith) l1) (our-branch-leads 1 z1 (omega arith) e1).0 f);
     })

@@ -42,6 +42,10 @@ AllMarked lines room room' i = (n : ℕ) → Holds n lines room → Marked n lin
 
 -- ---- counted lines
 
+-- c of m places pass, by each test that the answers R are those of
+abbrev pub Passing : ℕ → (ℕ → Bool → Type 0) → ℕ → Type 0
+Passing m R c = (P : ℕ → Bool) → ((j : ℕ) (b : Bool) → j < m → R j b → b ≡ P j) → c ≡ count m P
+
 -- line i is of section t and on a full path
 abbrev pub used_test : List ℕ → ℕ → ℕ → Bool
 used_test room t i = cond (eqb (start_at room i / 2048) t) (cond (eqb (mark_at room i) 1) (ltb 0 (told_at room i)) false) false

@@ -1,5 +1,5 @@
 -- The trellis of a plate's rows and mask, by numbers: 0 is no state, and each state is one more than its number.
-use Rattle.std.specs.Prelude.{eqb, Bool, false, cond, true, List, ◌≡◌, ◌<◌, ◌^◌, suc, zero, ℕ, ◌≤◌}
+use Rattle.std.specs.Prelude.{eqb, Bool, false, cond, true, List, ◌≡◌, ◌<◌, ◌^◌, suc, zero, ℕ, ◌≤◌, Option, Some, None}
 use Rattle.plates.specs.declared.Plate.{Plate}
 use Rattle.plates.specs.Prepare.{rows_of}
 use Rattle.plates.specs.Sound.{Sound}
@@ -7,8 +7,6 @@ use Rattle.trellises.specs.Following.{next_of}
 use Rattle.trellises.specs.Graph.{Graph}
 use Rattle.trellises.specs.Masking.{masked}
 use Rattle.trellises.specs.States.{trellis}
-use Rattle.trellises.specs.declared.Next.{Next}
-use Rattle.trellises.specs.declared.Next.TheVariants.{State, NoBranch, Refused}
 use Rattle.trellises.specs.declared.Section.{Section}
 use Rattle.words.specs.Ends.{firsts, lasts}
 
@@ -23,10 +21,9 @@ pub record OfPlate (rows : List ℕ) (mask n : ℕ) : Type 0 where
 abbrev pub ours : List ℕ → ℕ → Graph
 ours rows mask = masked mask (trellis rows (firsts rows) (lasts rows))
 
-abbrev pub number_of : Next → ℕ
-number_of (State s) = suc s
-number_of NoBranch = 0
-number_of (Refused q) = 0
+abbrev pub number_of : Option ℕ → ℕ
+number_of (Some s) = suc s
+number_of None = 0
 
 -- where the branch of the code with a bit leads
 abbrev pub follows : Section → ℕ → ℕ → ℕ

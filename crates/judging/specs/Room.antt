@@ -1,8 +1,7 @@
 -- The working room, four numbers a line: the start of its branch (depth, state and bit as one number), the state that it leads to, the
 -- number of ours that has the same ways to the end as that state, and a mark.
-use Rattle.std.specs.Prelude.{eqb, ltb, get_or, length, Bool, cond, List, [], ◌∷◌, ◌⊎◌, ◌≡◌, ◌%◌, ◌*◌, ◌+◌, ◌-◌, ◌/◌, ◌<◌, suc, zero, ℕ, ◌≤◌}
+use Rattle.std.specs.Prelude.{eqb, get_or, length, Bool, None, Option, Some, List, [], ◌∷◌, ◌⊎◌, ◌≡◌, ◌%◌, ◌*◌, ◌+◌, ◌-◌, ◌/◌, ◌<◌, suc, zero, ℕ, ◌≤◌}
 use Rattle.sheets.specs.declared.listed.Branch.{Branch}
-use Rattle.sheets.specs.declared.listed.BranchLine.{BranchLine}
 use Rattle.trellises.specs.Graph.{Graph}
 use Rattle.judging.specs.Listing.{branch_at, listed_graph}
 use Rattle.judging.specs.Ours.{ours}
@@ -23,7 +22,7 @@ pub record InRange (b : Branch) : Type 0 where
   pub start : Within b.depth b.from b.bit
   pub to_small : b.to < 1024
 
-abbrev pub AllInRange : List BranchLine → Type 0
+abbrev pub AllInRange : List (Option Branch) → Type 0
 AllInRange es = (i : ℕ) → i < length es → InRange (branch_at es i)
 
 -- ---- the places of a line
@@ -45,7 +44,7 @@ pub record Put (room : List ℕ) (line : ℕ) (b : Branch) (room' : List ℕ) : 
   pub others : (k : ℕ) → (k < 4 * line) ⊎ (4 * line + 4 ≤ k) → get_or room' k 0 ≡ get_or room k 0
 
 -- the branches of the first m lines stand in their places
-pub record Stored (es : List BranchLine) (m : ℕ) (room : List ℕ) : Type 0 where
+pub record Stored (es : List (Option Branch)) (m : ℕ) (room : List ℕ) : Type 0 where
   pub start : (i : ℕ) → i < m → start_at room i ≡ key_of (branch_at es i).depth (branch_at es i).from (branch_at es i).bit
   pub lead : (i : ℕ) → i < m → lead_at room i ≡ (branch_at es i).to
 
@@ -76,17 +75,24 @@ pub record Holds (n lines : ℕ) (room : List ℕ) : Type 0 where
 abbrev pub key_test : List ℕ → ℕ → ℕ → Bool
 key_test room key j = eqb (start_at room j) key
 
--- the line of the branch with a bit from a number, and the number of lines where there is none
-pub record LineFrom (room : List ℕ) (lines t u b r : ℕ) : Type 0 where
-  pub none : u ≡ 0 → r ≡ lines
+-- the line of the branch with a bit from a number
+pub record LineFrom (room : List ℕ) (lines t u b : ℕ) (r : Option ℕ) : Type 0 where
+  pub none : u ≡ 0 → r ≡ None
   pub some : (v : ℕ) → u ≡ suc v → FirstFound lines (key_test room (key_of t v b)) r
+  pub there : (j : ℕ) → r ≡ Some j → j < lines
+
+-- a line that is found has its four places
+abbrev pub InRoom : List ℕ → Option ℕ → Type 0
+InRoom room line = (j : ℕ) → line ≡ Some j → 4 * j + 4 ≤ length room
 
 -- where the branch of a line leads, and what is told of it; 0 where there is no such line
-abbrev pub lead_number : List ℕ → ℕ → ℕ → ℕ
-lead_number room lines j = cond (ltb j lines) (suc (lead_at room j)) 0
+abbrev pub lead_number : List ℕ → Option ℕ → ℕ
+lead_number room (Some j) = suc (lead_at room j)
+lead_number room None = 0
 
-abbrev pub told_number : List ℕ → ℕ → ℕ → ℕ
-told_number room lines j = cond (ltb j lines) (told_at room j) 0
+abbrev pub told_number : List ℕ → Option ℕ → ℕ
+told_number room (Some j) = told_at room j
+told_number room None = 0
 
 -- what is told at a line is right
 pub record ToldAt (g : Graph) (rows : List ℕ) (mask n : ℕ) (room : List ℕ) (j : ℕ) : Type 0 where

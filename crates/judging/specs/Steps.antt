@@ -1,10 +1,10 @@
 -- What the calls between the room and the judgement ask and promise.
-use Rattle.std.specs.Prelude.{length, Bool, true, false, List, ◌≡◌, ◌*◌, ◌+◌, ◌-◌, ◌<◌, suc, ℕ, ◌≤◌}
+use Rattle.std.specs.Prelude.{length, Bool, true, false, List, ◌≡◌, ◌*◌, ◌+◌, ◌-◌, ◌<◌, suc, ℕ, ◌≤◌, Ok}
 use Rattle.sheets.specs.Listed.{entries}
 use Rattle.trellises.specs.Graph.{Graph}
 use Rattle.judging.specs.Clean.{Clean}
 use Rattle.judging.specs.declared.Judged.{Judged}
-use Rattle.judging.specs.declared.Judged.TheVariants.{NotSpelled, Refused, Right, SpelledWrongly}
+use Rattle.judging.specs.declared.Judged.TheVariants.{NotSpelled, Right, SpelledWrongly}
 use Rattle.judging.specs.declared.Judgement.{Judgement}
 use Rattle.judging.specs.declared.walking.Place.{Place}
 use Rattle.judging.specs.Ours.{OfPlate, ours}
@@ -63,7 +63,6 @@ abbrev pub Found : Graph → Graph → ℕ → Judged → Type 0
 Found A B n Right = Same A B n 0 1 1
 Found A B n (SpelledWrongly w) = Differs A B n 0 1 1 w true
 Found A B n (NotSpelled w) = Differs A B n 0 1 1 w false
-Found A B n (Refused q) = ⊥
 
 -- ---- the surplus
 
@@ -79,9 +78,10 @@ abbrev pub SurplusFor : Judged → List ℕ → ℕ → List ℕ → ℕ → Typ
 SurplusFor Right rows n room lines = SurplusAsks rows n room lines
 SurplusFor (SpelledWrongly w) rows n room lines = Unit {0}
 SurplusFor (NotSpelled w) rows n room lines = Unit {0}
-SurplusFor (Refused q) rows n room lines = Unit {0}
 
 -- the verdict that is found, with its surplus
 pub record JudgedTo (g : Graph) (rows : List ℕ) (mask n : ℕ) (r : Judgement) : Type 0 where
-  pub found : Found g (ours rows mask) n r.verdict
+  pub judged : Judged
+  pub is : r.verdict ≡ Ok judged
+  pub found : Found g (ours rows mask) n judged
   pub surplus : SurplusIn g n rows r.verdict r.states r.branches

@@ -1,11 +1,12 @@
 -- The surplus of a right listing over our trellis: states by depth and branches by section, those on full paths.
-use Rattle.std.specs.Prelude.{get_or, length, replicate, List, ◌≡◌, ◌*◌, ◌+◌, ◌<◌, ◌^◌, ℕ, ◌≤◌}
+use Rattle.std.specs.Prelude.{get_or, length, replicate, List, ◌≡◌, ◌*◌, ◌+◌, ◌<◌, ◌^◌, ℕ, ◌≤◌, Result, Ok, Err}
+use Rattle.plates.specs.declared.Refusal.{Refusal}
 use Rattle.plates.specs.Profile.{live_at}
 use Rattle.trellises.specs.Graph.{Graph, Path}
 use Rattle.trellises.specs.Smallest.{active_at}
 use Rattle.words.specs.Word.{bit}
 use Rattle.judging.specs.declared.Judged.{Judged}
-use Rattle.judging.specs.declared.Judged.TheVariants.{NotSpelled, Refused, Right, SpelledWrongly}
+use Rattle.judging.specs.declared.Judged.TheVariants.{NotSpelled, Right, SpelledWrongly}
 
 -- c numbers have the property P: a list of them without repetition, c long, has each
 pub record Number (P : ℕ → Type 0) (c : ℕ) : Type 0 where
@@ -37,8 +38,8 @@ pub record SurplusOver (g : Graph) (n : ℕ) (rows states branches : List ℕ) :
   pub no_section : (t : ℕ) → n ≤ t → get_or branches t 0 ≡ 0
 
 -- a right listing has its surplus, and all others none
-abbrev pub SurplusIn : Graph → ℕ → List ℕ → Judged → List ℕ → List ℕ → Type 0
-SurplusIn g n rows Right states branches = SurplusOver g n rows states branches
-SurplusIn g n rows (SpelledWrongly w) states branches = (states ≡ replicate 65 0) × (branches ≡ replicate 64 0)
-SurplusIn g n rows (NotSpelled w) states branches = (states ≡ replicate 65 0) × (branches ≡ replicate 64 0)
-SurplusIn g n rows (Refused q) states branches = (states ≡ replicate 65 0) × (branches ≡ replicate 64 0)
+abbrev pub SurplusIn : Graph → ℕ → List ℕ → Result Judged Refusal → List ℕ → List ℕ → Type 0
+SurplusIn g n rows (Ok Right) states branches = SurplusOver g n rows states branches
+SurplusIn g n rows (Ok (SpelledWrongly w)) states branches = (states ≡ replicate 65 0) × (branches ≡ replicate 64 0)
+SurplusIn g n rows (Ok (NotSpelled w)) states branches = (states ≡ replicate 65 0) × (branches ≡ replicate 64 0)
+SurplusIn g n rows (Err q) states branches = (states ≡ replicate 65 0) × (branches ≡ replicate 64 0)

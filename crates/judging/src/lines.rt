@@ -4,15 +4,15 @@ ghost use Rattle.sheets.specs.Listed.{entries};
 ghost use Rattle.judging.specs.Listing.{branch_in, clash, clashes, faulty, faulty_at, repeats_at};
 ghost use Rattle.judging.specs.Working.{FirstFound};
 
-use sheets::listed::{Branch, BranchLine, read_entry};
+use sheets::listed::{Branch, read_entry};
 
 // The branch of a line, all 0 where it is bad.
-pub fn branch_in(line: BranchLine) -> Branch
+pub fn branch_in(line: Option<Branch>) -> Branch
     ensures { result ≡ branch_in line }
 {
     match line {
-        BranchLine::Is(branch) => branch,
-        BranchLine::Bad => Branch {
+        Some(branch) => branch,
+        None => Branch {
             depth: 0,
             from: 0,
             bit: 0,
@@ -21,7 +21,7 @@ pub fn branch_in(line: BranchLine) -> Branch
     }
 }
 
-// How many lines there are.
+// How many lines there are. (A `while`, here and below: each turn begins where the line before it was found to end.)
 pub fn count_lines(text: &[u8], n: usize) -> usize
     ensures { result ≡ length (entries n text.now) }
 {
@@ -36,17 +36,17 @@ pub fn count_lines(text: &[u8], n: usize) -> usize
 }
 
 // Whether a line is bad, or of a lower depth than the line before it.
-fn is_faulty(line: BranchLine, before: usize) -> bool
+fn is_faulty(line: Option<Branch>, before: usize) -> bool
     ensures { result ≡ faulty line before }
 {
     match line {
-        BranchLine::Is(branch) => branch.depth < before,
-        BranchLine::Bad => true,
+        Some(branch) => branch.depth < before,
+        None => true,
     }
 }
 
-// The first faulty line, from 0; the number of lines where there is none.
-pub fn first_faulty(text: &[u8], n: usize) -> usize
+// The first faulty line, from 0.
+pub fn first_faulty(text: &[u8], n: usize) -> Option<usize>
     ensures { FirstFound (length (entries n text.now)) (faulty_at (entries n text.now)) result }
 {
     let mut i: usize = 0;
@@ -56,27 +56,21 @@ pub fn first_faulty(text: &[u8], n: usize) -> usize
         let entry = read_entry(text, at, n);
         let line = entry.line;
         if is_faulty(line, before) {
-            return i;
+            return Some(i);
         }
         let branch = branch_in(line);
         before = branch.depth;
         at = entry.next;
         i += 1;
     }
-    i
+    None
 }
 
 // Whether two branches leave one state of one depth with one bit.
 fn clashing(a: Branch, b: Branch) -> bool
     ensures { result ≡ clash a b }
 {
-    if a.depth != b.depth {
-        return false;
-    }
-    if a.from != b.from {
-        return false;
-    }
-    a.bit == b.bit
+    a.depth == b.depth && a.from == b.from && a.bit == b.bit
 }
 
 // Whether one of the first lines, as many as asked, clashes with a branch.
@@ -85,8 +79,7 @@ fn clashes_among(text: &[u8], n: usize, first: usize, branch: Branch) -> bool
     ensures { result ≡ clashes (entries n text.now) first branch }
 {
     let mut at: usize = 0;
-    let mut left = first;
-    while 0 < left {
+    for _left in (0..first).rev() {
         let entry = read_entry(text, at, n);
         let line = entry.line;
         let other = branch_in(line);
@@ -94,13 +87,12 @@ fn clashes_among(text: &[u8], n: usize, first: usize, branch: Branch) -> bool
             return true;
         }
         at = entry.next;
-        left -= 1;
     }
     false
 }
 
-// The first line that repeats one before it, from 0; the number of lines where there is none.
-pub fn first_repeating(text: &[u8], n: usize) -> usize
+// The first line that repeats one before it, from 0.
+pub fn first_repeating(text: &[u8], n: usize) -> Option<usize>
     ensures { FirstFound (length (entries n text.now)) (repeats_at (entries n text.now)) result }
 {
     let mut i: usize = 0;
@@ -110,10 +102,10 @@ pub fn first_repeating(text: &[u8], n: usize) -> usize
         let line = entry.line;
         let branch = branch_in(line);
         if clashes_among(text, n, i, branch) {
-            return i;
+            return Some(i);
         }
         at = entry.next;
         i += 1;
     }
-    i
+    None
 }

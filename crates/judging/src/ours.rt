@@ -1,38 +1,10 @@
 // The trellis of the plate by numbers: 0 is no state, and each state is one more than its number.
 ghost use Rattle.std.specs.Prelude.{◌≡◌, ◌<◌, ◌^◌, ◌≤◌, suc};
-ghost use Rattle.trellises.specs.Numbers.{leads_to, without};
 ghost use Rattle.judging.specs.Ours.{Classed, Small, follows, suits};
 ghost use Rattle.judging.specs.Working.{FirstFound};
 
 use trellises::Section;
-
-// The weight of a place.
-pub fn weight_of(place: usize) -> usize
-    requires { place < 64 }
-    ensures { result ≡ 2 ^ place }
-{
-    1usize << place
-}
-
-// A number with the digit at a place taken out.
-fn without_digit(number: usize, place: usize) -> usize
-    requires { place < 64 }
-    ensures { result ≡ without place number }
-{
-    let weight = weight_of(place);
-    number / weight / 2 * weight + number % weight
-}
-
-// The state that a branch leads to: its number, without the digit of the row that ends.
-fn end_of(section: Section, number: usize) -> usize
-    requires { section.ending < 64 }
-    ensures { result ≡ leads_to section number }
-{
-    if section.ends {
-        return without_digit(number, section.ending);
-    }
-    number
-}
+use trellises::places::{next_state, weight_of};
 
 // Where the branch with a bit leads from one of our numbers.
 pub fn follow(section: Section, y: usize, bit: u64) -> usize
@@ -45,11 +17,11 @@ pub fn follow(section: Section, y: usize, bit: u64) -> usize
     }
     let state = y - 1;
     if words::parity_with(state as u64, section.column) == bit {
-        return end_of(section, state) + 1;
+        return next_state(section, state) + 1;
     }
     if section.begins {
         let weight = weight_of(section.live);
-        return end_of(section, state + weight) + 1;
+        return next_state(section, state + weight) + 1;
     }
     0
 }
@@ -60,26 +32,21 @@ fn suiting(section: Section, y: usize, zero: usize, one: usize) -> bool
     requires y_bound { y ≤ 2 ^ section.live }
     ensures { result ≡ suits section y zero one }
 {
-    if follow(section, y, 0) != zero {
-        return false;
-    }
-    follow(section, y, 1) == one
+    follow(section, y, 0) == zero && follow(section, y, 1) == one
 }
 
-// The first state whose branches lead where asked; the number of states where there is none.
-fn first_suiting(section: Section, zero: usize, one: usize) -> usize
+// The first state whose branches lead where asked.
+fn first_suiting(section: Section, zero: usize, one: usize) -> Option<usize>
     requires { Small section }
     ensures { FirstFound (2 ^ section.live) (λ a. suits section (suc a) zero one) result }
 {
     let states = weight_of(section.live);
-    let mut a: usize = 0;
-    while a < states {
+    for a in 0..states {
         if suiting(section, a + 1, zero, one) {
-            return a;
+            return Some(a);
         }
-        a += 1;
     }
-    a
+    None
 }
 
 // The number of ours whose branches lead where asked: none for none, and a number beyond all states where there is no such state.
@@ -87,15 +54,8 @@ pub fn class_of(section: Section, zero: usize, one: usize) -> usize
     requires { Small section }
     ensures { Classed section zero one result }
 {
-    let a = first_suiting(section, zero, one);
-    if a < weight_of(section.live) {
+    if let Some(a) = first_suiting(section, zero, one) {
         return a + 1;
     }
-    if zero != 0 {
-        return 8192;
-    }
-    if one != 0 {
-        return 8192;
-    }
-    0
+    if zero == 0 && one == 0 { 0 } else { 8192 }
 }

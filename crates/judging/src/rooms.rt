@@ -1,8 +1,8 @@
 // The working room, four numbers a line: the start of its branch (depth, state and bit as one number), the state that it leads to, the
 // number of ours that has the same ways to the end as that state, and a mark.
-ghost use Rattle.std.specs.Prelude.{length, replicate, ◌≡◌, ℕ, ◌*◌, ◌+◌, ◌-◌, ◌<◌, ◌≤◌};
+ghost use Rattle.std.specs.Prelude.{length, Some, replicate, ◌≡◌, ℕ, ◌*◌, ◌+◌, ◌-◌, ◌<◌, ◌≤◌};
 ghost use Rattle.sheets.specs.Listed.{entries};
-ghost use Rattle.judging.specs.Room.{AllInRange, InRange, LineFrom, Put, Stored, Within, key_of, key_test, lead_at, lead_number, told_number};
+ghost use Rattle.judging.specs.Room.{AllInRange, InRange, InRoom, LineFrom, Put, Stored, Within, key_of, key_test, lead_at, lead_number, told_number};
 ghost use Rattle.judging.specs.Working.{FirstFound};
 
 use crate::lines::branch_in;
@@ -29,7 +29,7 @@ fn put(room: &mut [u64], line: usize, branch: Branch)
     room[at + 1] = to;
 }
 
-// The branches of all lines into the room.
+// The branches of all lines into the room. (A `while`: each turn begins where the line before it was found to end.)
 pub fn fill(text: &[u8], n: usize, room: &mut [u64])
     requires room_len { length room.old ≡ 4 * length (entries n text.now) }
     requires all_in_range { AllInRange (entries n text.now) }
@@ -48,65 +48,51 @@ pub fn fill(text: &[u8], n: usize, room: &mut [u64])
     }
 }
 
-// The first line with a start; the number of lines where there is none.
-fn find(room: &[u64], lines: usize, key: u64) -> usize
+// The first line with a start.
+fn find(room: &[u64], lines: usize, key: u64) -> Option<usize>
     requires { length room.now ≡ 4 * lines }
     ensures { FirstFound lines (key_test room.now key) result }
 {
-    let mut j: usize = 0;
-    while j < lines {
+    for j in 0..lines {
         if room[4 * j] == key {
-            return j;
+            return Some(j);
         }
-        j += 1;
     }
-    j
+    None
 }
 
-// The line of the branch with a bit from a number of theirs; the number of lines where there is none.
-pub fn line_from(room: &[u64], lines: usize, t: usize, u: usize, bit: usize) -> usize
+// The line of the branch with a bit from a number of theirs.
+pub fn line_from(room: &[u64], lines: usize, t: usize, u: usize, bit: usize) -> Option<usize>
     requires room_len { length room.now ≡ 4 * lines }
     requires within { Within t (u - 1) bit }
     ensures { LineFrom room.now lines t u bit result }
 {
     if u == 0 {
-        return lines;
+        return None;
     }
     let key = key_of(t, u - 1, bit);
     find(room, lines, key)
 }
 
 // Where the branch of a line leads, as a number of theirs.
-pub fn lead_number(room: &[u64], lines: usize, j: usize) -> usize
-    requires room_len { length room.now ≡ 4 * lines }
-    requires by_index { (i : ℕ) → i < lines → lead_at room.now i < 1024 }
-    ensures { result ≡ lead_number room.now lines j }
+pub fn lead_number(room: &[u64], line: Option<usize>) -> usize
+    requires in_room { InRoom room.now line }
+    requires small { (j : ℕ) → line ≡ Some j → lead_at room.now j < 1024 }
+    ensures { result ≡ lead_number room.now line }
 {
-    if j < lines {
-        let to = room[4 * j + 1] as usize;
-        return to + 1;
+    match line {
+        Some(j) => room[4 * j + 1] as usize + 1,
+        None => 0,
     }
-    0
 }
 
 // What is told of the state that the branch of a line leads to.
-pub fn told_number(room: &[u64], lines: usize, j: usize) -> usize
-    requires { length room.now ≡ 4 * lines }
-    ensures { result ≡ told_number room.now lines j }
+pub fn told_number(room: &[u64], line: Option<usize>) -> usize
+    requires { InRoom room.now line }
+    ensures { result ≡ told_number room.now line }
 {
-    if j < lines {
-        return room[4 * j + 2] as usize;
-    }
-    0
-}
-
-// All of a room put to zero.
-pub fn clear(room: &mut [u64])
-    ensures { room.new ≡ replicate (length room.old) 0 }
-{
-    let mut i = 0;
-    while i < room.len() {
-        room[i] = 0;
-        i += 1;
+    match line {
+        Some(j) => room[4 * j + 2] as usize,
+        None => 0,
     }
 }

@@ -1,5 +1,5 @@
 // By how much a right listing has more states and branches than our trellis, of those on full paths.
-ghost use Rattle.std.specs.Prelude.{◌+◌, ◌≤◌, replicate, ◌≡◌};
+ghost use Rattle.std.specs.Prelude.{◌+◌, ◌≤◌, replicate, ◌≡◌, Ok};
 ghost use Rattle.trellises.specs.Numbers.{branch_count};
 ghost use Rattle.judging.specs.Ours.{Small};
 ghost use Rattle.judging.specs.Room.{theirs};
@@ -8,9 +8,10 @@ ghost use Rattle.judging.specs.Surplus.{SurplusOver, SurplusIn};
 ghost use Rattle.judging.specs.declared.Judged.TheVariants.{Right};
 
 use crate::marks::{count_first, count_used};
-use crate::ours::weight_of;
 use crate::{Judged, Judgement};
+use plates::Refusal;
 use trellises::Section;
+use trellises::places::weight_of;
 
 // How many branches a section of ours has.
 fn branch_number(section: Section) -> usize
@@ -33,7 +34,7 @@ fn over(count: usize, own: usize) -> u64
 }
 
 // A verdict with no surplus beside it.
-pub fn without_surplus(verdict: Judged) -> Judgement
+pub fn without_surplus(verdict: Result<Judged, Refusal>) -> Judgement
     ensures { (result.verdict ≡ verdict) × (result.states ≡ replicate 65 0) × (result.branches ≡ replicate 64 0) }
 {
     Judgement {
@@ -46,12 +47,11 @@ pub fn without_surplus(verdict: Judged) -> Judgement
 // The surplus of a right listing, whose lines are marked.
 fn surplus_of(rows: &[u64], n: usize, room: &[u64], lines: usize) -> Judgement
     requires { SurplusAsks rows.now n room.now lines }
-    ensures { (result.verdict ≡ Right) × SurplusOver (theirs n lines room.now) n rows.now result.states result.branches }
+    ensures { (result.verdict ≡ Ok Right) × SurplusOver (theirs n lines room.now) n rows.now result.states result.branches }
 {
     let mut states = [0u64; 65];
     let mut branches = [0u64; 64];
-    let mut t: usize = 0;
-    while t < n {
+    for t in 0..n {
         let section = trellises::sections::section_of(rows, t);
         let depth = t as u64;
         let firsts = count_first(room, lines, depth);
@@ -60,10 +60,9 @@ fn surplus_of(rows: &[u64], n: usize, room: &[u64], lines: usize) -> Judgement
         let used = count_used(room, lines, depth);
         let number = branch_number(section);
         branches[t] = over(used, number);
-        t += 1;
     }
     Judgement {
-        verdict: Judged::Right,
+        verdict: Ok(Judged::Right),
         states,
         branches,
     }
@@ -78,12 +77,10 @@ pub fn with_surplus(
     lines: usize,
 ) -> Judgement
     requires { SurplusFor verdict rows.now n room.now lines }
-    ensures { (result.verdict ≡ verdict) × SurplusIn (theirs n lines room.now) n rows.now verdict result.states result.branches }
+    ensures { (result.verdict ≡ Ok verdict) × SurplusIn (theirs n lines room.now) n rows.now (Ok verdict) result.states result.branches }
 {
     match verdict {
         Judged::Right => surplus_of(rows, n, room, lines),
-        Judged::SpelledWrongly(word) => without_surplus(Judged::SpelledWrongly(word)),
-        Judged::NotSpelled(word) => without_surplus(Judged::NotSpelled(word)),
-        Judged::Refused(refusal) => without_surplus(Judged::Refused(refusal)),
+        Judged::SpelledWrongly(_) | Judged::NotSpelled(_) => without_surplus(Ok(verdict)),
     }
 }

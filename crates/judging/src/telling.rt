@@ -32,9 +32,9 @@ pub fn tell(
     // the branch of theirs with this bit answers to the code's with 0
     let flip = words::bit_at(mask, t) as usize;
     let first = line_from(room, lines, t, state + 1, flip);
-    let zero = told_number(room, lines, first);
+    let zero = told_number(room, first);
     let second = line_from(room, lines, t, state + 1, 1 ^ flip);
-    let one = told_number(room, lines, second);
+    let one = told_number(room, second);
     class_of(section, zero, one)
 }
 
@@ -43,9 +43,7 @@ pub fn tell_all(rows: &[u64], mask: u64, n: usize, room: &mut [u64], lines: usiz
     requires { Ready rows.now mask n room.old lines }
     ensures { AllTold n lines rows.now mask room.old room.new }
 {
-    let mut i = lines;
-    while 0 < i {
-        i -= 1;
+    for i in (0..lines).rev() {
         let at = 4 * i;
         let depth = (room[at] / 2048) as usize;
         let state = room[at + 1] as usize;

@@ -7,7 +7,7 @@ ghost use Rattle.judging.specs.Room.{theirs};
 ghost use Rattle.judging.specs.Steps.{Found, JudgedAsks, JudgedTo, VerdictAsks};
 
 use crate::marks::mark_all;
-use crate::rooms::{clear, fill};
+use crate::rooms::fill;
 use crate::surplus::with_surplus;
 use crate::telling::{tell, tell_all};
 use crate::walking::walk;
@@ -22,12 +22,7 @@ fn verdict(rows: &[u64], mask: u64, n: usize, room: &[u64], lines: usize) -> Jud
     if start == 1 {
         return Judged::Right;
     }
-    let shown = walk(rows, mask, n, room, lines);
-    let word = shown.word;
-    if shown.spelled {
-        return Judged::SpelledWrongly(word);
-    }
-    Judged::NotSpelled(word)
+    walk(rows, mask, n, room, lines)
 }
 
 // The judgement of a text of clean lines. The room is left all zero.
@@ -48,6 +43,6 @@ pub fn judged(
     let found = verdict(rows, mask, n, &*room, lines);
     mark_all(&mut *room, lines);
     let reply = with_surplus(found, rows, n, &*room, lines);
-    clear(&mut *room);
+    room.fill(0);
     reply
 }

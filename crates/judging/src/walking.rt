@@ -2,11 +2,12 @@
 ghost use Rattle.std.specs.Prelude.{◌*◌, ◌+◌, ◌<◌, ◌^◌, suc, ◌≡◌};
 ghost use Rattle.judging.specs.Ours.{ours};
 ghost use Rattle.judging.specs.Room.{theirs};
-ghost use Rattle.judging.specs.Steps.{SteppedTo, Stepping, WalkAsks};
-ghost use Rattle.judging.specs.Ways.{Differs};
+ghost use Rattle.judging.specs.Steps.{Found, SteppedTo, Stepping, WalkAsks};
 
-use crate::ours::{follow, weight_of};
+use crate::Judged;
+use crate::ours::follow;
 use crate::rooms::{lead_number, line_from, told_number};
+use trellises::places::weight_of;
 
 // Where the walk goes on: a number of theirs and one of ours, and the bit on the way there.
 #[derive(Clone, Copy)]
@@ -14,13 +15,6 @@ pub struct Place {
     pub theirs: usize,
     pub ours: usize,
     pub bit: u64,
-}
-
-// The word in which they differ, and whether the listing spells it.
-#[derive(Clone, Copy)]
-pub struct Shown {
-    pub word: u64,
-    pub spelled: bool,
 }
 
 // One section: bit 0 where the ways with 0 differ, and else bit 1. The bit of the code's branch is the mask's added to it.
@@ -40,10 +34,10 @@ fn step(
     let section = trellises::sections::section_of(rows, t);
     let flip = words::bit_at(mask, t);
     let first = line_from(room, lines, t, u, 0);
-    let told = told_number(room, lines, first);
+    let told = told_number(room, first);
     let zero = follow(section, y, flip);
     if told != zero {
-        let lead = lead_number(room, lines, first);
+        let lead = lead_number(room, first);
         return Place {
             theirs: lead,
             ours: zero,
@@ -51,7 +45,7 @@ fn step(
         };
     }
     let second = line_from(room, lines, t, u, 1);
-    let lead = lead_number(room, lines, second);
+    let lead = lead_number(room, second);
     let one = follow(section, y, 1 ^ flip);
     Place {
         theirs: lead,
@@ -71,22 +65,23 @@ fn with_bit(word: u64, t: usize, bit: u64) -> u64
     word + weight_of(t) as u64
 }
 
-// The earliest word in which the two starts differ.
-pub fn walk(rows: &[u64], mask: u64, n: usize, room: &[u64], lines: usize) -> Shown
+// The earliest word in which the two starts differ, spelled wrongly where the listing spells it.
+pub fn walk(rows: &[u64], mask: u64, n: usize, room: &[u64], lines: usize) -> Judged
     requires { WalkAsks rows.now mask n room.now lines }
-    ensures { Differs (theirs n lines room.now) (ours rows.now mask) n 0 1 1 result.word result.spelled }
+    ensures { Found (theirs n lines room.now) (ours rows.now mask) n result }
 {
     let mut word: u64 = 0;
-    let mut t: usize = 0;
     let mut u: usize = 1;
     let mut y: usize = 1;
-    while t < n {
+    for t in 0..n {
         let next = step(rows, mask, n, room, lines, t, u, y);
         word = with_bit(word, t, next.bit);
         u = next.theirs;
         y = next.ours;
-        t += 1;
     }
-    let spelled = u == 1;
-    Shown { word, spelled }
+    if u == 1 {
+        Judged::SpelledWrongly(word)
+    } else {
+        Judged::NotSpelled(word)
+    }
 }

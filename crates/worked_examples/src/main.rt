@@ -20,14 +20,7 @@ fn even_words() -> Prepared {
 fn upto(text: &[u8], stop: u8) -> usize
     ensures { result ≤ length text.now }
 {
-    let mut i: usize = 0;
-    while i < text.len() {
-        if text[i] == stop {
-            return i;
-        }
-        i += 1;
-    }
-    i
+    text.iter().position(|x| *x == stop).unwrap_or(text.len())
 }
 
 // The text before the first `stop`.
@@ -66,12 +59,11 @@ fn show_one<W: Write>(to: &mut W, words: &[u8], a: u64) -> io::Result<()> {
 
 // The surplus of states at depth 2 and of branches in section 2, the word that tells, or the refusal.
 fn show<W: Write>(to: &mut W, judgement: Judgement) -> io::Result<()> {
-    let verdict = judgement.verdict;
-    match verdict {
-        Judged::Right => show_two(to, b"\tright", judgement.states[2], judgement.branches[2]),
-        Judged::SpelledWrongly(word) => show_one(to, b"\tspelled wrongly", word),
-        Judged::NotSpelled(word) => show_one(to, b"\tnot spelled", word),
-        Judged::Refused(refusal) => show_two(
+    match judgement.verdict {
+        Ok(Judged::Right) => show_two(to, b"\tright", judgement.states[2], judgement.branches[2]),
+        Ok(Judged::SpelledWrongly(word)) => show_one(to, b"\tspelled wrongly", word),
+        Ok(Judged::NotSpelled(word)) => show_one(to, b"\tnot spelled", word),
+        Err(refusal) => show_two(
             to,
             b"\trefused",
             plates::refusal_number(refusal),
@@ -136,10 +128,8 @@ fn run_one<W: Write>(to: &mut W, text: &[u8], at: usize) -> io::Result<usize>
 // The examples of a text in turn, a hundred at most.
 fn examples<W: Write>(to: &mut W, text: &[u8]) -> io::Result<()> {
     let mut at: usize = 0;
-    let mut turns: u64 = 100;
-    while 0 < turns {
+    for _ in 0..100 {
         at = run_one(&mut *to, text, at)?;
-        turns -= 1;
     }
     Ok(())
 }

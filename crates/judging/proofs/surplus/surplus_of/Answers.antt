@@ -1,4 +1,4 @@
--- `surplus::surplus_of` meets its contract. The loop's invariant: the depths before t have their surplus. The measure is what is left.
+-- `surplus::surplus_of` meets its contract. The loop's invariant: the depths before t have their surplus.
 use native.Mathlib.Omega.{arith}
 use mathlib.Core.Path.{refl}
 use Rattle.judging.proofs.StatesTold.{section-small}
@@ -13,17 +13,12 @@ count_first-firsts-requires c =
     let k = c.requires.asks.ready.holds in
     (k.size, k.few)
 
-pub weight_of-own-requires : goal.weight_of-own-requires
-weight_of-own-requires c =
-    let l = c.loop-t in
-    let h = c.loop-t-test.true in
-    omega (arith, (section-small c.requires.asks.ready.plate l.t h c.section_of-section.result c.section_of-section.ensures).live)
-
 pub over-requires : goal.over-requires
 over-requires c =
     let l = c.loop-t in
     let h = c.loop-t-test.true in
-    omega (arith, c.weight_of-own.ensures, c.count_first-firsts.ensures, states-enough c.requires l.t h c.section_of-section.result c.section_of-section.ensures)
+    let small = section-small c.requires.asks.ready.plate l.t h c.section_of-section.result c.section_of-section.ensures in
+    omega (arith, c.weight_of-own.ensures.below (omega (arith, small.live)), c.count_first-firsts.ensures, states-enough c.requires l.t h c.section_of-section.result c.section_of-section.ensures)
 
 pub bounds-states-t : goal.bounds-states-t
 bounds-states-t c =
@@ -54,14 +49,14 @@ bounds-branches-t c =
     let h = c.loop-t-test.true in
     omega (arith, h, c.requires.asks.ready.holds.short, (l.invariant c.requires).sections)
 
-pub loop-t-smaller : goal.loop-t-smaller
-loop-t-smaller c = omega (arith, c.loop-t-test.true)
-
 pub loop-t-preserved : goal.loop-t-preserved
 loop-t-preserved c =
     let l = c.loop-t in
     let h = c.loop-t-test.true in
-    λ p. filling-on p l.t l.states l.branches (l.invariant p) h c.section_of-section.result c.section_of-section.ensures c.weight_of-own.result c.count_first-firsts.result c.branch_number-number.result c.count_used-used.result c.over.result c.over-in-loop-t.result c.weight_of-own.ensures c.count_first-firsts.ensures c.over.ensures c.branch_number-number.ensures c.count_used-used.ensures c.over-in-loop-t.ensures
+    let small = section-small c.requires.asks.ready.plate l.t h c.section_of-section.result c.section_of-section.ensures in
+    λ p. filling-on p l.t l.states l.branches (l.invariant p) h c.section_of-section.result c.section_of-section.ensures c.weight_of-own.result
+    c.count_first-firsts.result c.branch_number-number.result c.count_used-used.result c.over.result c.over-in-loop-t.result
+    (c.weight_of-own.ensures.below (omega (arith, small.live))) c.count_first-firsts.ensures c.over.ensures c.branch_number-number.ensures c.count_used-used.ensures c.over-in-loop-t.ensures
 
 pub returns : goal.returns
 returns c =

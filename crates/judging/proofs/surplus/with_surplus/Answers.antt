@@ -1,10 +1,23 @@
 -- `surplus::with_surplus` meets its contract.
-use mathlib.Core.Path.{◌∙◌, subst, sym}
+use lib.ListN.{replicate}
+use mathlib.Core.List.{List}
+use mathlib.Core.Logic.{inl, inr, ◌⊎◌}
+use mathlib.Core.Path.{ap, ◌∙◌, ◌≡◌, subst, sym}
+use Prim.Native.Nat.{ℕ}
+use Rattle.std.proofs.Common.{Ok}
 use Rattle.judging.specs.declared.Judged.{Judged}
+use Rattle.judging.specs.declared.Judged.TheVariants as J
+use Rattle.trellises.specs.Graph.{Graph}
 use Rattle.judging.specs.Room.{theirs}
 use Rattle.judging.specs.Steps.{SurplusFor}
 use Rattle.judging.specs.Surplus.{SurplusIn}
 use Rattle.judging.proofs.surplus.with_surplus.Goals as goal
+
+-- beside a verdict that is not right stands no surplus
+none_beside : (g : Graph) (n : ℕ) (rows : List ℕ) (v : Judged) (s b : List ℕ) → ((w : ℕ) × (v ≡ J.SpelledWrongly w)) ⊎ ((w : ℕ) × (v ≡ J.NotSpelled w))
+    → (s ≡ replicate 65 0) × (b ≡ replicate 64 0) → SurplusIn g n rows (Ok v) s b
+none_beside g n rows v s b (inl (w, e)) z = subst (λ (v : Judged). SurplusIn g n rows (Ok v) s b) (sym e) z
+none_beside g n rows v s b (inr (w, e)) z = subst (λ (v : Judged). SurplusIn g n rows (Ok v) s b) (sym e) z
 
 pub surplus_of-requires : goal.surplus_of-requires
 surplus_of-requires c =
@@ -13,19 +26,10 @@ surplus_of-requires c =
 pub returns-in-Right : goal.returns-in-Right
 returns-in-Right c =
     let e = c.in-Right.is in
-    (c.surplus_of.ensures.0 ∙ sym e, subst (λ (v : Judged). SurplusIn (theirs c.args.n c.args.lines c.args.room.now) c.args.n c.args.rows.now v c.surplus_of.result.states c.surplus_of.result.branches) (sym e) c.surplus_of.ensures.1)
+    (c.surplus_of.ensures.0 ∙ ap Ok (sym e), subst (λ (v : Judged). SurplusIn (theirs c.args.n c.args.lines c.args.room.now) c.args.n c.args.rows.now (Ok v) c.surplus_of.result.states c.surplus_of.result.branches) (sym e) c.surplus_of.ensures.1)
 
 pub returns-in-SpelledWrongly : goal.returns-in-SpelledWrongly
 returns-in-SpelledWrongly c =
-    let e = c.in-SpelledWrongly.is in
-    (c.without_surplus.ensures.0 ∙ sym e, subst (λ (v : Judged). SurplusIn (theirs c.args.n c.args.lines c.args.room.now) c.args.n c.args.rows.now v c.without_surplus.result.states c.without_surplus.result.branches) (sym e) (c.without_surplus.ensures.1, c.without_surplus.ensures.2))
-
-pub returns-in-NotSpelled : goal.returns-in-NotSpelled
-returns-in-NotSpelled c =
-    let e = c.in-NotSpelled.is in
-    (c.without_surplus-in-NotSpelled.ensures.0 ∙ sym e, subst (λ (v : Judged). SurplusIn (theirs c.args.n c.args.lines c.args.room.now) c.args.n c.args.rows.now v c.without_surplus-in-NotSpelled.result.states c.without_surplus-in-NotSpelled.result.branches) (sym e) (c.without_surplus-in-NotSpelled.ensures.1, c.without_surplus-in-NotSpelled.ensures.2))
-
-pub returns-in-Refused : goal.returns-in-Refused
-returns-in-Refused c =
-    let e = c.in-Refused.is in
-    (c.without_surplus-in-Refused.ensures.0 ∙ sym e, subst (λ (v : Judged). SurplusIn (theirs c.args.n c.args.lines c.args.room.now) c.args.n c.args.rows.now v c.without_surplus-in-Refused.result.states c.without_surplus-in-Refused.result.branches) (sym e) (c.without_surplus-in-Refused.ensures.1, c.without_surplus-in-Refused.ensures.2))
+    let a = c.args in
+    let r = c.without_surplus in
+    (r.ensures.0, none_beside (theirs a.n a.lines a.room.now) a.n a.rows.now a.verdict r.result.states r.result.branches c.in-SpelledWrongly.is (r.ensures.1, r.ensures.2))

@@ -27,7 +27,7 @@ line_from-first-requires c =
     }
 
 pub told_number-zero-requires : goal.told_number-zero-requires
-told_number-zero-requires c = c.requires.asking.ready.holds.size
+told_number-zero-requires c = λ j e. omega (arith, c.line_from-first.ensures.there j e, c.requires.asking.ready.holds.size)
 
 pub line_from-second-requires : goal.line_from-second-requires
 line_from-second-requires c =
@@ -39,7 +39,7 @@ line_from-second-requires c =
     }
 
 pub told_number-one-requires : goal.told_number-one-requires
-told_number-one-requires c = c.requires.asking.ready.holds.size
+told_number-one-requires c = λ j e. omega (arith, c.line_from-second.ensures.there j e, c.requires.asking.ready.holds.size)
 
 pub class_of-requires : goal.class_of-requires
 class_of-requires c =

@@ -1,4 +1,4 @@
--- `telling::tell_all` meets its contract. The loop's invariant: the lines from i on are told. The measure is i.
+-- `telling::tell_all` meets its contract. The loop's invariant: the lines from i on are told.
 use native.Mathlib.Omega.{arith}
 use mathlib.Core.Path.{◌≡◌, subst}
 use Prim.Native.Nat.{ℕ, ◌-◌, ◌<◌, suc}

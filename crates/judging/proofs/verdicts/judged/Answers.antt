@@ -41,5 +41,5 @@ returns c =
     let v = c.verdict-found in
     record {
       judged_to = judged-to p _ f.stored f.room_len_unchanged _ t _ m v.result v.ensures c.with_surplus-reply.result c.with_surplus-reply.ensures;
-      room_after = cleared-of p _ f.stored f.room_len_unchanged _ t _ m v.result v.ensures _ c.clear.ensures;
+      room_after = cleared-of p _ f.stored f.room_len_unchanged _ t _ m v.result v.ensures _ (c.fill-2.ensures.after (λ y e. e));
     }

@@ -16,7 +16,7 @@ line_from-first-requires c =
     }
 
 pub told_number-told-requires : goal.told_number-told-requires
-told_number-told-requires c = c.requires.asking.ready.holds.size
+told_number-told-requires c = λ j e. omega (arith, c.line_from-first.ensures.there j e, c.requires.asking.ready.holds.size)
 
 pub follow-zero-requires : goal.follow-zero-requires
 follow-zero-requires c =
@@ -29,9 +29,10 @@ follow-zero-requires c =
 pub lead_number-lead-requires : goal.lead_number-lead-requires
 lead_number-lead-requires c =
     let h = c.requires.asking.ready.holds in
+    let l = c.line_from-first.ensures in
     record {
-      room_len = h.size;
-      by_index = h.leads;
+      in_room = λ j e. omega (arith, l.there j e, h.size);
+      small = λ j e. h.leads j (l.there j e);
     }
 
 pub returns-then-told-zero : goal.returns-then-told-zero
@@ -51,9 +52,10 @@ line_from-second-requires c =
 pub lead_number-lead-requires-2 : goal.lead_number-lead-requires-2
 lead_number-lead-requires-2 c =
     let h = c.requires.asking.ready.holds in
+    let l = c.line_from-second.ensures in
     record {
-      room_len = h.size;
-      by_index = h.leads;
+      in_room = λ j e. omega (arith, l.there j e, h.size);
+      small = λ j e. h.leads j (l.there j e);
     }
 
 pub follow-one-requires : goal.follow-one-requires
