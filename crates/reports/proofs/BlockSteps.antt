@@ -1,15 +1,16 @@
 -- The step of a block, by what was read of it.
-use Rattle.std.proofs.Common.{◌≡◌, ℕ, ◌<◌, ◌≤◌, Bool, true, false, cond, ltb, List, length, take, ℤ, sym, refl, ap, ◌∙◌, subst, arith}
+use Rattle.sheets.proofs.BlockPlaces.{counted_in, next_of}
+use Rattle.plates.specs.declared.Refusal.{Refusal}
+use Rattle.sheets.specs.Made.{sample_line_of}
+use Rattle.decoding.specs.declared.Answer.{Answer}
+use Rattle.std.proofs.Common.{◌≡◌, ℕ, ◌<◌, ◌≤◌, Bool, true, false, cond, ltb, List, length, take, ℤ, sym, refl, ap, ◌∙◌, subst, arith, Result, Ok, Err, Some, None}
 use Rattle.plates.specs.declared.Refusal.TheVariants.{LineRoom}
-use Rattle.decoding.specs.declared.Decoded.{Decoded}
-use Rattle.decoding.specs.declared.Decoded.TheVariants as D
 use Rattle.decoding.specs.Decode.{Decodes}
 use Rattle.listings.specs.declared.Tally.{Tally}
 use Rattle.sheets.specs.Room.{laid}
 use Rattle.sheets.specs.Turning.{in_order}
 use Rattle.sheets.specs.declared.Order.{Order}
 use Rattle.sheets.specs.Blocks.{BlockFound, block, no_block, block_reply, placed, room_after}
-use Rattle.sheets.specs.declared.BlockReply.TheVariants.{Read, NoBlock}
 use Rattle.reports.specs.declared.Report.{Report}
 use Rattle.reports.specs.declared.Step.{Step}
 use Rattle.reports.specs.declared.Stage.TheVariants as S
@@ -25,7 +26,7 @@ module _ {counter : ℕ} {samples : List ℤ} {before : Report} {next : ℕ} {st
   short-room h e = short h (record { is = e; same = refl })
 
   -- a block decoded, and its line
-  pub long-room : {metrics' : List ℤ} {decisions' room' : List ℕ} {after : Report} (decoded : Decoded) → 256 ≤ length room
+  pub long-room : {metrics' : List ℤ} {decisions' room' : List ℕ} {after : Report} (decoded : Result Answer Refusal) → 256 ≤ length room
       → after ≡ after_line next before counter samples decoded → Decodes before.plate samples metrics decisions metrics' decisions' decoded
       → DecodedStep counter decoded before after room step room' → RoomStep counter samples before next (lends metrics decisions room) step (lends metrics' decisions' room')
   long-room {room' = room'} decoded h e d s = enough h (record {
@@ -34,29 +35,29 @@ module _ {counter : ℕ} {samples : List ℤ} {before : Report} {next : ℕ} {st
     line = subst (λ (after : Report). DecodedStep counter decoded before after room step room') e s;
   })
 
-no_read : {A : Type 0} {k next : ℕ} → Read k next ≡ NoBlock → A
+no_read : {A : Type 0} {k next : ℕ} → Some (sample_line_of k next) ≡ None → A
 no_read e = let z : ◌≡◌ {A = ℕ} 0 1 = cc in absurd (omega arith)
 
 -- the same is kept of the samples that were decoded as of the block's
 module _ (zeros : List ℤ) (size : length zeros ≡ 64) (report : Report) (lent : Lent) where
   -- the samples that were decoded are the block's, so that the same is kept of them
-  same_after : (next counter : ℕ) (vs : List ℤ) (d : Decoded) (metrics' : List ℤ) (decisions' : List ℕ)
+  same_after : (next counter : ℕ) (vs : List ℤ) (d : Result Answer Refusal) (metrics' : List ℤ) (decisions' : List ℕ)
       → Decodes report.plate (take (decodable (length vs)) (placed report.order vs zeros)) lent.metrics lent.decisions metrics' decisions' d
       → after_line next report counter (take (decodable (length vs)) (placed report.order vs zeros)) d ≡ after_line next report counter (in_order report.order vs) d
   same_after next counter vs d metrics' decisions' x =
       ap (λ (kept : Kept). record { stage = S.BlockLines; plate = report.plate; order = report.order; at = next; heard = report.heard; blocks = report.blocks; kept = kept })
       (by report.heard d x)
     where
-      tally-same : (d : Decoded)
+      tally-same : (d : Result Answer Refusal)
           → Decodes report.plate (take (decodable (length vs)) (placed report.order vs zeros)) lent.metrics lent.decisions metrics' decisions' d
           → share report.kept.reference counter (take (decodable (length vs)) (placed report.order vs zeros)) d
           ≡ share report.kept.reference counter (in_order report.order vs) d
-      tally-same (D.Refused q) y = refl
-      tally-same (D.Found a) y =
+      tally-same (Err q) y = refl
+      tally-same (Ok a) y =
           ap (λ (samples : List ℤ). found_share (standing report.kept.reference counter) samples a)
           (places-found report.plate report.order vs zeros lent.metrics lent.decisions size metrics' decisions' a y)
 
-      by : (heard : Bool) (d : Decoded)
+      by : (heard : Bool) (d : Result Answer Refusal)
           → Decodes report.plate (take (decodable (length vs)) (placed report.order vs zeros)) lent.metrics lent.decisions metrics' decisions' d
           → kept_after heard report.kept counter (take (decodable (length vs)) (placed report.order vs zeros)) d ≡ kept_after heard report.kept counter (in_order report.order vs) d
       by false d y = refl
@@ -75,16 +76,16 @@ module _ (zeros : List ℤ) (size : length zeros ≡ 64) {report : Report} {lent
   })
 
   -- a block line was read
-  pub block-step : (found : BlockFound) (counter place count next : ℕ) (places : List ℤ) → Read count next ≡ block_reply place found → places ≡ room_after report.order zeros found
+  pub block-step : (found : BlockFound) (counter place count next : ℕ) (places : List ℤ) → Some (sample_line_of count next) ≡ block_reply place found → places ≡ room_after report.order zeros found
       → RoomStep counter (take (decodable count) places) report next lent step left → BlocksStep found counter place report lent step left
   block-step (block vs) counter place count next places e p s =
-      let c : count ≡ length vs = cc in
-      let n : next ≡ place = cc in
+      let c : count ≡ length vs = ap counted_in e in
+      let n : next ≡ place = ap next_of e in
       samples_are counter place vs (rw (c, n, p) at s)
   block-step no_block counter place count next places e p s = no_read e
 
   -- none was
-  pub end_step : (found : BlockFound) (counter place : ℕ) → NoBlock ≡ block_reply place found
+  pub end_step : (found : BlockFound) (counter place : ℕ) → None ≡ block_reply place found
       → LineStep (Closes report.heard report lent.room) report (closed report.heard report) lent step left → BlocksStep found counter place report lent step left
   end_step (block vs) counter place e s = no_read (sym e)
   end_step no_block counter place e s = s

@@ -1,6 +1,7 @@
 -- The line that comes next of a report, and the report after it, apart from the rooms of the call that gives it: there is one of each.
-use Rattle.std.proofs.Common.{◌≡◌, ℕ, Bool, true, false, List, ℤ, sym, ap, ◌∙◌}
-use Rattle.decoding.specs.declared.Decoded.{Decoded}
+use Rattle.plates.specs.declared.Refusal.{Refusal}
+use Rattle.decoding.specs.declared.Answer.{Answer}
+use Rattle.std.proofs.Common.{◌≡◌, ℕ, Bool, true, false, List, ℤ, sym, ap, ◌∙◌, Result}
 use Rattle.listings.specs.Lines.{line_of_end, tally_line}
 use Rattle.plates.specs.Prepare.{IsPrepared}
 use Rattle.sheets.specs.Blocks.{BlockFound, block, block_at, counter_at, next_line, no_block}
@@ -16,7 +17,7 @@ use Rattle.reports.proofs.ReportDetermined.{reply-determined}
 
 -- the line of a block, by the answer for it
 pub record BlockComes (counter : ℕ) (samples : List ℤ) (report : Report) (next : ℕ) (line : List ℕ) (after : Report) : Type 0 where
-  pub reply : Decoded
+  pub reply : Result Answer Refusal
   pub answer : BlockAnswer report.plate samples reply
   pub line_is : line ≡ line_here report counter reply
   pub after_is : after ≡ after_line next report counter samples reply

@@ -1,11 +1,11 @@
 -- In rooms that are enough, a step gives the next of the lines that are left of a report, or nothing where none is left.
-use Rattle.std.proofs.Common.{◌≡◌, ℕ, suc, ◌≤◌, Bool, true, false, List, [], ◌∷◌, length, ℤ, sym, refl, ap, ◌∙◌, subst, ap₂, arith}
+use Rattle.plates.specs.declared.Refusal.{Refusal}
+use Rattle.decoding.specs.declared.Answer.{Answer}
+use Rattle.std.proofs.Common.{Option, ◌≡◌, ℕ, suc, ◌≤◌, Bool, true, false, List, [], ◌∷◌, length, ℤ, sym, refl, ap, ◌∙◌, subst, ap₂, arith, Result, Ok, Err, None}
 use Rattle.plates.specs.declared.Plate.{Plate}
 use Rattle.plates.specs.Prepare.{IsPrepared}
 use Rattle.plates.specs.Refusals.{field, number, place}
 use Rattle.plates.proofs.SoundIsPrepared.{sound}
-use Rattle.decoding.specs.declared.Decoded.{Decoded}
-use Rattle.decoding.specs.declared.Decoded.TheVariants as D
 use Rattle.listings.specs.declared.Tally.{Tally}
 use Rattle.listings.proofs.Fits256.{end-fits-256, plate-fits-256, refused-fits-256, tally-fits-256}
 use Rattle.listings.proofs.OfPlate.{entries_fit}
@@ -16,13 +16,11 @@ use Rattle.sheets.specs.Text.{lines_from}
 use Rattle.sheets.specs.Turning.{by_position, in_order}
 use Rattle.sheets.specs.declared.Order.{Order}
 use Rattle.sheets.specs.Blocks.{BlockFound, block, block_at, blocks_of, counter_at, next_line, no_block}
-use Rattle.reports.specs.declared.Outcome.TheVariants as O
 use Rattle.reports.specs.declared.Report.{Report}
 use Rattle.reports.specs.declared.Stage.{Stage}
 use Rattle.reports.specs.declared.Stage.TheVariants as S
 use Rattle.reports.specs.declared.Step.{Step}
 use Rattle.reports.specs.declared.tally.Kept.{Kept}
-use Rattle.reports.specs.declared.tally.Reference.{Reference}
 use Rattle.reports.specs.Tally.{Heard, heards_of, plus, raised_by, reference_of, share, tally_from}
 use Rattle.reports.specs.Remaining.{BlocksLeave, HasRoom, Leaves, Left, Ready, ReadyAt, Rooms, blocks_at, counters_at, lines_left, rooms, working_of}
 use Rattle.reports.specs.Report.{BlockAnswer, BlocksReport, HeardsReport, LinesReport, closing, heard_lines, line_of_heard, line_of_plate, line_of_profile, line_of_refusal, refused_block, word_of_block}
@@ -34,7 +32,7 @@ use Rattle.reports.proofs.TallyLaws.{plus_assoc, plus_none, raised-plus, room-le
 
 -- a step gives the next of the lines that are left, or nothing where none is left
 pub data Turned (input : List ℕ) (report : Report) (lent : Lent) (step : Step) (left : Lent) : Type 0 where
-  nothing : step.outcome ≡ O.Nothing → Left input report [] → lines_left input report ≡ 0 → Turned input report lent step left
+  nothing : step.outcome ≡ Ok None → Left input report [] → lines_left input report ≡ 0 → Turned input report lent step left
   gives : (line : List ℕ) (after : Report) → Given line after step lent.room left.room → Ready input after
       → ((lines : List (List ℕ)) → Left input after lines → Left input report (line ∷ lines)) → lines_left input report ≡ suc (lines_left input after)
       → ((w : Rooms) → Leaves input after (working_of left) w → Leaves input report (working_of lent) w) → Comes input report line after
@@ -66,16 +64,16 @@ module _ (input : List ℕ) (plate : Plate) (order : Order) (at blocks : ℕ) (k
   Of heard = record { stage = S.BlockLines; plate = plate; order = order; at = at; heard = heard; blocks = blocks; kept = kept-before }
 
   -- the lines of blocks or heard lines, one more
-  line-more : (heard : Bool) (counter next : ℕ) (samples : List ℤ) (reply : Decoded) → BlockAnswer plate samples reply → (counters : List ℕ) (bs : List (List ℤ)) (k : ℕ)
+  line-more : (heard : Bool) (counter next : ℕ) (samples : List ℤ) (reply : Result Answer Refusal) → BlockAnswer plate samples reply → (counters : List ℕ) (bs : List (List ℤ)) (k : ℕ)
       → plate.n ≤ 64 → HasRoom kept-before.tally (suc k) → (lines : List (List ℕ))
       → LinesReport heard order plate blocks (kept_after heard kept-before counter samples reply) counters bs lines
       → LinesReport heard order plate blocks kept-before (counter ∷ counters) (samples ∷ bs) (line_here (Of heard) counter reply ∷ lines)
-  line-more false counter next samples (D.Refused q) x counters bs k few r lines l = (refused_block q x refl, l)
-  line-more false counter next samples (D.Found a) x counters bs k few r lines l = (word_of_block a x.0 x.1 refl, l)
+  line-more false counter next samples (Err q) x counters bs k few r lines l = (refused_block q x refl, l)
+  line-more false counter next samples (Ok a) x counters bs k few r lines l = (word_of_block a x.0 x.1 refl, l)
   line-more true counter next samples reply x counters bs k few r lines l =
       record { replies = reply ∷ l.replies; answered = (x, l.answered); are = both (line_is reply) (l.are ∙ ap (λ (t : Tally). heard_lines order plate reference hs (closing t blocks)) sum) }
     where
-      reference : Reference
+      reference : Option ℕ
       reference = reference_of kept-before.reference counter reply
 
       hs : List Heard
@@ -84,9 +82,9 @@ module _ (input : List ℕ) (plate : Plate) (order : Order) (at blocks : ℕ) (k
       added : Tally
       added = share kept-before.reference counter samples reply
 
-      line_is : (d : Decoded) → line_here (Of true) counter d ≡ line_of_heard order plate kept-before.reference counter d
-      line_is (D.Found a) = refl
-      line_is (D.Refused q) = refl
+      line_is : (d : Result Answer Refusal) → line_here (Of true) counter d ≡ line_of_heard order plate kept-before.reference counter d
+      line_is (Ok a) = refl
+      line_is (Err q) = refl
 
       both : {a b : List ℕ} {ks ls : List (List ℕ)} → a ≡ b → ks ≡ ls → ◌≡◌ {A = List (List ℕ)} (a ∷ ks) (b ∷ ls)
       both e f = ap₂ (λ (y : List ℕ) (ys : List (List ℕ)). y ∷ ys) e f
@@ -98,7 +96,7 @@ module _ (input : List ℕ) (plate : Plate) (order : Order) (at blocks : ℕ) (k
           ∙ plus_assoc kept-before.tally added (tally_from reference hs)
 
   -- and room for those that are left
-  room-more : (heard : Bool) (counter : ℕ) (samples : List ℤ) (reply : Decoded) → BlockAnswer plate samples reply → (k : ℕ) → plate.n ≤ 64
+  room-more : (heard : Bool) (counter : ℕ) (samples : List ℤ) (reply : Result Answer Refusal) → BlockAnswer plate samples reply → (k : ℕ) → plate.n ≤ 64
       → HasRoom kept-before.tally (suc k) → HasRoom (kept_after heard kept-before counter samples reply).tally k
   room-more false counter samples reply x k few r = room-stays kept-before.tally k r
   room-more true counter samples reply x k few r =

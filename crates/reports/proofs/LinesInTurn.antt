@@ -1,11 +1,9 @@
 -- Theorem: from what `open` replies, `next_line` again and again, in a line room of 256 bytes with 8,192 metrics and 4,096 decision words,
 -- meets no room that is too short, and its lines in turn are the input's report. There is one where the input is refused, and else there are
 -- three more than the sheet has block lines, or four more than it has heard lines. Whatever the rooms, so long as they are enough, these lines are the same.
-use Rattle.std.proofs.Common.{◌≡◌, ℕ, suc, ◌+◌, List, [], ◌∷◌, ◌++◌, length, take, sym, refl, ap, ◌∙◌, subst, ap₂, arith}
+use Rattle.std.proofs.Common.{◌≡◌, ℕ, suc, ◌+◌, List, [], ◌∷◌, ◌++◌, length, take, sym, refl, ap, ◌∙◌, subst, ap₂, arith, Result, Ok, Err, Option, Some, None}
 use Rattle.plates.specs.declared.Refusal.{Refusal}
 use Rattle.sheets.specs.Sheet.{reading}
-use Rattle.reports.specs.declared.Outcome.{Outcome}
-use Rattle.reports.specs.declared.Outcome.TheVariants as O
 use Rattle.reports.specs.declared.Report.{Report}
 use Rattle.reports.specs.declared.Step.{Step}
 use Rattle.reports.specs.Remaining.{Left, Ready, lines_left}
@@ -19,10 +17,10 @@ use Rattle.reports.proofs.StepDetermined.{open-determined}
 
 -- ---- steps in turn
 
-no_line : {A : Type 0} {o : Outcome} {size : ℕ} → o ≡ O.Nothing → o ≡ O.Line size → A
+no_line : {A : Type 0} {o : Result (Option ℕ) Refusal} {size : ℕ} → o ≡ Ok None → o ≡ Ok (Some size) → A
 no_line e f = let z : ◌≡◌ {A = ℕ} 0 1 = cc in absurd (omega arith)
 
-same_size : {size other : ℕ} → O.Line size ≡ O.Line other → size ≡ other
+same_size : {size other : ℕ} → ◌≡◌ {A = Result (Option ℕ) Refusal} (Ok (Some size)) (Ok (Some other)) → size ≡ other
 same_size e = cc
 
 -- what a turn that gave a line shows
@@ -33,7 +31,7 @@ record Shown (input : List ℕ) (report : Report) (line : List ℕ) (after : Rep
   comes : Comes input report line after
 
 module _ (input : List ℕ) where
-  shown : (report : Report) (lent left : Lent) (step : Step) (size : ℕ) (line : List ℕ) → step.outcome ≡ O.Line size → line ≡ take size left.room
+  shown : (report : Report) (lent left : Lent) (step : Step) (size : ℕ) (line : List ℕ) → step.outcome ≡ Ok (Some size) → line ≡ take size left.room
       → Turned input report lent step left → Shown input report line step.next
   shown report lent left step size line e b (nothing o l z) = no_line o e
   shown report lent left step size line e b (gives k after g ready f z w c) =
@@ -116,30 +114,30 @@ module _ (input : List ℕ) (report : Report) (opens : Opens input report) (line
   next-turned : Turned input last lent step left
   next-turned = step-turned input last lent left step reached.ready rooms steps
 
-  refused-never : (q : Refusal) → Turned input last lent step left → step.outcome ≡ O.Refused q → ⊥
+  refused-never : (q : Refusal) → Turned input last lent step left → step.outcome ≡ Err q → ⊥
   refused-never q (nothing o l z) e = let z : ◌≡◌ {A = ℕ} 0 1 = cc in omega arith
   refused-never q (gives line after g ready f z w c) e = let o = g.outcome in let z : ◌≡◌ {A = ℕ} 0 1 = cc in omega arith
 
   -- no call is refused
-  pub rooms-enough : (q : Refusal) → step.outcome ≡ O.Refused q → ⊥
+  pub rooms-enough : (q : Refusal) → step.outcome ≡ Err q → ⊥
   rooms-enough q e = refused-never q next-turned e
 
-  at-end : Turned input last lent step left → step.outcome ≡ O.Nothing → (Left input last []) × (lines_left input last ≡ 0)
+  at-end : Turned input last lent step left → step.outcome ≡ Ok None → (Left input last []) × (lines_left input last ≡ 0)
   at-end (nothing o l z) e = (l, z)
   at-end (gives line after g ready f z w c) e = no_line e g.outcome
 
   -- where nothing is left, the lines in turn are the report
-  pub lines-in-turn : step.outcome ≡ O.Nothing → Reports input lines
+  pub lines-in-turn : step.outcome ≡ Ok None → Reports input lines
   lines-in-turn e = record { is = open-reports input (reading input) refl report lines opens.is (reached.whole (at-end next-turned e).0) }
 
   -- they are as many as were to come
-  pub lines-counted : step.outcome ≡ O.Nothing → length lines ≡ lines_left input report
+  pub lines-counted : step.outcome ≡ Ok None → length lines ≡ lines_left input report
   lines-counted e = omega (arith, (at-end next-turned e).1, reached.count)
 
   -- and nothing is left after as many lines as were to come
-  pub lines_end : length lines ≡ lines_left input report → step.outcome ≡ O.Nothing
+  pub lines_end : length lines ≡ lines_left input report → step.outcome ≡ Ok None
   lines_end h = by next-turned
     where
-      by : Turned input last lent step left → step.outcome ≡ O.Nothing
+      by : Turned input last lent step left → step.outcome ≡ Ok None
       by (nothing o l z) = o
       by (gives line after g ready f z w c) = absurd (omega (arith, h, z, reached.count))

@@ -1,14 +1,10 @@
 -- Determined: two replies of `write_listing`, with all that is lent, that meet its promise are equal.
-use Rattle.std.proofs.Common.{◌≡◌, ℕ, List, [], ◌∷◌, ◌++◌, length, drop, ℤ, sym, ap, ◌∙◌, subst, ap₂}
+use Rattle.std.proofs.Common.{◌≡◌, ℕ, List, [], ◌∷◌, ◌++◌, length, drop, ℤ, sym, ap, ◌∙◌, subst, ap₂, Result, Ok, Err}
 use Rattle.plates.proofs.PrepareDetermined.{prepare-determined}
 use Rattle.plates.proofs.Refusing.{Single, never_both, refuses-once}
 use Rattle.plates.specs.declared.Plate.{Plate}
 use Rattle.plates.specs.declared.Prepared.{Prepared}
 use Rattle.plates.specs.declared.Refusal.{Refusal}
-use Rattle.plates.specs.declared.Verdict.{Verdict}
-use Rattle.plates.specs.declared.Verdict.TheVariants as J
-use Rattle.listings.specs.declared.Written.{Written}
-use Rattle.listings.specs.declared.Written.TheVariants as W
 use Rattle.sheets.specs.Sheet.{Reading, says, refused, reading}
 use Rattle.reports.specs.Listing.{LeavesAs, Listed, PreparedLeaves, WritesListing, listing_conditions}
 use Rattle.reports.specs.Remaining.{BlockLeaves, BlocksLeave, Rooms, rooms, untouched, zeroed}
@@ -30,9 +26,9 @@ module _ (plate : Plate) where
   blocks-leave-same (samples ∷ blocks) before a b (c, x, xs) (d, y, ys) =
       blocks-leave-same blocks c a b xs (subst (λ (r : Rooms). BlocksLeave plate blocks r b) (sym (block-leaves-same samples before c d x y)) ys)
 
-prepared-leaves-same : (v : Verdict) (plate : Plate) (blocks : List (List ℤ)) (before a b : Rooms) → PreparedLeaves v plate blocks before a → PreparedLeaves v plate blocks before b → a ≡ b
-prepared-leaves-same (J.Refused q) plate blocks before a b x y = x ∙ sym y
-prepared-leaves-same J.Accepted plate blocks before a b x y = blocks-leave-same plate blocks before a b x y
+prepared-leaves-same : (v : Result (Unit {0}) Refusal) (plate : Plate) (blocks : List (List ℤ)) (before a b : Rooms) → PreparedLeaves v plate blocks before a → PreparedLeaves v plate blocks before b → a ≡ b
+prepared-leaves-same (Err q) plate blocks before a b x y = x ∙ sym y
+prepared-leaves-same (Ok _) plate blocks before a b x y = blocks-leave-same plate blocks before a b x y
 
 leaves-same : (found : Reading) (before a b : Rooms) → LeavesAs found before a → LeavesAs found before b → a ≡ b
 leaves-same (refused q) before a b x y = x ∙ sym y
@@ -50,18 +46,18 @@ module _ (input : List ℕ) (lent : Rooms) (listing : List ℕ) where
   single : Single (listing_conditions input lent listing)
   single = ((λ p q x y. x.1 ∙ sym y.1), ((λ p q x y. x.1 ∙ sym y.1), ((λ p q x y. x.is ∙ sym y.is), tt)))
 
-  listed_same : (s t : ℕ) (a b : Rooms) (c d : List ℕ) → Listed input lent listing a c s → Listed input lent listing b d t → (W.Bytes s ≡ W.Bytes t) × (a ≡ b) × (c ≡ d)
+  listed_same : (s t : ℕ) (a b : Rooms) (c d : List ℕ) → Listed input lent listing a c s → Listed input lent listing b d t → (◌≡◌ {A = Result ℕ Refusal} (Ok s) (Ok t)) × (a ≡ b) × (c ≡ d)
   listed_same s t a b c d x y =
       let e = listing-determined input x.bytes y.bytes x.lists y.lists in (
-        ap W.Bytes (x.size_is ∙ ap length e ∙ sym y.size_is),
+        ap Ok (x.size_is ∙ ap length e ∙ sym y.size_is),
         leaves-same (reading input) lent a b x.working.is y.working.is,
         x.listing_is ∙ ap (λ (m : List ℕ). m ++ drop (length m) listing) e ∙ sym y.listing_is,
       )
 
-  pub write-listing-determined : (r s : Written) (a b : Rooms) (c d : List ℕ) → WritesListing input lent listing a c r → WritesListing input lent listing b d s
+  pub write-listing-determined : (r s : Result ℕ Refusal) (a b : Rooms) (c d : List ℕ) → WritesListing input lent listing a c r → WritesListing input lent listing b d s
       → (r ≡ s) × (a ≡ b) × (c ≡ d)
-  write-listing-determined (W.Bytes s) (W.Bytes t) a b c d x y = listed_same s t a b c d x.1 y.1
-  write-listing-determined (W.Bytes s) (W.Refused q) a b c d x y = absurd (never_both conditions x.0 q y.0)
-  write-listing-determined (W.Refused p) (W.Bytes t) a b c d x y = absurd (never_both conditions y.0 p x.0)
-  write-listing-determined (W.Refused p) (W.Refused q) a b c d x y =
-      (ap W.Refused (refuses-once conditions single p q x.0 y.0), x.1 ∙ sym y.1, x.2 ∙ sym y.2)
+  write-listing-determined (Ok s) (Ok t) a b c d x y = listed_same s t a b c d x.1 y.1
+  write-listing-determined (Ok s) (Err q) a b c d x y = absurd (never_both conditions x.0 q y.0)
+  write-listing-determined (Err p) (Ok t) a b c d x y = absurd (never_both conditions y.0 p x.0)
+  write-listing-determined (Err p) (Err q) a b c d x y =
+      (ap Err (refuses-once conditions single p q x.0 y.0), x.1 ∙ sym y.1, x.2 ∙ sym y.2)

@@ -1,13 +1,12 @@
 -- A listing line after line: each is written behind those before it, and after the last the whole report stands in the room.
-use Rattle.std.proofs.Common.{◌≡◌, ℕ, suc, ◌+◌, ◌-◌, ◌*◌, ◌<◌, ◌≤◌, List, [], ◌∷◌, ◌++◌, length, take, drop, sym, refl, ap, ◌∙◌, subst, ap₂, append_assoc, append-nil, arith, length-append, length-drop, drop_of_length-le, take_all, drop-drop, take_at, drop_at}
+use Rattle.std.proofs.Common.{◌≡◌, ℕ, suc, ◌+◌, ◌-◌, ◌*◌, ◌<◌, ◌≤◌, List, [], ◌∷◌, ◌++◌, length, take, drop, sym, refl, ap, ◌∙◌, subst, ap₂, append_assoc, append-nil, arith, length-append, length-drop, drop_of_length-le, take_all, drop-drop, take_at, drop_at, Ok, Some, Result, Option}
 use Rattle.plates.specs.declared.Refusal.{Refusal}
 use Rattle.reports.specs.declared.listing.Progress.{Progress}
-use Rattle.reports.specs.declared.Outcome.TheVariants as O
 use Rattle.reports.specs.declared.Report.{Report}
 use Rattle.reports.specs.declared.Stage.{Stage}
 use Rattle.reports.specs.declared.Stage.TheVariants as S
 use Rattle.reports.specs.declared.Step.{Step}
-use Rattle.reports.specs.Listing.{BeforeLine, BeforeLines, LineAdded, LinesAdded}
+use Rattle.reports.specs.Listing.{BeforeLine, BeforeLines, LineAdded, LinesAdded, bytes_of}
 use Rattle.reports.specs.Remaining.{Leaves, LeavesAt, Left, LeftAt, Ready, Rooms, blocks_at, count_at, lines_left}
 use Rattle.reports.specs.Report.{joined}
 use Rattle.reports.specs.Steps.{Lent, Steps, lends}
@@ -44,39 +43,32 @@ module _ (input : List ℕ) (p : Progress) (lent left : Rooms) (listing room' : 
   turned = step-turned input p.report lent-part (lends left.metrics left.decisions room') step b.ready enough x
 
   -- a line is left, so the step gives one
-  pub gives-some : step.outcome ≡ O.Nothing → ⊥
-  gives-some e = by turned
+  pub gives-one : step.outcome ≡ Ok (Some (bytes_of step.outcome))
+  gives-one = by turned
     where
-      by : Turned input p.report lent-part step (lends left.metrics left.decisions room') → ⊥
-      by (nothing o l z) = omega (arith, z, b.more)
-      by (gives line after g ready f z w c) = let o = g.outcome in let y : ◌≡◌ {A = ℕ} 0 1 = cc in omega arith
+      by : Turned input p.report lent-part step (lends left.metrics left.decisions room') → step.outcome ≡ Ok (Some (bytes_of step.outcome))
+      by (nothing o l z) = absurd (omega (arith, z, b.more))
+      by (gives line after g ready f z w c) = subst (λ (o : Result (Option ℕ) Refusal). o ≡ Ok (Some (bytes_of o))) (sym g.outcome) refl
 
-  pub refuses-never : (q : Refusal) → step.outcome ≡ O.Refused q → ⊥
-  refuses-never q e = by turned
-    where
-      by : Turned input p.report lent-part step (lends left.metrics left.decisions room') → ⊥
-      by (nothing o l z) = let y : ◌≡◌ {A = ℕ} 0 1 = cc in omega arith
-      by (gives line after g ready f z w c) = let o = g.outcome in let y : ◌≡◌ {A = ℕ} 0 1 = cc in omega arith
-
-  same_size : {size other : ℕ} → O.Line size ≡ O.Line other → size ≡ other
+  same_size : {size other : ℕ} → ◌≡◌ {A = Result (Option ℕ) Refusal} (Ok (Some size)) (Ok (Some other)) → size ≡ other
   same_size e = cc
 
   -- its size
-  pub size_small : (size : ℕ) → step.outcome ≡ O.Line size → p.size + size ≤ length listing
+  pub size_small : (size : ℕ) → step.outcome ≡ Ok (Some size) → p.size + size ≤ length listing
   size_small size e = by turned
     where
       by : Turned input p.report lent-part step (lends left.metrics left.decisions room') → p.size + size ≤ length listing
-      by (nothing o l z) = absurd (gives-some o)
+      by (nothing o l z) = absurd (omega (arith, z, b.more))
       by (gives line after g ready f z w c) = omega (arith, same_size (sym e ∙ g.outcome), g.short, b.room)
 
   -- it stands behind those before it
-  pub line-added : (size : ℕ) → step.outcome ≡ O.Line size
+  pub line-added : (size : ℕ) → step.outcome ≡ Ok (Some size)
       → LineAdded input p lent listing left (take p.size listing ++ (room' ++ drop k (drop p.size listing))) (record { report = step.next; size = p.size + size })
   line-added size e = by turned
     where
       by : Turned input p.report lent-part step (lends left.metrics left.decisions room')
           → LineAdded input p lent listing left (take p.size listing ++ (room' ++ drop k (drop p.size listing))) (record { report = step.next; size = p.size + size })
-      by (nothing o l z) = absurd (gives-some o)
+      by (nothing o l z) = absurd (omega (arith, z, b.more))
       by (gives line after g ready f z w c) = record {
         line = line;
         short = g.short;

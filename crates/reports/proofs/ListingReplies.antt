@@ -1,8 +1,7 @@
 -- The replies of `write_listing`, case by case.
-use Rattle.std.proofs.Common.{◌≡◌, ℕ, ◌/◌, ◌<◌, ◌≤◌, List, length, sym, refl, ◌∙◌, subst, inl, inr, arith}
+use Rattle.std.proofs.Common.{◌≡◌, ℕ, ◌/◌, ◌<◌, ◌≤◌, List, length, sym, refl, ◌∙◌, subst, inl, inr, arith, Ok, Err}
 use Rattle.plates.specs.declared.Refusal.{Refusal}
 use Rattle.plates.specs.declared.Refusal.TheVariants.{DecisionRoom, LineRoom, MetricRoom}
-use Rattle.listings.specs.declared.Written.TheVariants as W
 use Rattle.sheets.specs.Sheet.{reading}
 use Rattle.reports.specs.declared.Report.{Report}
 use Rattle.reports.specs.Listing.{BeforeLines, LinesAdded, ListingShort, WritesListing}
@@ -12,11 +11,11 @@ use Rattle.reports.proofs.OpenedReports.{open-count, open-leaves, open-ready, op
 use Rattle.reports.proofs.StepDetermined.{open-determined}
 
 module _ (input : List ℕ) (lent : Rooms) (listing : List ℕ) where
-  pub refused-8 : length lent.metrics < 8192 → WritesListing input lent listing lent listing (W.Refused MetricRoom)
+  pub refused-8 : length lent.metrics < 8192 → WritesListing input lent listing lent listing (Err MetricRoom)
   refused-8 h = (inl (h, refl), refl, refl)
 
   module _ (metrics : 8192 ≤ length lent.metrics) where
-    pub refused-9 : length lent.decisions < 4096 → WritesListing input lent listing lent listing (W.Refused DecisionRoom)
+    pub refused-9 : length lent.decisions < 4096 → WritesListing input lent listing lent listing (Err DecisionRoom)
     refused-9 h = (inr ((λ q b. omega (arith, b.0, metrics)), inl (h, refl)), refl, refl)
 
     module _ (decisions : 4096 ≤ length lent.decisions) (report : Report) (opens : Opens input report) where
@@ -29,7 +28,7 @@ module _ (input : List ℕ) (lent : Rooms) (listing : List ℕ) where
         lines_are : lines_left input report ≡ lines
         lines_are = open-count input (reading input) refl report opens.is ∙ sym count
 
-        pub refused-11 : length listing / 256 < lines → WritesListing input lent listing lent listing (W.Refused LineRoom)
+        pub refused-11 : length listing / 256 < lines → WritesListing input lent listing lent listing (Err LineRoom)
         refused-11 h = (
           inr ((λ q b. omega (arith, b.0, metrics)), inr ((λ q b. omega (arith, b.0, decisions)), inl (record { report = report; opens = opens; short = omega (arith, lines_are); is = refl }))),
           refl,
@@ -53,7 +52,7 @@ module _ (input : List ℕ) (lent : Rooms) (listing : List ℕ) where
               omega (arith, b.short, e)
 
           pub listed : (left : Rooms) (listing' : List ℕ) (size : ℕ) → LinesAdded input report lent listing left listing' size
-              → WritesListing input lent listing left listing' (W.Bytes size)
+              → WritesListing input lent listing left listing' (Ok size)
           listed left listing' size a = (
             ((λ q b. omega (arith, b.0, metrics)), ((λ q b. omega (arith, b.0, decisions)), (long-enough, tt))),
             record {

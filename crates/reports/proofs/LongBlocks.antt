@@ -1,5 +1,5 @@
 -- The samples of a block as they are decoded: those that were read, or none where there were more than 64.
-use Rattle.std.proofs.Common.{◌≡◌, ℕ, suc, ◌<◌, ◌≤◌, Bool, true, false, cond, ltb, List, [], ◌∷◌, length, take, ℤ, sym, refl, ap, inl, inr, arith, ltb-false, ltb-true}
+use Rattle.std.proofs.Common.{◌≡◌, ℕ, suc, ◌<◌, ◌≤◌, Bool, true, false, cond, ltb, List, [], ◌∷◌, length, take, ℤ, sym, refl, ap, inl, inr, arith, ltb-false, ltb-true, Result, Ok, Err}
 use Rattle.plates.specs.declared.Plate.{Plate}
 use Rattle.plates.specs.declared.Refusal.{Refusal}
 use Rattle.plates.specs.declared.Refusal.TheVariants.{NotPrepared, SampleCount}
@@ -7,8 +7,6 @@ use Rattle.plates.proofs.SoundIsPrepared.{sound}
 use Rattle.plates.specs.Prepare.{not_prepared}
 use Rattle.plates.specs.Refusals.{Refuses}
 use Rattle.decoding.specs.declared.Answer.{Answer}
-use Rattle.decoding.specs.declared.Decoded.{Decoded}
-use Rattle.decoding.specs.declared.Decoded.TheVariants.{Found, Refused}
 use Rattle.decoding.specs.Decode.{Decodes, decode_conditions, sample_count}
 use Rattle.sheets.proofs.Turns.{in-order-length}
 use Rattle.sheets.specs.Blocks.{placed}
@@ -41,17 +39,17 @@ module _ (plate : Plate) (samples metrics : List ℤ) (decisions : List ℕ) (lo
   no-count passes count = count SampleCount ((λ e. (none-fits passes).0 (sym e)), refl)
 
   -- decoding refuses no samples as it refuses too many
-  pub none-decoded : (metrics' : List ℤ) (decisions' : List ℕ) (r : Decoded) → Decodes plate [] metrics decisions metrics' decisions' r
+  pub none-decoded : (metrics' : List ℤ) (decisions' : List ℕ) (r : Result Answer Refusal) → Decodes plate [] metrics decisions metrics' decisions' r
       → Decodes plate samples metrics decisions metrics' decisions' r
-  none-decoded m d (Found a) x = absurd (no-count x.0.0 x.0.1.0)
-  none-decoded m d (Refused q) x = (refuses x.0, x.1, x.2)
+  none-decoded m d (Ok a) x = absurd (no-count x.0.0 x.0.1.0)
+  none-decoded m d (Err q) x = (refuses x.0, x.1, x.2)
     where
       refuses : Refuses (decode_conditions plate [] metrics decisions) q → Refuses (decode_conditions plate samples metrics decisions) q
       refuses (inl n) = inl n
       refuses (inr (n, inl s)) = inr (n, inl ((λ e. (none-fits n).1 e), s.1))
       refuses (inr (n, inr s)) = absurd (no-count n s.0)
 
-module _ (plate : Plate) (order : Order) (vs zeros metrics : List ℤ) (decisions : List ℕ) (size : length zeros ≡ 64) (metrics' : List ℤ) (decisions' : List ℕ) (r : Decoded) where
+module _ (plate : Plate) (order : Order) (vs zeros metrics : List ℤ) (decisions : List ℕ) (size : length zeros ≡ 64) (metrics' : List ℤ) (decisions' : List ℕ) (r : Result Answer Refusal) where
   -- what was decoded of the places is what the block's samples decode to
   pub places-decoded : Decodes plate (take (decodable (length vs)) (placed order vs zeros)) metrics decisions metrics' decisions' r
       → Decodes plate (in_order order vs) metrics decisions metrics' decisions' r
@@ -68,7 +66,7 @@ module _ (plate : Plate) (order : Order) (vs zeros metrics : List ℤ) (decision
 
 module _ (plate : Plate) (order : Order) (vs zeros metrics : List ℤ) (decisions : List ℕ) (size : length zeros ≡ 64) (metrics' : List ℤ) (decisions' : List ℕ) (a : Answer) where
   -- where an answer was found, the places hold the block's samples
-  pub places-found : Decodes plate (take (decodable (length vs)) (placed order vs zeros)) metrics decisions metrics' decisions' (Found a)
+  pub places-found : Decodes plate (take (decodable (length vs)) (placed order vs zeros)) metrics decisions metrics' decisions' (Ok a)
       → take (decodable (length vs)) (placed order vs zeros) ≡ in_order order vs
   places-found = by (ltb 64 (length vs)) refl
     where
@@ -76,7 +74,7 @@ module _ (plate : Plate) (order : Order) (vs zeros metrics : List ℤ) (decision
       l = in-order-length order vs
 
       by : (t : Bool) → ltb 64 (length vs) ≡ t
-          → Decodes plate (take (cond t 0 (length vs)) (cond t zeros (laid (in_order order vs) zeros))) metrics decisions metrics' decisions' (Found a)
+          → Decodes plate (take (cond t 0 (length vs)) (cond t zeros (laid (in_order order vs) zeros))) metrics decisions metrics' decisions' (Ok a)
           → take (cond t 0 (length vs)) (cond t zeros (laid (in_order order vs) zeros)) ≡ in_order order vs
       by true e x = absurd (no-count plate (in_order order vs) metrics decisions (omega (arith, l, ltb-true 64 (length vs) e)) x.0.0 x.0.1.0)
       by false e x = rw (← l) (laid-start (in_order order vs) zeros (omega (arith, l, ltb-false 64 (length vs) e, size)))

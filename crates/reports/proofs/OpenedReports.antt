@@ -1,10 +1,9 @@
 -- A report that was just opened: what is left of it is the whole of its input's report, and how many lines that is.
-use Rattle.std.proofs.Common.{◌≡◌, ℕ, suc, ◌≤◌, Bool, true, false, cond, eqb, ltb, leb, List, [], ◌∷◌, length, drop, ℤ, sym, refl, ap, subst, arith, length-drop, ltb-false}
+use Rattle.plates.specs.declared.Refusal.{Refusal}
+use Rattle.std.proofs.Common.{◌≡◌, ℕ, suc, ◌≤◌, Bool, true, false, cond, eqb, ltb, leb, List, [], ◌∷◌, length, drop, ℤ, sym, refl, ap, subst, arith, length-drop, ltb-false, Result, Ok, Err}
 use Rattle.plates.specs.declared.Plate.{Plate}
 use Rattle.plates.specs.declared.Prepared.{Prepared}
 use Rattle.plates.specs.declared.Refusal.TheVariants.{InputTooLong}
-use Rattle.plates.specs.declared.Verdict.{Verdict}
-use Rattle.plates.specs.declared.Verdict.TheVariants as J
 use Rattle.plates.specs.Prepare.{Prepares}
 use Rattle.trellises.proofs.AcceptedIsPrepared.{accepted-prepared}
 use Rattle.sheets.proofs.Following.{blocks-counted, blocks-from-start, counters-from-start, counters_from}
@@ -49,7 +48,7 @@ blocks-few : (heard : Bool) (ls : List (List ℕ)) → length (blocks_of heard l
 blocks-few heard [] = omega arith
 blocks-few heard (l ∷ ls) = one_block (block_front heard (l ∷ ls)) (blocks_of heard ls) (length ls) (blocks-few heard ls)
 
-short-case : (k : ℕ) (t : Bool) → ltb 32768 k ≡ t → cond t (J.Refused InputTooLong) J.Accepted ≡ J.Accepted → k ≤ 32768
+short-case : (k : ℕ) (t : Bool) → ltb 32768 k ≡ t → cond t (Err InputTooLong) (Ok (tt {0})) ≡ Ok tt → k ≤ 32768
 short-case k true e f = let z : ◌≡◌ {A = ℕ} 0 1 = cc in absurd (omega arith)
 short-case k false e f = ltb-false 32768 k e
 
@@ -65,38 +64,38 @@ sheet-small input c e =
       short-case (length input) (ltb 32768 (length input)) refl a.short,
     )
 
-verdict-small : (v : Verdict) (plate : Plate) (order : Order) (at : ℕ) (heard : Bool) (blocks : ℕ) → blocks ≤ 32769 → (report_by v plate order at heard blocks).blocks ≤ 32769
-verdict-small (J.Refused q) plate order at heard blocks h = omega arith
-verdict-small J.Accepted plate order at heard blocks h = h
+verdict-small : (v : Result (Unit {0}) Refusal) (plate : Plate) (order : Order) (at : ℕ) (heard : Bool) (blocks : ℕ) → blocks ≤ 32769 → (report_by v plate order at heard blocks).blocks ≤ 32769
+verdict-small (Err q) plate order at heard blocks h = omega arith
+verdict-small (Ok _) plate order at heard blocks h = h
 
 -- ---- a sheet that says something
 
 module _ (input : List ℕ) (c : Contents) (e : reading input ≡ says c) (r : Prepared) (p : Prepares c.n c.kind c.rows c.mask r) where
-  abbrev opened : Verdict → Report
+  abbrev opened : Result (Unit {0}) Refusal → Report
   opened v = report_by v r.plate c.order (start_of input c) c.heard (length c.blocks)
 
-  sheet-ready : (v : Verdict) → r.verdict ≡ v → Ready input (opened v)
-  sheet-ready (J.Refused q) a = tt
-  sheet-ready J.Accepted a = (
+  sheet-ready : (v : Result (Unit {0}) Refusal) → r.verdict ≡ v → Ready input (opened v)
+  sheet-ready (Err q) a = tt
+  sheet-ready (Ok _) a = (
     accepted-prepared c.n c.kind c.rows c.mask r p a,
     subst (λ (b : List (List ℤ)). HasRoom no_tally (length b)) (sym (blocks-from-start input c e)) (room-at-first (length c.blocks) (sheet-small input c e)),
   )
 
-  sheet-reports : (v : Verdict) (lines : List (List ℕ)) → Left input (opened v) lines → PreparedReports v r.plate c lines
-  sheet-reports (J.Refused q) lines l = l
-  sheet-reports J.Accepted lines l =
+  sheet-reports : (v : Result (Unit {0}) Refusal) (lines : List (List ℕ)) → Left input (opened v) lines → PreparedReports v r.plate c lines
+  sheet-reports (Err q) lines l = l
+  sheet-reports (Ok _) lines l =
       subst (λ (cs : List ℕ). PlateReports r.plate (LinesReport c.heard c.order r.plate (length c.blocks) at_first cs c.blocks) lines) (counters-from-start input c e)
       (subst (λ (b : List (List ℤ)). PlateReports r.plate
       (LinesReport c.heard c.order r.plate (length c.blocks) at_first (counters_from c.heard input (start_of input c)) b) lines) (blocks-from-start input c e) l)
 
-  sheet-leaves : (v : Verdict) (before after : Rooms) → Leaves input (opened v) before after → PreparedLeaves v r.plate c.blocks before after
-  sheet-leaves (J.Refused q) before after l = l
-  sheet-leaves J.Accepted before after l =
+  sheet-leaves : (v : Result (Unit {0}) Refusal) (before after : Rooms) → Leaves input (opened v) before after → PreparedLeaves v r.plate c.blocks before after
+  sheet-leaves (Err q) before after l = l
+  sheet-leaves (Ok _) before after l =
       subst (λ (b : List (List ℤ)). BlocksLeave r.plate b before after) (blocks-from-start input c e) l
 
-  sheet-count : (v : Verdict) → lines_left input (opened v) ≡ count_at (opened v).stage (opened v).heard (opened v).blocks
-  sheet-count (J.Refused q) = refl
-  sheet-count J.Accepted = ap (λ (b : List (List ℤ)). count_at S.PlateLine c.heard (length b)) (blocks-from-start input c e)
+  sheet-count : (v : Result (Unit {0}) Refusal) → lines_left input (opened v) ≡ count_at (opened v).stage (opened v).heard (opened v).blocks
+  sheet-count (Err q) = refl
+  sheet-count (Ok _) = ap (λ (b : List (List ℤ)). count_at S.PlateLine c.heard (length b)) (blocks-from-start input c e)
 
 -- ---- by the reading of the input
 

@@ -1,16 +1,16 @@
 -- A word printed in the cover's order, position by position.
-use Rattle.std.proofs.Common.{◌≡◌, ℕ, zero, suc, ◌+◌, ◌*◌, ◌^◌, ◌<◌, ◌≤◌, Bool, true, false, ltb, List, [], ◌∷◌, ◌++◌, reverse, length, ℤ, refl, ap, ◌∙◌, zero-add, add-one, arith, ltb-false, ltb-true}
-use lib.ListN.{length-reverse}
+use Rattle.plates.specs.declared.Refusal.{Refusal}
+use Rattle.decoding.specs.declared.Answer.{Answer}
+use Rattle.std.proofs.Common.{◌≡◌, ℕ, zero, suc, ◌+◌, ◌*◌, ◌<◌, ◌≤◌, Bool, true, false, ltb, List, [], ◌∷◌, ◌++◌, reverse, length, ℤ, refl, ap, ◌∙◌, zero-add, arith, ltb-false, ltb-true, Result, Ok, Err}
 use mathlib.Core.List.{reverse-append}
+use Rattle.words.proofs.Word.{bit-lt}
+use Rattle.words.specs.Reversed.{reversed}
 use Rattle.words.specs.Word.{bit}
 use Rattle.listings.specs.Lines.{positions}
 use Rattle.plates.proofs.SoundIsPrepared.{sound}
 use Rattle.plates.specs.declared.Plate.{Plate}
 use Rattle.plates.specs.declared.Refusal.TheVariants.{NotPrepared}
-use Rattle.decoding.specs.declared.Decoded.{Decoded}
-use Rattle.decoding.specs.declared.Decoded.TheVariants as D
 use Rattle.decoding.specs.Decode.{Decodes}
-use Rattle.sheets.proofs.Characters.{word_room}
 use Rattle.sheets.specs.Rows.{bit_of, word_from}
 use Rattle.reports.specs.Steps.{Printable}
 
@@ -32,37 +32,24 @@ digit-of zero h = refl
 digit-of (suc zero) h = refl
 digit-of (suc (suc b)) h = absurd (omega arith)
 
--- ---- the loop over the positions
+-- ---- all positions
 
--- so many positions turned
-pub record Reversing (word n i turned : ℕ) : Type 0 where
-  pub few : i ≤ n
-  pub is : turned ≡ word_from (reverse (positions word 0 i))
-
-module _ {word n i turned : ℕ} (r : Reversing word n i turned) (short : n ≤ 64) (more : i < n) (b : ℕ) (small : b < 2) where
-  -- one position more fits a word
-  pub reversing-fits : turned * 2 + b < 2 ^ 64
-  reversing-fits =
-      let l : length (reverse (positions word 0 i)) ≡ i = length-reverse (positions word 0 i) ∙ positions-length word 0 i in
-      rw r.is (word_room (reverse (positions word 0 i)) b 64 (omega arith) small)
-
-  pub reversing-on : b ≡ bit word i → Reversing word n (i + 1) (turned * 2 + b)
-  reversing-on e = record {
-    few = omega arith;
-    is =
-        rw (add-one i, positions-more word 0 i, reverse-append, zero-add i, ← e, digit-of b small)
-        (ap (λ (w : ℕ). w * 2 + b) r.is);
-  }
+-- the word from the far end has the positions in the other order
+pub printed-last : (n word : ℕ) → reversed n word ≡ word_from (reverse (positions word 0 n))
+printed-last zero word = refl
+printed-last (suc n) word =
+    rw (positions-more word 0 n, reverse-append, zero-add n, digit-of (bit word n) (bit-lt n word))
+    (ap (λ (w : ℕ). w * 2 + bit word n) (printed-last n word))
 
 -- ---- the plate of an answer
 
 -- decoding answers only on a prepared plate
-pub printable : (plate : Plate) (samples metrics : List ℤ) (decisions : List ℕ) (metrics' : List ℤ) (decisions' : List ℕ) (d : Decoded)
+pub printable : (plate : Plate) (samples metrics : List ℤ) (decisions : List ℕ) (metrics' : List ℤ) (decisions' : List ℕ) (d : Result Answer Refusal)
     → Decodes plate samples metrics decisions metrics' decisions' d → Printable d plate
-printable plate samples metrics decisions metrics' decisions' (D.Found a) x =
+printable plate samples metrics decisions metrics' decisions' (Ok a) x =
     by (ltb 64 plate.n) refl
   where
     by : (t : Bool) → ltb 64 plate.n ≡ t → plate.n ≤ 64
     by true e = let h = ltb-true 64 plate.n e in absurd (x.0.0 NotPrepared ((λ p. omega (arith, (sound p).short, h)), refl))
     by false e = ltb-false 64 plate.n e
-printable plate samples metrics decisions metrics' decisions' (D.Refused q) x = tt
+printable plate samples metrics decisions metrics' decisions' (Err q) x = tt

@@ -1,18 +1,15 @@
 -- Two lists of lines that an input reports are equal, and so are two listings of it.
-use Rattle.std.proofs.Common.{◌≡◌, ℕ, Bool, true, false, List, [], ◌∷◌, ◌++◌, length, drop, replicate, ℤ, pos, sym, refl, ap, ◌∙◌, subst, ap₂, inl, inr, arith}
+use Rattle.decoding.specs.declared.Answer.{Answer}
+use Rattle.std.proofs.Common.{◌≡◌, ℕ, Bool, true, false, List, [], ◌∷◌, ◌++◌, length, drop, replicate, ℤ, pos, sym, refl, ap, ◌∙◌, subst, ap₂, inl, inr, arith, Result, Ok, Err}
 use lib.ListN.{length-replicate}
 use Rattle.plates.proofs.PrepareDetermined.{prepare-determined}
 use Rattle.plates.specs.declared.Plate.{Plate}
 use Rattle.plates.specs.declared.Prepared.{Prepared}
 use Rattle.plates.specs.declared.Refusal.{Refusal}
-use Rattle.plates.specs.declared.Verdict.{Verdict}
-use Rattle.plates.specs.declared.Verdict.TheVariants as J
 use Rattle.plates.specs.Prepare.{IsPrepared, Prepares}
 use Rattle.plates.specs.Refusals.{Refuses}
 use Rattle.trellises.proofs.AcceptedIsPrepared.{accepted-prepared}
 use Rattle.decoding.proofs.DecodeDetermined.{decode-determined}
-use Rattle.decoding.specs.declared.Decoded.{Decoded}
-use Rattle.decoding.specs.declared.Decoded.TheVariants.{Found, Refused}
 use Rattle.decoding.specs.Decode.{Decodes, decision_need, decode_conditions, metric_need}
 use Rattle.sheets.specs.declared.Order.{Order}
 use Rattle.sheets.specs.Sheet.{Contents, Reading, says, refused, reading}
@@ -32,7 +29,7 @@ module _ (order : Order) (plate : Plate) (prepared : IsPrepared plate) (samples 
 
   -- a block's line is what decoding in these rooms gives
   record InRooms (line : List ℕ) : Type 0 where
-    decoded : Decoded
+    decoded : Result Answer Refusal
     metrics' : List ℤ
     decisions' : List ℕ
     decodes : Decodes plate samples metrics decisions metrics' decisions' decoded
@@ -44,9 +41,9 @@ module _ (order : Order) (plate : Plate) (prepared : IsPrepared plate) (samples 
   refuses q (inr (n, inr x)) = absurd x.1
 
   in-rooms : (line : List ℕ) → BlockLine order plate samples line → InRooms line
-  in-rooms line (refused_block q r e) = record { decoded = Refused q; metrics' = metrics; decisions' = decisions; decodes = (refuses q r, refl, refl); is = e }
+  in-rooms line (refused_block q r e) = record { decoded = Err q; metrics' = metrics; decisions' = decisions; decodes = (refuses q r, refl, refl); is = e }
   in-rooms line (word_of_block a p b e) = record {
-    decoded = Found a;
+    decoded = Ok a;
     metrics' = replicate (metric_need plate) (pos 0) ++ drop (metric_need plate) metrics;
     decisions' = replicate (decision_need plate) 0 ++ drop (decision_need plate) decisions;
     decodes = (
@@ -69,15 +66,15 @@ module _ (order : Order) (plate : Plate) (prepared : IsPrepared plate) (samples 
     is = e;
   }
 
-  decodes-as : (d : Decoded) → BlockAnswer plate samples d → (m : List ℤ) × (k : List ℕ) × Decodes plate samples metrics decisions m k d
+  decodes-as : (d : Result Answer Refusal) → BlockAnswer plate samples d → (m : List ℤ) × (k : List ℕ) × Decodes plate samples metrics decisions m k d
   unfolding in-rooms
-  decodes-as (Refused q) x = (metrics, decisions, (refuses q x, refl, refl))
-  decodes-as (Found a) x =
-      let r = in-rooms (line_of order plate (Found a)) (word_of_block a x.0 x.1 refl) in
+  decodes-as (Err q) x = (metrics, decisions, (refuses q x, refl, refl))
+  decodes-as (Ok a) x =
+      let r = in-rooms (line_of order plate (Ok a)) (word_of_block a x.0 x.1 refl) in
       (r.metrics', r.decisions', r.decodes)
 
   -- a block has one answer
-  pub reply-determined : (d e : Decoded) → BlockAnswer plate samples d → BlockAnswer plate samples e → d ≡ e
+  pub reply-determined : (d e : Result Answer Refusal) → BlockAnswer plate samples d → BlockAnswer plate samples e → d ≡ e
   reply-determined d e x y =
       let p = decodes-as d x in
       let q = decodes-as e y in
@@ -105,21 +102,21 @@ module _ (order : Order) (plate : Plate) (prepared : IsPrepared plate) (count : 
       both (block-line-determined order plate prepared samples k l x.0 y.0) (blocks-determined blocks ks ls x.1 y.1)
 
   -- the blocks of a sheet have one answer each
-  replies-determined : (blocks : List (List ℤ)) (a b : List Decoded) → BlockAnswers plate blocks a → BlockAnswers plate blocks b → a ≡ b
+  replies-determined : (blocks : List (List ℤ)) (a b : List (Result Answer Refusal)) → BlockAnswers plate blocks a → BlockAnswers plate blocks b → a ≡ b
   replies-determined [] [] [] x y = refl
   replies-determined [] [] (e ∷ b) x y = absurd y
   replies-determined [] (d ∷ a) b x y = absurd x
   replies-determined (samples ∷ blocks) [] b x y = absurd x
   replies-determined (samples ∷ blocks) (d ∷ a) [] x y = absurd y
   replies-determined (samples ∷ blocks) (d ∷ a) (e ∷ b) x y =
-      ap₂ (λ (r : Decoded) (rs : List Decoded). r ∷ rs) (reply-determined order plate prepared samples d e x.0 y.0) (replies-determined blocks a b x.1 y.1)
+      ap₂ (λ (r : Result Answer Refusal) (rs : List (Result Answer Refusal)). r ∷ rs) (reply-determined order plate prepared samples d e x.0 y.0) (replies-determined blocks a b x.1 y.1)
 
   lines-determined : (heard : Bool) (kept : Kept) (counters : List ℕ) (blocks : List (List ℤ)) (a b : List (List ℕ)) → LinesReport heard order plate count kept counters blocks a
       → LinesReport heard order plate count kept counters blocks b → a ≡ b
   lines-determined false kept counters blocks a b x y = blocks-determined blocks a b x y
   lines-determined true kept counters blocks a b x y =
       x.are
-      ∙ ap (λ (replies : List Decoded). heard_lines order plate kept.reference (heards_of counters blocks replies)
+      ∙ ap (λ (replies : List (Result Answer Refusal)). heard_lines order plate kept.reference (heards_of counters blocks replies)
       (closing (plus kept.tally (tally_from kept.reference (heards_of counters blocks replies))) count)) (replies-determined blocks x.replies y.replies x.answered y.answered)
       ∙ sym y.are
 
@@ -138,9 +135,9 @@ plate-determined plate Rest once (k ∷ ks) [] x y = absurd y
 plate-determined plate Rest once (k ∷ ks) (l ∷ ls) x y = both (x.0 ∙ sym y.0) (profile-determined plate Rest once ks ls x.1 y.1)
 
 module _ (sheet : Contents) (r : Prepared) (p : Prepares sheet.n sheet.kind sheet.rows sheet.mask r) where
-  prepared-determined : (v : Verdict) → r.verdict ≡ v → (a b : List (List ℕ)) → PreparedReports v r.plate sheet a → PreparedReports v r.plate sheet b → a ≡ b
-  prepared-determined (J.Refused q) e a b x y = x ∙ sym y
-  prepared-determined J.Accepted e a b x y =
+  prepared-determined : (v : Result (Unit {0}) Refusal) → r.verdict ≡ v → (a b : List (List ℕ)) → PreparedReports v r.plate sheet a → PreparedReports v r.plate sheet b → a ≡ b
+  prepared-determined (Err q) e a b x y = x ∙ sym y
+  prepared-determined (Ok _) e a b x y =
       plate-determined r.plate _
       (lines-determined sheet.order r.plate (accepted-prepared sheet.n sheet.kind sheet.rows sheet.mask r p e) (length sheet.blocks) sheet.heard at_first sheet.counters sheet.blocks)
       a b x y

@@ -1,15 +1,12 @@
 -- Determined: two replies of `open`, and of `next_line` with all that is lent, that meet the promise are equal.
-use Rattle.std.proofs.Common.{◌≡◌, ℕ, Bool, true, false, List, length, ℤ, sym, ap, ◌∙◌, subst, ap₂, arith}
+use Rattle.std.proofs.Common.{◌≡◌, ℕ, Bool, true, false, List, length, ℤ, sym, ap, ◌∙◌, subst, ap₂, arith, Result, Ok, Err}
 use Rattle.plates.proofs.PrepareDetermined.{prepare-determined}
 use Rattle.plates.specs.declared.Prepared.{Prepared}
 use Rattle.plates.specs.declared.Refusal.{Refusal}
 use Rattle.plates.specs.Refusals.{field, number, place}
 use Rattle.decoding.proofs.DecodeDetermined.{decode-determined}
 use Rattle.decoding.specs.declared.Answer.{Answer}
-use Rattle.decoding.specs.declared.Decoded.{Decoded}
-use Rattle.decoding.specs.declared.Decoded.TheVariants as D
 use Rattle.listings.proofs.Determined.{write-end-determined, write-tally-determined, write-plate-determined, write-profile-determined, write-refused-determined, write-word-determined}
-use Rattle.listings.specs.declared.Written.{Written}
 use Rattle.sheets.specs.Blocks.{BlockFound, block, block_at, counter_at, next_line, no_block}
 use Rattle.sheets.specs.Turning.{in_order}
 use Rattle.sheets.specs.Sheet.{Reading, says, refused, reading, start_of}
@@ -38,14 +35,14 @@ lent_same a b m d r =
     ap (λ (x : List ℤ). lends x a.decisions a.room) m ∙ ap₂ (λ (x y : List ℕ). lends b.metrics x y) d r
 
 -- a promise that determines its reply and the room
-abbrev Fixes : (Written → List ℕ → Type 0) → Type 0
-Fixes Promise = (w v : Written) (a b : List ℕ) → Promise w a → Promise v b → (w ≡ v) × (a ≡ b)
+abbrev Fixes : (Result ℕ Refusal → List ℕ → Type 0) → Type 0
+Fixes Promise = (w v : Result ℕ Refusal) (a b : List ℕ) → Promise w a → Promise v b → (w ≡ v) × (a ≡ b)
 
 module _ (before after : Report) (s t : Step) where
-  written_same : (Promise : Written → List ℕ → Type 0) → Fixes Promise → (a b : List ℕ) → WritesStep Promise before after s a → WritesStep Promise before after t b → (s ≡ t) × (a ≡ b)
+  written_same : (Promise : Result ℕ Refusal → List ℕ → Type 0) → Fixes Promise → (a b : List ℕ) → WritesStep Promise before after s a → WritesStep Promise before after t b → (s ≡ t) × (a ≡ b)
   written_same Promise fixes a b x y =
       let e = fixes x.written y.written a b x.writes y.writes in
-      (x.is ∙ ap (λ (w : Written). step_by w before after) e.0 ∙ sym y.is, e.1)
+      (x.is ∙ ap (λ (w : Result ℕ Refusal). step_by w before after) e.0 ∙ sym y.is, e.1)
 
   refused-same : (r : Bool) (q : Refusal) (room a b : List ℕ) → RefusedStep r q before after room s a → RefusedStep r q before after room t b → (s ≡ t) × (a ≡ b)
   refused-same true q room a b x y = written_same _ (λ w v c d. write-refused-determined (number q) (place q) (field q)) a b x y
@@ -56,15 +53,15 @@ module _ (before after : Report) (s t : Step) where
   found-same false a room c d x y =
       written_same _ (λ w v e f. write-word-determined before.plate (printed_as before.order before.plate.n a.word) a.metric a.counts.additions a.counts.comparisons) c d x y
 
-  decoded-same : (counter : ℕ) (d : Decoded) (room a b : List ℕ) → DecodedStep counter d before after room s a → DecodedStep counter d before after room t b → (s ≡ t) × (a ≡ b)
-  decoded-same counter (D.Found a) room c d x y = found-same (is_silent before counter) a room c d x y
-  decoded-same counter (D.Refused q) room a b x y = refused-same (of_block q) q room a b x y
+  decoded-same : (counter : ℕ) (d : Result Answer Refusal) (room a b : List ℕ) → DecodedStep counter d before after room s a → DecodedStep counter d before after room t b → (s ≡ t) × (a ≡ b)
+  decoded-same counter (Ok a) room c d x y = found-same (is_silent before counter) a room c d x y
+  decoded-same counter (Err q) room a b x y = refused-same (of_block q) q room a b x y
 
   module _ (lent a b : Lent) where
     abbrev Same : Type 0
     Same = (s ≡ t) × (a ≡ b)
 
-    line_same : (Promise : Written → List ℕ → Type 0) → Fixes Promise → LineStep Promise before after lent s a → LineStep Promise before after lent t b → Same
+    line_same : (Promise : Result ℕ Refusal → List ℕ → Type 0) → Fixes Promise → LineStep Promise before after lent s a → LineStep Promise before after lent t b → Same
     line_same Promise fixes x y =
         let e = written_same Promise fixes a.room b.room x.line y.line in
         (e.0, lent_same a b (x.working.metrics_same ∙ sym y.working.metrics_same) (x.working.decisions_same ∙ sym y.working.decisions_same) e.1)
@@ -77,7 +74,7 @@ module _ (before : Report) (s t : Step) (lent a b : Lent) (counter next : ℕ) (
   block_same x y =
       let d = decode-determined before.plate samples lent.metrics lent.decisions x.decoded y.decoded _ _ _ _ x.decodes y.decodes in
       let e = decoded-same before (after_line next before counter samples x.decoded) s t counter x.decoded lent.room a.room b.room x.line
-      (subst (λ (r : Decoded). DecodedStep counter r before (after_line next before counter samples r) lent.room t b.room) (sym d.0) y.line) in
+      (subst (λ (r : Result Answer Refusal). DecodedStep counter r before (after_line next before counter samples r) lent.room t b.room) (sym d.0) y.line) in
       (e.0, lent_same a b d.1 d.2 e.1)
 
   room-same : RoomStep counter samples before next lent s a → RoomStep counter samples before next lent t b → (s ≡ t) × (a ≡ b)

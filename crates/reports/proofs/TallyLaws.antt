@@ -1,17 +1,14 @@
 -- The laws of tallies: what is kept from line to line is what the lines add to, and no number of it goes beyond 64 bits.
-use Rattle.std.proofs.Common.{◌≡◌, ℕ, suc, ◌+◌, ◌-◌, ◌*◌, ◌^◌, ◌≤◌, Bool, true, false, cond, eqb, ltb, List, [], ◌∷◌, length, ℤ, pos, nat_abs, sym, refl, ap, ◌∙◌, subst, arith, ltb-false}
+use Rattle.plates.specs.declared.Refusal.{Refusal}
+use Rattle.std.proofs.Common.{Option, Some, None, ◌≡◌, ℕ, suc, ◌+◌, ◌-◌, ◌*◌, ◌^◌, ◌≤◌, Bool, true, false, cond, eqb, ltb, List, [], ◌∷◌, length, ℤ, pos, nat_abs, sym, refl, ap, ◌∙◌, subst, arith, ltb-false, Result, Ok, Err}
 use lib.Signed.{lt_z}
 use Rattle.words.specs.Word.{bit}
 use Rattle.plates.specs.declared.Plate.{Plate}
 use Rattle.decoding.specs.declared.Answer.{Answer}
-use Rattle.decoding.specs.declared.Decoded.{Decoded}
-use Rattle.decoding.specs.declared.Decoded.TheVariants as D
 use Rattle.decoding.specs.Metric.{limit}
 use Rattle.decoding.proofs.MetricBounds.{metric-within}
 use Rattle.decoding.proofs.SampleLimits.{none_over, samples-are-n}
 use Rattle.listings.specs.declared.Tally.{Tally}
-use Rattle.reports.specs.declared.tally.Reference.{Reference}
-use Rattle.reports.specs.declared.tally.Reference.TheVariants as R
 use Rattle.reports.specs.declared.tally.Standing.{Standing}
 use Rattle.reports.specs.declared.tally.Standing.TheVariants as S
 use Rattle.reports.specs.Remaining.{HasRoom}
@@ -48,10 +45,10 @@ plus_none s = same-tally (plus s no_tally) s (omega arith) (omega arith) (omega 
 
 -- ---- decoded, refused and repeated lines together are the heard lines
 
-one_each : (reference : Reference) (counter : ℕ) (samples : List ℤ) (d : Decoded)
+one_each : (reference : Option ℕ) (counter : ℕ) (samples : List ℤ) (d : Result Answer Refusal)
     → (share reference counter samples d).decoded + (share reference counter samples d).refused + (share reference counter samples d).repeated ≡ 1
-one_each reference counter samples (D.Refused q) = refl
-one_each reference counter samples (D.Found a) = by (standing reference counter)
+one_each reference counter samples (Err q) = refl
+one_each reference counter samples (Ok a) = by (standing reference counter)
   where
     by : (at : Standing) → (found_share at samples a).decoded + (found_share at samples a).refused + (found_share at samples a).repeated ≡ 1
     by S.First = refl
@@ -59,7 +56,7 @@ one_each reference counter samples (D.Found a) = by (standing reference counter)
     by S.OutOfTurn = refl
     by (S.Onward missing) = refl
 
-pub together : (reference : Reference) (hs : List Heard) → (tally_from reference hs).decoded + (tally_from reference hs).refused + (tally_from reference hs).repeated ≡ length hs
+pub together : (reference : Option ℕ) (hs : List Heard) → (tally_from reference hs).decoded + (tally_from reference hs).refused + (tally_from reference hs).repeated ≡ length hs
 together reference [] = refl
 together reference (h ∷ hs) =
     omega (arith, one_each reference h.counter h.samples h.reply, together (reference_of reference h.counter h.reply) hs)
@@ -118,20 +115,20 @@ standing-small step = by (eqb step 0) (ltb 32767 step) refl
     by false true e = tt
     by false false e = omega (arith, ltb-false 32767 step e)
 
-missing-small : (reference : Reference) (counter : ℕ) → MissingSmall (standing reference counter)
-missing-small R.Unset counter = tt
-missing-small (R.Counter before) counter = standing-small (advance counter before)
+missing-small : (reference : Option ℕ) (counter : ℕ) → MissingSmall (standing reference counter)
+missing-small None counter = tt
+missing-small (Some before) counter = standing-small (advance counter before)
 
-module _ (plate : Plate) (few : plate.n ≤ 64) (reference : Reference) (counter : ℕ) (samples : List ℤ) where
+module _ (plate : Plate) (few : plate.n ≤ 64) (reference : Option ℕ) (counter : ℕ) (samples : List ℤ) where
   found-small : (a : Answer) → length samples ≤ 64 → nat_abs a.metric ≤ 131008 → (at : Standing) → MissingSmall at → Small (found_share at samples a)
   found-small a l m S.First k = record { decoded = omega arith; refused = omega arith; repeated = omega arith; late = omega arith; missing = omega arith; opposing = omega (arith, opposing-small a.word 0 samples); zeros = omega (arith, zeros-small samples); above = gained-small a.metric 131008 m; below = lost-small a.metric 131008 m }
   found-small a l m S.Repeat k = record { decoded = omega arith; refused = omega arith; repeated = omega arith; late = omega arith; missing = omega arith; opposing = omega arith; zeros = omega arith; above = omega arith; below = omega arith }
   found-small a l m S.OutOfTurn k = record { decoded = omega arith; refused = omega arith; repeated = omega arith; late = omega arith; missing = omega arith; opposing = omega (arith, opposing-small a.word 0 samples); zeros = omega (arith, zeros-small samples); above = gained-small a.metric 131008 m; below = lost-small a.metric 131008 m }
   found-small a l m (S.Onward missing) k = record { decoded = omega arith; refused = omega arith; repeated = omega arith; late = omega arith; missing = omega arith; opposing = omega (arith, opposing-small a.word 0 samples); zeros = omega (arith, zeros-small samples); above = gained-small a.metric 131008 m; below = lost-small a.metric 131008 m }
 
-  pub share-small : (d : Decoded) → BlockAnswer plate samples d → Small (share reference counter samples d)
-  share-small (D.Refused q) x = record { decoded = omega arith; refused = omega arith; repeated = omega arith; late = omega arith; missing = omega arith; opposing = omega arith; zeros = omega arith; above = omega arith; below = omega arith }
-  share-small (D.Found a) x =
+  pub share-small : (d : Result Answer Refusal) → BlockAnswer plate samples d → Small (share reference counter samples d)
+  share-small (Err q) x = record { decoded = omega arith; refused = omega arith; repeated = omega arith; late = omega arith; missing = omega arith; opposing = omega arith; zeros = omega arith; above = omega arith; below = omega arith }
+  share-small (Ok a) x =
       let count = samples-are-n plate samples x.0.0 in
       let metric : nat_abs a.metric ≤ 131008 =
       subst (λ (z : ℤ). nat_abs z ≤ 131008) (sym x.1.metric) (omega (arith, metric-within limit samples (none_over samples x.0.1.0) a.word, count)) in

@@ -1,15 +1,11 @@
 -- What writing a whole listing replies, and what it leaves in what was lent.
-use Rattle.std.specs.Prelude.{◌≡◌, ℕ, suc, ◌+◌, ◌*◌, ◌<◌, ◌≤◌, List, [], ◌∷◌, ◌++◌, length, take, drop, ℤ}
+use Rattle.std.specs.Prelude.{◌≡◌, ℕ, suc, ◌+◌, ◌*◌, ◌<◌, ◌≤◌, List, [], ◌∷◌, ◌++◌, length, take, drop, ℤ, Option, Some, None, Result, Ok, Err}
 use Rattle.plates.specs.declared.Plate.{Plate}
 use Rattle.plates.specs.declared.Prepared.{Prepared}
 use Rattle.plates.specs.declared.Refusal.{Refusal}
 use Rattle.plates.specs.declared.Refusal.TheVariants.{DecisionRoom, LineRoom, MetricRoom}
-use Rattle.plates.specs.declared.Verdict.{Verdict}
-use Rattle.plates.specs.declared.Verdict.TheVariants as J
 use Rattle.plates.specs.Prepare.{Prepares}
 use Rattle.plates.specs.Refusals.{Passes, Refuses}
-use Rattle.listings.specs.declared.Written.{Written}
-use Rattle.listings.specs.declared.Written.TheVariants as W
 use Rattle.sheets.specs.Sheet.{Contents, Reading, says, refused, reading}
 use Rattle.reports.specs.declared.listing.Progress.{Progress}
 use Rattle.reports.specs.declared.Report.{Report}
@@ -17,12 +13,20 @@ use Rattle.reports.specs.Remaining.{BlocksLeave, Leaves, Left, Ready, Rooms, lin
 use Rattle.reports.specs.Report.{Lists, joined}
 use Rattle.reports.specs.Steps.{Opens}
 
+-- ---- a line more
+
+-- of how many bytes the line is that a step gave; 0 where it gave none
+abbrev pub bytes_of : Result (Option ℕ) Refusal → ℕ
+bytes_of (Ok (Some size)) = size
+bytes_of (Ok None) = 0
+bytes_of (Err q) = 0
+
 -- ---- the working rooms afterwards
 
 -- a matrix that is refused leaves them as they were
-abbrev pub PreparedLeaves : Verdict → Plate → List (List ℤ) → Rooms → Rooms → Type 0
-PreparedLeaves (J.Refused q) plate blocks before after = after ≡ before
-PreparedLeaves J.Accepted plate blocks before after = BlocksLeave plate blocks before after
+abbrev pub PreparedLeaves : Result (Unit {0}) Refusal → Plate → List (List ℤ) → Rooms → Rooms → Type 0
+PreparedLeaves (Err q) plate blocks before after = after ≡ before
+PreparedLeaves (Ok _) plate blocks before after = BlocksLeave plate blocks before after
 
 pub record SheetLeaves (sheet : Contents) (before after : Rooms) : Type 0 where
   pub prepared : Prepared
@@ -69,9 +73,9 @@ pub record Listed (input : List ℕ) (lent : Rooms) (listing : List ℕ) (left :
   pub working : ListingLeaves input lent left
 
 -- What writing a listing replies: the first refusal in order with everything lent unchanged, or the size of the listing in its room
-abbrev pub WritesListing : List ℕ → Rooms → List ℕ → Rooms → List ℕ → Written → Type 0
-WritesListing input lent listing left listing' (W.Refused q) = Refuses (listing_conditions input lent listing) q × (left ≡ lent) × (listing' ≡ listing)
-WritesListing input lent listing left listing' (W.Bytes size) = Passes (listing_conditions input lent listing) × Listed input lent listing left listing' size
+abbrev pub WritesListing : List ℕ → Rooms → List ℕ → Rooms → List ℕ → Result ℕ Refusal → Type 0
+WritesListing input lent listing left listing' (Err q) = Refuses (listing_conditions input lent listing) q × (left ≡ lent) × (listing' ≡ listing)
+WritesListing input lent listing left listing' (Ok size) = Passes (listing_conditions input lent listing) × Listed input lent listing left listing' size
 
 -- ---- on the way
 

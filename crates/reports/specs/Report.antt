@@ -1,15 +1,11 @@
 -- The listing of an input: the lines that the paper gives it, in order.
-use Rattle.std.specs.Prelude.{◌≡◌, ℕ, Bool, true, false, cond, List, [], ◌∷◌, ◌++◌, length, ℤ}
+use Rattle.std.specs.Prelude.{Option, None, ◌≡◌, ℕ, Bool, true, false, cond, List, [], ◌∷◌, ◌++◌, length, ℤ, Result, Ok, Err}
 use Rattle.plates.specs.declared.Plate.{Plate}
 use Rattle.plates.specs.declared.Prepared.{Prepared}
 use Rattle.plates.specs.declared.Refusal.{Refusal}
-use Rattle.plates.specs.declared.Verdict.{Verdict}
-use Rattle.plates.specs.declared.Verdict.TheVariants as J
 use Rattle.plates.specs.Prepare.{Prepares}
 use Rattle.plates.specs.Refusals.{field, number, place, Passes, Refuses}
 use Rattle.decoding.specs.declared.Answer.{Answer}
-use Rattle.decoding.specs.declared.Decoded.{Decoded}
-use Rattle.decoding.specs.declared.Decoded.TheVariants as D
 use Rattle.decoding.specs.Decode.{Best, SampleOver, sample_count}
 use Rattle.listings.specs.Lines.{plate_line, profile_line, word_line, refused_line, line_of_end, tally_line}
 use Rattle.listings.specs.Writing.{entries_of}
@@ -18,8 +14,6 @@ use Rattle.sheets.specs.Sheet.{Contents, Reading, says, refused, reading}
 use Rattle.reports.specs.Printed.{printed_as}
 use Rattle.reports.specs.Tally.{Heard, heards_of, is_repeat, plus, no_tally, reference_of, standing, tally_from}
 use Rattle.listings.specs.declared.Tally.{Tally}
-use Rattle.reports.specs.declared.tally.Reference.{Reference}
-use Rattle.reports.specs.declared.tally.Reference.TheVariants.{Unset}
 use Rattle.reports.specs.declared.tally.Kept.{Kept}
 
 -- ---- the kinds of line
@@ -60,29 +54,29 @@ BlocksReport order plate count (samples ∷ blocks) (line ∷ lines) = BlockLine
 -- ---- heard lines
 
 -- the answer for a block, its samples in order of position: 6 or 7, or the word of greatest correlation with its metric and counts
-abbrev pub BlockAnswer : Plate → List ℤ → Decoded → Type 0
-BlockAnswer plate samples (D.Refused q) = Refuses (block_conditions plate samples) q
-BlockAnswer plate samples (D.Found a) = Passes (block_conditions plate samples) × Best plate samples a
+abbrev pub BlockAnswer : Plate → List ℤ → Result Answer Refusal → Type 0
+BlockAnswer plate samples (Err q) = Refuses (block_conditions plate samples) q
+BlockAnswer plate samples (Ok a) = Passes (block_conditions plate samples) × Best plate samples a
 
 -- one for each block, in order
-abbrev pub BlockAnswers : Plate → List (List ℤ) → List Decoded → Type 0
+abbrev pub BlockAnswers : Plate → List (List ℤ) → List (Result Answer Refusal) → Type 0
 BlockAnswers plate [] [] = Unit {0}
 BlockAnswers plate [] (answer ∷ answers) = ⊥
 BlockAnswers plate (samples ∷ blocks) [] = ⊥
 BlockAnswers plate (samples ∷ blocks) (answer ∷ answers) = BlockAnswer plate samples answer × BlockAnswers plate blocks answers
 
 -- the line of an answer
-abbrev pub line_of : Order → Plate → Decoded → List ℕ
-line_of order plate (D.Found a) = line_of_answer order plate a
-line_of order plate (D.Refused q) = line_of_refusal q
+abbrev pub line_of : Order → Plate → Result Answer Refusal → List ℕ
+line_of order plate (Ok a) = line_of_answer order plate a
+line_of order plate (Err q) = line_of_refusal q
 
 -- the line of a heard line, by the reference before it: a repeat that is not refused has none
-abbrev pub line_of_heard : Order → Plate → Reference → ℕ → Decoded → List ℕ
-line_of_heard order plate reference counter (D.Found a) = cond (is_repeat (standing reference counter)) [] (line_of_answer order plate a)
-line_of_heard order plate reference counter (D.Refused q) = line_of_refusal q
+abbrev pub line_of_heard : Order → Plate → Option ℕ → ℕ → Result Answer Refusal → List ℕ
+line_of_heard order plate reference counter (Ok a) = cond (is_repeat (standing reference counter)) [] (line_of_answer order plate a)
+line_of_heard order plate reference counter (Err q) = line_of_refusal q
 
 -- those of some heard lines, and what follows
-abbrev pub heard_lines : Order → Plate → Reference → List Heard → List (List ℕ) → List (List ℕ)
+abbrev pub heard_lines : Order → Plate → Option ℕ → List Heard → List (List ℕ) → List (List ℕ)
 heard_lines order plate reference [] rest = rest
 heard_lines order plate reference (h ∷ hs) rest =
     line_of_heard order plate reference h.counter h.reply ∷ heard_lines order plate (reference_of reference h.counter h.reply) hs rest
@@ -93,7 +87,7 @@ closing tally count = tally_line tally ∷ line_of_end count ∷ []
 
 -- a line for each heard line, the tally of all of them with what was kept before, and the end line
 pub record HeardsReport (order : Order) (plate : Plate) (count : ℕ) (kept : Kept) (counters : List ℕ) (blocks : List (List ℤ)) (lines : List (List ℕ)) : Type 0 where
-  pub replies : List Decoded
+  pub replies : List (Result Answer Refusal)
   pub answered : BlockAnswers plate blocks replies
   pub are : let heards = heards_of counters blocks replies in
       lines ≡ heard_lines order plate kept.reference heards (closing (plus kept.tally (tally_from kept.reference heards)) count)
@@ -105,7 +99,7 @@ LinesReport true order plate count kept counters blocks lines = HeardsReport ord
 
 -- nothing is kept before the first
 abbrev pub at_first : Kept
-at_first = record { reference = Unset; tally = no_tally }
+at_first = record { reference = None; tally = no_tally }
 
 -- ---- the whole
 
@@ -120,9 +114,9 @@ PlateReports plate Rest [] = ⊥
 PlateReports plate Rest (line ∷ lines) = (line ≡ line_of_plate plate) × ProfileReports plate Rest lines
 
 -- a matrix that is refused prints one line and nothing more
-abbrev pub PreparedReports : Verdict → Plate → Contents → List (List ℕ) → Type 0
-PreparedReports (J.Refused q) plate sheet lines = lines ≡ line_of_refusal q ∷ []
-PreparedReports J.Accepted plate sheet lines =
+abbrev pub PreparedReports : Result (Unit {0}) Refusal → Plate → Contents → List (List ℕ) → Type 0
+PreparedReports (Err q) plate sheet lines = lines ≡ line_of_refusal q ∷ []
+PreparedReports (Ok _) plate sheet lines =
     PlateReports plate (LinesReport sheet.heard sheet.order plate (length sheet.blocks) at_first sheet.counters sheet.blocks) lines
 
 -- the sheet's matrix is prepared with its mask

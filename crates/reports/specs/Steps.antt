@@ -1,20 +1,14 @@
 -- What opening a report and taking its next line reply, and what they leave in the lent rooms.
-use Rattle.std.specs.Prelude.{◌≡◌, ℕ, ◌<◌, ◌≤◌, Bool, true, false, cond, ◌&&◌, List, length, ℤ, ◌==◌, nat_lt}
+use Rattle.std.specs.Prelude.{None, ◌≡◌, ℕ, ◌<◌, ◌≤◌, Bool, true, false, cond, ◌&&◌, List, length, ℤ, ◌==◌, nat_lt, Result, Ok, Err, Some}
 use Rattle.plates.specs.declared.Kind.{Kind}
 use Rattle.plates.specs.declared.Plate.{Plate}
 use Rattle.plates.specs.declared.Prepared.{Prepared}
 use Rattle.plates.specs.declared.Refusal.{Refusal}
 use Rattle.plates.specs.declared.Refusal.TheVariants.{LineRoom}
-use Rattle.plates.specs.declared.Verdict.{Verdict}
-use Rattle.plates.specs.declared.Verdict.TheVariants as J
 use Rattle.plates.specs.Prepare.{Prepares, zero_plate}
 use Rattle.plates.specs.Refusals.{field, number, place}
 use Rattle.decoding.specs.declared.Answer.{Answer}
-use Rattle.decoding.specs.declared.Decoded.{Decoded}
-use Rattle.decoding.specs.declared.Decoded.TheVariants as D
 use Rattle.decoding.specs.Decode.{Decodes}
-use Rattle.listings.specs.declared.Written.{Written}
-use Rattle.listings.specs.declared.Written.TheVariants as W
 use Rattle.listings.specs.Writing.{WritesPlate, WritesProfile, WritesOf, WritesRefused, WritesEnd, WritesTally}
 use Rattle.sheets.specs.Blocks.{BlockFound, block, no_block, block_at, counter_at, next_line}
 use Rattle.sheets.specs.Turning.{in_order}
@@ -25,8 +19,6 @@ use Rattle.reports.specs.declared.Stage.{Stage}
 use Rattle.reports.specs.declared.Stage.TheVariants as S
 use Rattle.reports.specs.declared.Report.{Report}
 use Rattle.reports.specs.declared.tally.Kept.{Kept}
-use Rattle.reports.specs.declared.tally.Reference.TheVariants.{Unset}
-use Rattle.reports.specs.declared.Outcome.TheVariants as O
 use Rattle.reports.specs.declared.Step.{Step}
 use Rattle.reports.specs.Report.{line_of_answer}
 use Rattle.reports.specs.Tally.{is_repeat, no_tally, raised_by, reference_of, share, standing}
@@ -35,16 +27,16 @@ use Rattle.reports.specs.Tally.{is_repeat, no_tally, raised_by, reference_of, sh
 
 -- nothing is kept yet
 abbrev pub nothing_kept : Kept
-nothing_kept = record { reference = Unset; tally = no_tally }
+nothing_kept = record { reference = None; tally = no_tally }
 
 -- the report that says a refusal, and nothing more
 abbrev pub refused_report : Refusal → Report
 refused_report q = record { stage = S.Refused q; plate = zero_plate; order = First; at = 0; heard = false; blocks = 0; kept = nothing_kept }
 
 -- the report of a sheet whose first block line, or end, begins at `at`, by what preparing says
-abbrev pub report_by : Verdict → Plate → Order → ℕ → Bool → ℕ → Report
-report_by (J.Refused q) plate order at heard blocks = refused_report q
-report_by J.Accepted plate order at heard blocks =
+abbrev pub report_by : Result (Unit {0}) Refusal → Plate → Order → ℕ → Bool → ℕ → Report
+report_by (Err q) plate order at heard blocks = refused_report q
+report_by (Ok _) plate order at heard blocks =
     record { stage = S.PlateLine; plate = plate; order = order; at = at; heard = heard; blocks = blocks; kept = nothing_kept }
 
 -- a sheet that is not refused: its matrix is prepared with its mask
@@ -81,7 +73,7 @@ abbrev pub to_end : Report → Report
 to_end report = to S.EndLine report.at report
 
 -- what is kept after a line of a sheet of heard lines, or of blocks
-abbrev pub kept_after : Bool → Kept → ℕ → List ℤ → Decoded → Kept
+abbrev pub kept_after : Bool → Kept → ℕ → List ℤ → Result Answer Refusal → Kept
 kept_after false kept counter samples decoded = kept
 kept_after true kept counter samples decoded = record {
   reference = reference_of kept.reference counter decoded;
@@ -89,7 +81,7 @@ kept_after true kept counter samples decoded = record {
 }
 
 -- the lines from a place on come next, after a line of this counter and these samples, by what decoding replied
-abbrev pub after_line : ℕ → Report → ℕ → List ℤ → Decoded → Report
+abbrev pub after_line : ℕ → Report → ℕ → List ℤ → Result Answer Refusal → Report
 after_line next report counter samples decoded = record {
   stage = S.BlockLines;
   plate = report.plate;
@@ -109,21 +101,21 @@ abbrev pub to_nothing : Report → Report
 to_nothing report = to S.Done report.at report
 
 -- the step by what writing the line replied: the line's length and the report after it, or the refusal and the report as it was
-abbrev pub step_by : Written → Report → Report → Step
-step_by (W.Bytes size) before after = record { outcome = O.Line size; next = after }
-step_by (W.Refused q) before after = record { outcome = O.Refused q; next = before }
+abbrev pub step_by : Result ℕ Refusal → Report → Report → Step
+step_by (Ok size) before after = record { outcome = Ok (Some size); next = after }
+step_by (Err q) before after = record { outcome = Err q; next = before }
 
 -- a refusal of what was lent
 abbrev pub refused_step : Refusal → Report → Step
-refused_step q report = record { outcome = O.Refused q; next = report }
+refused_step q report = record { outcome = Err q; next = report }
 
 -- nothing is left
 abbrev pub nothing_left : Report → Step
-nothing_left report = record { outcome = O.Nothing; next = report }
+nothing_left report = record { outcome = Ok None; next = report }
 
 -- a repeat gives a line of no bytes
 abbrev pub silent_step : Report → Step
-silent_step after = record { outcome = O.Line 0; next = after }
+silent_step after = record { outcome = Ok (Some 0); next = after }
 
 -- the working rooms are as they were
 pub record Untouched (metrics metrics' : List ℤ) (decisions decisions' : List ℕ) : Type 0 where
@@ -131,8 +123,8 @@ pub record Untouched (metrics metrics' : List ℤ) (decisions decisions' : List 
   pub decisions_same : decisions' ≡ decisions
 
 -- a line is written, by the promise of a call that writes one
-pub record WritesStep (Promise : Written → List ℕ → Type 0) (before after : Report) (step : Step) (room' : List ℕ) : Type 0 where
-  pub written : Written
+pub record WritesStep (Promise : Result ℕ Refusal → List ℕ → Type 0) (before after : Report) (step : Step) (room' : List ℕ) : Type 0 where
+  pub written : Result ℕ Refusal
   pub writes : Promise written room'
   pub is : step ≡ step_by written before after
 
@@ -146,9 +138,9 @@ RefusedStep true q before after room step room' = WritesStep (WritesRefused (num
 RefusedStep false q before after room step room' = (step ≡ refused_step q before) × (room' ≡ room)
 
 -- an answer is of a plate whose words have at most 64 positions
-abbrev pub Printable : Decoded → Plate → Type 0
-Printable (D.Found a) plate = plate.n ≤ 64
-Printable (D.Refused q) plate = Unit {0}
+abbrev pub Printable : Result Answer Refusal → Plate → Type 0
+Printable (Ok a) plate = plate.n ≤ 64
+Printable (Err q) plate = Unit {0}
 
 -- an answer: its line, or none for a repeat
 abbrev pub FoundStep : Bool → Answer → Report → Report → List ℕ → Step → List ℕ → Type 0
@@ -157,9 +149,9 @@ FoundStep false a before after room step room' =
     WritesStep (WritesOf before.plate (line_of_answer before.order before.plate a) room) before after step room'
 
 -- the step by what decoding replied to a line of this counter
-abbrev pub DecodedStep : ℕ → Decoded → Report → Report → List ℕ → Step → List ℕ → Type 0
-DecodedStep counter (D.Found a) before after room step room' = FoundStep (is_silent before counter) a before after room step room'
-DecodedStep counter (D.Refused q) before after room step room' = RefusedStep (of_block q) q before after room step room'
+abbrev pub DecodedStep : ℕ → Result Answer Refusal → Report → Report → List ℕ → Step → List ℕ → Type 0
+DecodedStep counter (Ok a) before after room step room' = FoundStep (is_silent before counter) a before after room step room'
+DecodedStep counter (Err q) before after room step room' = RefusedStep (of_block q) q before after room step room'
 
 -- what is lent to a call, and what it leaves
 pub record Lent : Type 0 where
@@ -172,12 +164,12 @@ lends metrics decisions room = record { metrics = metrics; decisions = decisions
 
 -- a block is decoded, after which the next line begins at `next`
 pub record BlockStep (counter : ℕ) (samples : List ℤ) (before : Report) (next : ℕ) (lent : Lent) (step : Step) (left : Lent) : Type 0 where
-  pub decoded : Decoded
+  pub decoded : Result Answer Refusal
   pub decodes : Decodes before.plate samples lent.metrics lent.decisions left.metrics left.decisions decoded
   pub line : DecodedStep counter decoded before (after_line next before counter samples decoded) lent.room step left.room
 
 -- a step that only writes
-pub record LineStep (Promise : Written → List ℕ → Type 0) (before after : Report) (lent : Lent) (step : Step) (left : Lent) : Type 0 where
+pub record LineStep (Promise : Result ℕ Refusal → List ℕ → Type 0) (before after : Report) (lent : Lent) (step : Step) (left : Lent) : Type 0 where
   pub line : WritesStep Promise before after step left.room
   pub working : Untouched lent.metrics left.metrics lent.decisions left.decisions
 
@@ -197,7 +189,7 @@ pub data RoomStep (counter : ℕ) (samples : List ℤ) (before : Report) (next :
   enough : 256 ≤ length lent.room → BlockStep counter samples before next lent step left → RoomStep counter samples before next lent step left
 
 -- after the last line: the tally of a sheet of heard lines, or the end line
-abbrev pub Closes : Bool → Report → List ℕ → Written → List ℕ → Type 0
+abbrev pub Closes : Bool → Report → List ℕ → Result ℕ Refusal → List ℕ → Type 0
 Closes false report room = WritesEnd report.blocks room
 Closes true report room = WritesTally report.kept.tally room
 

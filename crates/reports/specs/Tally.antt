@@ -1,12 +1,9 @@
 -- The tally of a shift: each heard line by its counter, its samples and what decoding replies, and the numbers that they add to.
-use Rattle.std.specs.Prelude.{ℕ, ◌+◌, ◌-◌, ◌%◌, ◌^◌, Bool, true, false, cond, List, [], ◌∷◌, ℤ, pos, ◌+ℤ◌, ◌==◌, int_lt, nat_lt, unsigned_abs}
+use Rattle.plates.specs.declared.Refusal.{Refusal}
+use Rattle.std.specs.Prelude.{Option, Some, None, ℕ, ◌+◌, ◌-◌, ◌%◌, ◌^◌, Bool, true, false, cond, List, [], ◌∷◌, ℤ, pos, ◌+ℤ◌, ◌==◌, int_lt, nat_lt, unsigned_abs, Result, Ok, Err}
 use Rattle.words.specs.Word.{bit}
 use Rattle.decoding.specs.declared.Answer.{Answer}
-use Rattle.decoding.specs.declared.Decoded.{Decoded}
-use Rattle.decoding.specs.declared.Decoded.TheVariants as D
 use Rattle.listings.specs.declared.Tally.{Tally}
-use Rattle.reports.specs.declared.tally.Reference.{Reference}
-use Rattle.reports.specs.declared.tally.Reference.TheVariants as R
 use Rattle.reports.specs.declared.tally.Standing.{Standing}
 use Rattle.reports.specs.declared.tally.Standing.TheVariants as S
 
@@ -14,7 +11,7 @@ use Rattle.reports.specs.declared.tally.Standing.TheVariants as S
 pub record Heard : Type 0 where
   pub counter : ℕ
   pub samples : List ℤ
-  pub reply : Decoded
+  pub reply : Result Answer Refusal
 
 -- ---- where a line stands by its counter
 
@@ -27,21 +24,21 @@ abbrev pub standing_by : ℕ → Standing
 standing_by step = cond (step == 0) S.Repeat (cond (nat_lt 32767 step) S.OutOfTurn (S.Onward (step - 1)))
 
 -- a line that is not refused, by the reference before it: the first sets it
-abbrev pub standing : Reference → ℕ → Standing
-standing R.Unset counter = S.First
-standing (R.Counter reference) counter = standing_by (advance counter reference)
+abbrev pub standing : Option ℕ → ℕ → Standing
+standing None counter = S.First
+standing (Some reference) counter = standing_by (advance counter reference)
 
 -- the reference after a line that is not refused
-abbrev pub reference_by : Standing → ℕ → Reference → Reference
-reference_by S.First counter reference = R.Counter counter
+abbrev pub reference_by : Standing → ℕ → Option ℕ → Option ℕ
+reference_by S.First counter reference = Some counter
 reference_by S.Repeat counter reference = reference
 reference_by S.OutOfTurn counter reference = reference
-reference_by (S.Onward missing) counter reference = R.Counter counter
+reference_by (S.Onward missing) counter reference = Some counter
 
 -- after each line: a refused one leaves it
-abbrev pub reference_of : Reference → ℕ → Decoded → Reference
-reference_of reference counter (D.Refused q) = reference
-reference_of reference counter (D.Found a) = reference_by (standing reference counter) counter reference
+abbrev pub reference_of : Option ℕ → ℕ → Result Answer Refusal → Option ℕ
+reference_of reference counter (Err q) = reference
+reference_of reference counter (Ok a) = reference_by (standing reference counter) counter reference
 
 -- ---- what a line adds
 
@@ -104,9 +101,9 @@ found_share S.OutOfTurn samples a = decoded_share 1 0 samples a
 found_share (S.Onward missing) samples a = decoded_share 0 missing samples a
 
 -- each line, by the reference before it
-abbrev pub share : Reference → ℕ → List ℤ → Decoded → Tally
-share reference counter samples (D.Refused q) = refused_share
-share reference counter samples (D.Found a) = found_share (standing reference counter) samples a
+abbrev pub share : Option ℕ → ℕ → List ℤ → Result Answer Refusal → Tally
+share reference counter samples (Err q) = refused_share
+share reference counter samples (Ok a) = found_share (standing reference counter) samples a
 
 -- ---- the tally
 
@@ -125,14 +122,14 @@ plus s t = record {
 }
 
 -- what some lines add to, by the reference before the first
-abbrev pub tally_from : Reference → List Heard → Tally
+abbrev pub tally_from : Option ℕ → List Heard → Tally
 tally_from reference [] = no_tally
 tally_from reference (h ∷ hs) =
     plus (share reference h.counter h.samples h.reply) (tally_from (reference_of reference h.counter h.reply) hs)
 
 -- the tally of a sheet's heard lines
 abbrev pub tally_of : List Heard → Tally
-tally_of hs = tally_from R.Unset hs
+tally_of hs = tally_from None hs
 
 -- the metric of a line, where it is decoded and no repeat
 abbrev pub metric_by : Standing → ℤ → ℤ
@@ -141,18 +138,18 @@ metric_by S.Repeat metric = pos 0
 metric_by S.OutOfTurn metric = metric
 metric_by (S.Onward missing) metric = metric
 
-abbrev pub metric_share : Reference → ℕ → Decoded → ℤ
-metric_share reference counter (D.Refused q) = pos 0
-metric_share reference counter (D.Found a) = metric_by (standing reference counter) a.metric
+abbrev pub metric_share : Option ℕ → ℕ → Result Answer Refusal → ℤ
+metric_share reference counter (Err q) = pos 0
+metric_share reference counter (Ok a) = metric_by (standing reference counter) a.metric
 
 -- the sum of metrics of some lines, by the reference before the first
-abbrev pub metrics_from : Reference → List Heard → ℤ
+abbrev pub metrics_from : Option ℕ → List Heard → ℤ
 metrics_from reference [] = pos 0
 metrics_from reference (h ∷ hs) =
     metric_share reference h.counter h.reply +ℤ metrics_from (reference_of reference h.counter h.reply) hs
 
 -- heard lines of these counters, samples and replies
-abbrev pub heards_of : List ℕ → List (List ℤ) → List Decoded → List Heard
+abbrev pub heards_of : List ℕ → List (List ℤ) → List (Result Answer Refusal) → List Heard
 heards_of (counter ∷ counters) (samples ∷ blocks) (reply ∷ replies) = record { counter = counter; samples = samples; reply = reply } ∷ heards_of counters blocks replies
 heards_of [] blocks replies = []
 heards_of (counter ∷ counters) [] replies = []

@@ -1,6 +1,5 @@
 -- The lines of a report taken in turn, and the rooms that are enough for that.
-use Rattle.std.specs.Prelude.{◌≡◌, ℕ, ◌≤◌, List, [], ◌∷◌, length, take}
-use Rattle.reports.specs.declared.Outcome.TheVariants as O
+use Rattle.std.specs.Prelude.{◌≡◌, ℕ, ◌≤◌, List, [], ◌∷◌, length, take, Ok, Some}
 use Rattle.reports.specs.declared.Report.{Report}
 use Rattle.reports.specs.declared.Step.{Step}
 use Rattle.reports.specs.Steps.{Lent, Steps}
@@ -19,7 +18,7 @@ pub record Turn (input : List ℕ) (report : Report) (line : List ℕ) (Then : R
   pub left : Lent
   pub steps : Steps report input lent step left
   pub size : ℕ
-  pub outcome : step.outcome ≡ O.Line size
+  pub outcome : step.outcome ≡ Ok (Some size)
   pub bytes : line ≡ take size left.room
   pub next : Then step.next
 

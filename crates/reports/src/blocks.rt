@@ -10,17 +10,15 @@ use crate::stages::{close_line, refused_line};
 use crate::steps::{after_line, refused_step, silent_step, step_by};
 use crate::tally::{is_repeat, stands};
 use crate::{Report, Step};
-use decoding::{Answer, Decoded};
+use decoding::Answer;
 use plates::Refusal;
-use sheets::BlockReply;
+use sheets::SampleLine;
 
 // Whether a line of this counter is a repeat, which prints no line where it is not refused.
 fn is_silent(report: Report, counter: u16) -> bool
     ensures { result ≡ is_silent report counter }
 {
-    let kept = report.kept;
-    let reference = kept.reference;
-    report.heard && is_repeat(stands(reference, counter))
+    report.heard && is_repeat(stands(report.kept.reference, counter))
 }
 
 // The line of an answer, its word in the cover's order.
@@ -50,11 +48,7 @@ fn word_line(before: Report, after: Report, answer: Answer, room: &mut [u8]) -> 
 fn is_of_block(refusal: Refusal) -> bool
     ensures { result ≡ of_block refusal }
 {
-    let number = plates::refusal_number(refusal);
-    if number == 6 {
-        return true;
-    }
-    number == 7
+    matches!(refusal, Refusal::SampleCount | Refusal::SampleRange(_))
 }
 
 // A block whose decoding is refused.
@@ -83,21 +77,15 @@ fn decoded_line(
     before: Report,
     after: Report,
     counter: u16,
-    decoded: Decoded,
+    decoded: Result<Answer, Refusal>,
     room: &mut [u8],
 ) -> Step
     requires { Printable decoded before.plate }
     ensures { DecodedStep counter decoded before after room.old result room.new }
 {
     match decoded {
-        Decoded::Found(answer) => found_line(
-            is_silent(before, counter),
-            before,
-            after,
-            answer,
-            room,
-        ),
-        Decoded::Refused(refusal) => refused_block(before, after, refusal, room),
+        Ok(answer) => found_line(is_silent(before, counter), before, after, answer, room),
+        Err(refusal) => refused_block(before, after, refusal, room),
     }
 }
 
@@ -150,12 +138,12 @@ pub fn block_line(
     let order = report.order;
     let reply = sheets::read_block(report.heard, input, report.at, order, &mut values);
     match reply {
-        BlockReply::Read { samples, next } => {
+        Some(SampleLine { samples, next }) => {
             let counter = sheets::read_counter(input, report.at);
             samples_line(
                 report, next, counter, samples, &values, metrics, decisions, room,
             )
         }
-        BlockReply::NoBlock => close_line(report, room),
+        None => close_line(report, room),
     }
 }

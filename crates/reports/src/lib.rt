@@ -6,10 +6,9 @@ ghost use Rattle.reports.specs.Listing.{WritesListing};
 ghost use Rattle.reports.specs.Remaining.{rooms};
 ghost use Rattle.reports.specs.Steps.{Opens, OpensSheet, Steps, lends, nothing_kept, refused_report};
 
-use listings::Written;
-use plates::{Plate, Refusal, Verdict};
-use sheets::{Order, Sheet, SheetReply};
-use tally::{Kept, Reference};
+use plates::{Plate, Refusal};
+use sheets::{Order, Sheet};
+use tally::Kept;
 
 mod blocks;
 mod listing;
@@ -43,18 +42,10 @@ pub struct Report {
     pub kept: Kept,
 }
 
-// What a step gave: a line of so many bytes at the start of the room, which for a repeated heard line are none, or nothing since nothing is left, or why what was lent is refused.
-#[derive(Clone, Copy)]
-pub enum Outcome {
-    Line(usize),
-    Nothing,
-    Refused(Refusal),
-}
-
 // The outcome, and the report after it: where there is no line, the report as it was.
 #[derive(Clone, Copy)]
 pub struct Step {
-    pub outcome: Outcome,
+    pub outcome: Result<Option<usize>, Refusal>,
     pub next: Report,
 }
 
@@ -63,7 +54,7 @@ fn nothing_kept() -> Kept
     ensures { result ≡ nothing_kept }
 {
     Kept {
-        reference: Reference::Unset,
+        reference: None,
         tally: tally::none(),
     }
 }
@@ -74,13 +65,7 @@ fn refused(refusal: Refusal) -> Report
 {
     Report {
         stage: Stage::Refused(refusal),
-        plate: Plate {
-            n: 0,
-            k: 0,
-            mask: 0,
-            rows: [0; 64],
-            profile: [0; 65],
-        },
+        plate: Plate::zero(),
         order: Order::First,
         at: 0,
         heard: false,
@@ -100,7 +85,7 @@ fn of_sheet(sheet: Sheet, table: &[u64; 64]) -> Report
     let order = sheet.order;
     let prepared = plates::prepare(sheet.n, kind, &rows[..count], sheet.mask);
     let verdict = prepared.verdict;
-    if let Verdict::Refused(refusal) = verdict {
+    if let Err(refusal) = verdict {
         return refused(refusal);
     }
     let plate = prepared.plate;
@@ -122,8 +107,8 @@ pub fn open(input: &[u8]) -> Report
     let mut table = [0; 64];
     let reply = sheets::read_sheet(input, &mut table);
     match reply {
-        SheetReply::Read(sheet) => of_sheet(sheet, &table),
-        SheetReply::Refused(refusal) => refused(refusal),
+        Ok(sheet) => of_sheet(sheet, &table),
+        Err(refusal) => refused(refusal),
     }
 }
 
@@ -145,7 +130,7 @@ pub fn next_line(
         Stage::BlockLines => blocks::block_line(report, input, metrics, decisions, room),
         Stage::EndLine => stages::end_line(report, room),
         Stage::Done => Step {
-            outcome: Outcome::Nothing,
+            outcome: Ok(None),
             next: report,
         },
     }
@@ -157,20 +142,20 @@ pub fn write_listing(
     metrics: &mut [i32],
     decisions: &mut [u64],
     room: &mut [u8],
-) -> Written
+) -> Result<usize, Refusal>
     ensures { WritesListing input.now (rooms metrics.old decisions.old) room.old (rooms metrics.new decisions.new) room.new result }
 {
     if metrics.len() < 8192 {
-        return Written::Refused(Refusal::MetricRoom);
+        return Err(Refusal::MetricRoom);
     }
     if decisions.len() < 4096 {
-        return Written::Refused(Refusal::DecisionRoom);
+        return Err(Refusal::DecisionRoom);
     }
     let report = open(input);
     let lines = listing::lines_of(report);
     if room.len() / 256 < lines {
-        return Written::Refused(Refusal::LineRoom);
+        return Err(Refusal::LineRoom);
     }
     let size = listing::list_lines(report, lines, input, metrics, decisions, room);
-    Written::Bytes(size)
+    Ok(size)
 }

@@ -1,9 +1,10 @@
 // A whole listing, line after line in one lent room.
 ghost use Rattle.std.specs.Prelude.{◌≡◌, ◌≤◌};
-ghost use Rattle.reports.specs.Listing.{BeforeLine, BeforeLines, LineAdded, LinesAdded};
-ghost use Rattle.reports.specs.Remaining.{count_at, rooms, tallies};
+ghost use Rattle.reports.specs.Listing.{BeforeLine, BeforeLines, LineAdded, LinesAdded, bytes_of};
+ghost use Rattle.reports.specs.Remaining.{count_at, rooms};
 
-use crate::{Outcome, Report, Stage, next_line};
+use crate::{Report, Stage, next_line};
+use plates::Refusal;
 
 // How far a listing is: the report of what is left, and how many bytes are written.
 #[derive(Clone, Copy)]
@@ -12,23 +13,12 @@ pub struct Progress {
     pub size: usize,
 }
 
-// How many tallies.
-fn tallies(heard: bool) -> usize
-    ensures value { result ≡ tallies heard }
-    ensures upper_bound { result ≤ 1 }
-{
-    if heard {
-        return 1;
-    }
-    0
-}
-
 // How many lines a report gives that was just opened.
 pub fn lines_of(report: Report) -> usize
     requires { report.blocks ≤ 32769 }
     ensures { result ≡ count_at report.stage report.heard report.blocks }
 {
-    let blocks = report.blocks + tallies(report.heard);
+    let blocks = report.blocks + usize::from(report.heard);
     let stage = report.stage;
     match stage {
         Stage::Refused(_) => 1,
@@ -37,6 +27,16 @@ pub fn lines_of(report: Report) -> usize
         Stage::BlockLines => blocks + 1,
         Stage::EndLine => 1,
         Stage::Done => 0,
+    }
+}
+
+// Of how many bytes the line is that a step gave; 0 where it gave none.
+fn bytes_of(outcome: Result<Option<usize>, Refusal>) -> usize
+    ensures { result ≡ bytes_of outcome }
+{
+    match outcome {
+        Ok(Some(size)) => size,
+        _ => 0,
     }
 }
 
@@ -54,15 +54,9 @@ fn list_line(
     let size = progress.size;
     let report = progress.report;
     let step = next_line(report, input, metrics, decisions, &mut listing[size..]);
-    let outcome = step.outcome;
-    let next = step.next;
-    match outcome {
-        Outcome::Line(length) => Progress {
-            report: next,
-            size: size + length,
-        },
-        Outcome::Nothing => Progress { report: next, size },
-        Outcome::Refused(_) => Progress { report: next, size },
+    Progress {
+        report: step.next,
+        size: size + bytes_of(step.outcome),
     }
 }
 
@@ -79,8 +73,7 @@ pub fn list_lines(
     ensures { LinesAdded input.now report (rooms metrics.old decisions.old) listing.old (rooms metrics.new decisions.new) listing.new result }
 {
     let mut progress = Progress { report, size: 0 };
-    let mut i: usize = 0;
-    while i < lines {
+    for _ in 0..lines {
         progress = list_line(
             progress,
             input,
@@ -88,7 +81,6 @@ pub fn list_lines(
             &mut *decisions,
             &mut *listing,
         );
-        i += 1;
     }
     progress.size
 }

@@ -3,31 +3,29 @@ ghost use Rattle.std.specs.Prelude.{◌≡◌, ◌≤◌, length};
 ghost use Rattle.reports.specs.Steps.{after_line, kept_after, refused_step, silent_step, step_by, to};
 
 use crate::tally::{Kept, raise, reference_of, share};
-use crate::{Outcome, Report, Stage, Step};
-use decoding::Decoded;
-use listings::Written;
+use crate::{Report, Stage, Step};
+use decoding::Answer;
 use plates::Refusal;
 
 // The same report, at another stage and place.
 pub fn at_stage(report: Report, stage: Stage, at: usize) -> Report
     ensures { result ≡ to stage at report }
 {
-    let plate = report.plate;
-    let order = report.order;
-    let kept = report.kept;
     Report {
         stage,
-        plate,
-        order,
         at,
-        heard: report.heard,
-        blocks: report.blocks,
-        kept,
+        ..report
     }
 }
 
 // What is kept after a line.
-fn kept_after(heard: bool, kept: Kept, counter: u16, samples: &[i16], decoded: Decoded) -> Kept
+fn kept_after(
+    heard: bool,
+    kept: Kept,
+    counter: u16,
+    samples: &[i16],
+    decoded: Result<Answer, Refusal>,
+) -> Kept
     requires { length samples.now ≤ 64 }
     ensures { result ≡ kept_after heard kept counter samples.now decoded }
 {
@@ -47,37 +45,31 @@ pub fn after_line(
     next: usize,
     counter: u16,
     samples: &[i16],
-    decoded: Decoded,
+    decoded: Result<Answer, Refusal>,
 ) -> Report
     requires { length samples.now ≤ 64 }
     ensures { result ≡ after_line next report counter samples.now decoded }
 {
-    let plate = report.plate;
-    let order = report.order;
-    let before = report.kept;
-    let kept = kept_after(report.heard, before, counter, samples, decoded);
+    let kept = kept_after(report.heard, report.kept, counter, samples, decoded);
     Report {
         stage: Stage::BlockLines,
-        plate,
-        order,
         at: next,
-        heard: report.heard,
-        blocks: report.blocks,
         kept,
+        ..report
     }
 }
 
 // The step by what writing its line replied.
-pub fn step_by(written: Written, before: Report, after: Report) -> Step
+pub fn step_by(written: Result<usize, Refusal>, before: Report, after: Report) -> Step
     ensures { result ≡ step_by written before after }
 {
     match written {
-        Written::Bytes(size) => Step {
-            outcome: Outcome::Line(size),
+        Ok(size) => Step {
+            outcome: Ok(Some(size)),
             next: after,
         },
-        Written::Refused(refusal) => Step {
-            outcome: Outcome::Refused(refusal),
+        Err(refusal) => Step {
+            outcome: Err(refusal),
             next: before,
         },
     }
@@ -88,7 +80,7 @@ pub fn refused_step(refusal: Refusal, report: Report) -> Step
     ensures { result ≡ refused_step refusal report }
 {
     Step {
-        outcome: Outcome::Refused(refusal),
+        outcome: Err(refusal),
         next: report,
     }
 }
@@ -98,7 +90,7 @@ pub fn silent_step(after: Report) -> Step
     ensures { result ≡ silent_step after }
 {
     Step {
-        outcome: Outcome::Line(0),
+        outcome: Ok(Some(0)),
         next: after,
     }
 }

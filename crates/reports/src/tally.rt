@@ -1,16 +1,10 @@
 // The tally of a shift, kept from heard line to heard line.
-ghost use Rattle.std.specs.Prelude.{◌≡◌, ◌+◌, ◌-◌, ◌%◌, ◌<◌, ◌≤◌, length, if◌then◌else◌};
-ghost use Rattle.reports.specs.Tally.{advance, decoded_share, found_share, gained, is_repeat, is_zero, lost, no_tally, opposes, opposing, raised_by, reference_by, reference_of, refused_share, repeated_share, share, standing, standing_by, zeros};
+ghost use Rattle.std.specs.Prelude.{◌≡◌, ◌+◌, ◌-◌, ◌%◌, ◌<◌, ◌≤◌, length};
+ghost use Rattle.reports.specs.Tally.{advance, decoded_share, found_share, gained, is_repeat, lost, no_tally, opposes, opposing, raised_by, reference_by, reference_of, refused_share, repeated_share, share, standing, standing_by, zeros};
 
-use decoding::{Answer, Decoded};
+use decoding::Answer;
 use listings::Tally;
-
-// The counter that the next line's is taken from, once a line has set it.
-#[derive(Clone, Copy)]
-pub enum Reference {
-    Unset,
-    Counter(u16),
-}
+use plates::Refusal;
 
 // Where a line that is not refused stands by its counter: the first, a repeat, out of turn, or onward with so many counters missing.
 #[derive(Clone, Copy)]
@@ -21,10 +15,10 @@ pub enum Standing {
     Onward(u64),
 }
 
-// What is kept: the reference, and the tally so far.
+// What is kept: the reference, which is the counter that the next line's is taken from, once a line has set it; and the tally so far.
 #[derive(Clone, Copy)]
 pub struct Kept {
-    pub reference: Reference,
+    pub reference: Option<u16>,
     pub tally: Tally,
 }
 
@@ -66,12 +60,12 @@ fn standing_by(step: u16) -> Standing
 }
 
 // Where a line that is not refused stands.
-pub fn stands(reference: Reference, counter: u16) -> Standing
+pub fn stands(reference: Option<u16>, counter: u16) -> Standing
     ensures { result ≡ standing reference counter }
 {
     match reference {
-        Reference::Unset => Standing::First,
-        Reference::Counter(before) => standing_by(advance(counter, before)),
+        None => Standing::First,
+        Some(before) => standing_by(advance(counter, before)),
     }
 }
 
@@ -79,51 +73,38 @@ pub fn stands(reference: Reference, counter: u16) -> Standing
 pub fn is_repeat(standing: Standing) -> bool
     ensures { result ≡ is_repeat standing }
 {
-    match standing {
-        Standing::First => false,
-        Standing::Repeat => true,
-        Standing::OutOfTurn => false,
-        Standing::Onward(_) => false,
-    }
+    matches!(standing, Standing::Repeat)
 }
 
 // The reference after it.
-fn reference_by(standing: Standing, counter: u16, reference: Reference) -> Reference
+fn reference_by(standing: Standing, counter: u16, reference: Option<u16>) -> Option<u16>
     ensures { result ≡ reference_by standing counter reference }
 {
     match standing {
-        Standing::First => Reference::Counter(counter),
-        Standing::Repeat => reference,
-        Standing::OutOfTurn => reference,
-        Standing::Onward(_) => Reference::Counter(counter),
+        Standing::First | Standing::Onward(_) => Some(counter),
+        Standing::Repeat | Standing::OutOfTurn => reference,
     }
 }
 
 // The reference after a line: a refused one leaves it.
-pub fn reference_of(reference: Reference, counter: u16, decoded: Decoded) -> Reference
+pub fn reference_of(
+    reference: Option<u16>,
+    counter: u16,
+    decoded: Result<Answer, Refusal>,
+) -> Option<u16>
     ensures { result ≡ reference_of reference counter decoded }
 {
     match decoded {
-        Decoded::Refused(_) => reference,
-        Decoded::Found(_) => reference_by(stands(reference, counter), counter, reference),
+        Err(_) => reference,
+        Ok(_) => reference_by(stands(reference, counter), counter, reference),
     }
 }
 
-// 1 where the answer's bit opposes the sample.
-fn against(sample: i16, bit: u64) -> u64
-    ensures value { result ≡ (if opposes sample bit then 1 else 0) }
-    ensures upper_bound { result ≤ 1 }
+// Whether the answer's bit opposes the sample.
+fn opposes(sample: i16, bit: u64) -> bool
+    ensures { result ≡ opposes sample bit }
 {
-    if bit == 0 {
-        if sample < 0 {
-            return 1;
-        }
-        return 0;
-    }
-    if 0 < sample {
-        return 1;
-    }
-    0
+    if bit == 0 { sample < 0 } else { 0 < sample }
 }
 
 // At how many positions the answer opposes its sample.
@@ -131,27 +112,13 @@ fn count_opposing(samples: &[i16], word: u64) -> u64
     requires { length samples.now ≤ 64 }
     ensures { result ≡ opposing word 0 samples.now }
 {
-    let mut i: usize = 0;
     let mut count: u64 = 0;
-    while i < samples.len() {
-        count += against(samples[i], words::bit_at(word, i));
-        i += 1;
+    for (i, sample) in samples.iter().enumerate() {
+        if opposes(*sample, words::bit_at(word, i)) {
+            count += 1;
+        }
     }
     count
-}
-
-// 1 for a zero sample.
-fn zero(sample: i16) -> u64
-    ensures value { result ≡ (if is_zero sample then 1 else 0) }
-    ensures upper_bound { result ≤ 1 }
-{
-    if sample < 0 {
-        return 0;
-    }
-    if 0 < sample {
-        return 0;
-    }
-    1
 }
 
 // How many samples are zero.
@@ -159,13 +126,7 @@ fn count_zeros(samples: &[i16]) -> u64
     requires { length samples.now ≤ 64 }
     ensures { result ≡ zeros samples.now }
 {
-    let mut i: usize = 0;
-    let mut count: u64 = 0;
-    while i < samples.len() {
-        count += zero(samples[i]);
-        i += 1;
-    }
-    count
+    samples.iter().filter(|sample| **sample == 0).count() as u64
 }
 
 // A metric above 0.
@@ -173,9 +134,10 @@ fn gained(metric: i32) -> u64
     ensures { result ≡ gained metric }
 {
     if metric < 0 {
-        return 0;
+        0
+    } else {
+        metric.unsigned_abs() as u64
     }
-    metric as u64
 }
 
 // The size of a metric below 0.
@@ -183,9 +145,10 @@ fn lost(metric: i32) -> u64
     ensures { result ≡ lost metric }
 {
     if metric < 0 {
-        return (0 - (metric as i64)) as u64;
+        metric.unsigned_abs() as u64
+    } else {
+        0
     }
-    0
 }
 
 // What a decoded line adds.
@@ -216,15 +179,8 @@ fn refused_share() -> Tally
     ensures { result ≡ refused_share }
 {
     Tally {
-        decoded: 0,
         refused: 1,
-        repeated: 0,
-        late: 0,
-        missing: 0,
-        opposing: 0,
-        zeros: 0,
-        above: 0,
-        below: 0,
+        ..none()
     }
 }
 
@@ -233,15 +189,8 @@ fn repeated_share() -> Tally
     ensures { result ≡ repeated_share }
 {
     Tally {
-        decoded: 0,
-        refused: 0,
         repeated: 1,
-        late: 0,
-        missing: 0,
-        opposing: 0,
-        zeros: 0,
-        above: 0,
-        below: 0,
+        ..none()
     }
 }
 
@@ -259,13 +208,18 @@ fn found_share(standing: Standing, samples: &[i16], answer: Answer) -> Tally
 }
 
 // What a line adds.
-pub fn share(reference: Reference, counter: u16, samples: &[i16], decoded: Decoded) -> Tally
+pub fn share(
+    reference: Option<u16>,
+    counter: u16,
+    samples: &[i16],
+    decoded: Result<Answer, Refusal>,
+) -> Tally
     requires { length samples.now ≤ 64 }
     ensures { result ≡ share reference counter samples.now decoded }
 {
     match decoded {
-        Decoded::Refused(_) => refused_share(),
-        Decoded::Found(answer) => found_share(stands(reference, counter), samples, answer),
+        Err(_) => refused_share(),
+        Ok(answer) => found_share(stands(reference, counter), samples, answer),
     }
 }
 

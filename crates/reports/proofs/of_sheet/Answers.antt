@@ -5,9 +5,9 @@ use Rattle.reports.proofs.of_sheet.Goals as goal
 pub slice_bounds-prepare-end : goal.slice_bounds-prepare-end
 slice_bounds-prepare-end c = sym (length-take-le _ _ c.requires)
 
-pub returns-in-Refused : goal.returns-in-Refused
-returns-in-Refused c =
-    record { prepared = _; prepares = c.prepare-prepared.ensures; is = rw c.in-Refused.is c.refused.ensures }
+pub returns-in-Err : goal.returns-in-Err
+returns-in-Err c =
+    record { prepared = _; prepares = c.prepare-prepared.ensures; is = rw c.in-Err.is c.refused.ensures }
 
 pub returns : goal.returns
 returns c = record { prepared = _; prepares = c.prepare-prepared.ensures; is = rw (c.in_default.is, c.nothing_kept.ensures) }

@@ -2,4 +2,4 @@
 use Rattle.reports.proofs.refused.Goals as goal
 
 pub returns : goal.returns
-returns c = rw c.nothing_kept.ensures
+returns c = rw (c.nothing_kept.ensures, c.zero.ensures)

@@ -10,15 +10,15 @@ samples_line-requires c =
     let a = c.args in
     rw c.read_block-reply.ensures.samples (places-size a.report.order (replicate 64 (pos 0)) refl (block_at a.report.heard a.input.now a.report.at))
 
-pub returns-in-Read : goal.returns-in-Read
-returns-in-Read c =
+pub returns-in-Some : goal.returns-in-Some
+returns-in-Some c =
     let a = c.args in
     let r = c.read_block-reply in
-    block-step (replicate 64 (pos 0)) refl (block_at a.report.heard a.input.now a.report.at) (counter_at a.input.now a.report.at) (next_line a.input.now a.report.at) _ _ _
-    (sym c.in-Read.is ∙ r.ensures.reply) r.ensures.samples (rw c.read_counter-counter.ensures at c.samples_line.ensures)
+    block-step (replicate 64 (pos 0)) refl (block_at a.report.heard a.input.now a.report.at) (counter_at a.input.now a.report.at) (next_line a.input.now a.report.at)
+    c.in-Some.field-0.samples c.in-Some.field-0.next _ (sym c.in-Some.is ∙ r.ensures.reply) r.ensures.samples (rw c.read_counter-counter.ensures at c.samples_line.ensures)
 
-pub returns-in-NoBlock : goal.returns-in-NoBlock
-returns-in-NoBlock c =
+pub returns-in-None : goal.returns-in-None
+returns-in-None c =
     let a = c.args in
     end_step (replicate 64 (pos 0)) refl (block_at a.report.heard a.input.now a.report.at) (counter_at a.input.now a.report.at) (next_line a.input.now a.report.at)
-    (sym c.in-NoBlock.is ∙ c.read_block-reply.ensures.reply) (only-writes c.close_line.ensures)
+    (sym c.in-None.is ∙ c.read_block-reply.ensures.reply) (only-writes c.close_line.ensures)

@@ -1,20 +1,18 @@
 -- `listing::list_line` meets its contract.
 use Rattle.std.proofs.Common.{refl, arith}
-use Rattle.reports.proofs.ListingLines.{gives-some, line-added, refuses-never, size_small}
+use Rattle.reports.proofs.ListingLines.{gives-one, line-added, size_small}
 use Rattle.reports.proofs.listing.list_line.Goals as goal
 
 pub overflow_add-result : goal.overflow_add-result
 overflow_add-result c =
-    record { fits = omega (arith, size_small _ c.args.progress _ _ c.args.listing.now _ _ _ c.requires refl c.next_line-step.ensures _ c.in-Line.is) }
+    let p = c.args.progress in
+    let room = c.args.listing.now in
+    let one = gives-one _ p _ _ room _ _ _ c.requires refl c.next_line-step.ensures in
+    record { fits = omega (arith, size_small _ p _ _ room _ _ _ c.requires refl c.next_line-step.ensures _ one, c.bytes_of.ensures) }
 
-pub returns-in-Line : goal.returns-in-Line
-returns-in-Line c =
-    line-added _ c.args.progress _ _ c.args.listing.now _ _ _ c.requires refl c.next_line-step.ensures _ c.in-Line.is
-
-pub returns-in-Nothing : goal.returns-in-Nothing
-returns-in-Nothing c =
-    absurd (gives-some _ c.args.progress _ _ c.args.listing.now _ _ _ c.requires refl c.next_line-step.ensures c.in-Nothing.is)
-
-pub returns-in-Refused : goal.returns-in-Refused
-returns-in-Refused c =
-    absurd (refuses-never _ c.args.progress _ _ c.args.listing.now _ _ _ c.requires refl c.next_line-step.ensures _ c.in-Refused.is)
+pub returns : goal.returns
+returns c =
+    let p = c.args.progress in
+    let room = c.args.listing.now in
+    let one = gives-one _ p _ _ room _ _ _ c.requires refl c.next_line-step.ensures in
+    rw c.bytes_of.ensures (line-added _ p _ _ room _ _ _ c.requires refl c.next_line-step.ensures _ one)

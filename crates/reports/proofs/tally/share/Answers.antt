@@ -1,7 +1,7 @@
 -- `tally::share` meets its contract.
 use Rattle.reports.proofs.tally.share.Goals as goal
 
-pub returns-in-Found : goal.returns-in-Found
-returns-in-Found c =
+pub returns-in-Ok : goal.returns-in-Ok
+returns-in-Ok c =
     let a = c.args in
-    rw c.in-Found.is (rw c.stands.ensures at c.found_share.ensures)
+    rw c.in-Ok.is (rw c.stands.ensures at c.found_share.ensures)
