@@ -1,4 +1,5 @@
 -- What the replies of `write_alist` and `write_from_alist` tell in a room that is long enough for every text: the text, or why there is none.
+use Rattle.std.proofs.Common.{Result, Ok, Err}
 use lib.ListN.{drop, length, take}
 use lib.Seq.{take-append_seam}
 use lib.Dec.{ltb}
@@ -13,7 +14,6 @@ use Rattle.alists.proofs.OnlyAccepted.{only-accepted}
 use Rattle.alists.specs.Accepted.{Sized}
 use Rattle.alists.specs.Calls.{no_rows, write_conditions}
 use Rattle.alists.specs.Reading as A
-use Rattle.listings.specs.declared.Written.TheVariants as W
 use Rattle.listings.specs.Writing.{Writes, line_room}
 use Rattle.outlines.proofs.ChecksFit.{ChecksFit, checks-fit}
 use Rattle.outlines.proofs.Enough.{alist-length}
@@ -24,21 +24,19 @@ use Rattle.outlines.specs.AlistText.{WritesAlistAs, WritesAlistOf, WritesChecks,
 use Rattle.plates.specs.declared.Kind.TheVariants.{H}
 use Rattle.plates.specs.declared.Refusal.{Refusal}
 use Rattle.plates.specs.declared.Refusal.TheVariants as R
-use Rattle.plates.specs.declared.Verdict.{Verdict}
-use Rattle.plates.specs.declared.Verdict.TheVariants as J
 use Rattle.plates.specs.Refusals.{Passes, Refuses}
 use Rattle.sheets.specs.Sheet.{Contents, Reading, reading, refused, says}
 
 -- ---- replies
 
-refused-same : {p q : Refusal} → W.Refused q ≡ W.Refused p → q ≡ p
+refused-same : {p q : Refusal} → ◌≡◌ {A = Result ℕ Refusal} (Err q) (Err p) → q ≡ p
 refused-same e = cc
 
-not-both : {A : Type 0} {q : Refusal} {size : ℕ} → W.Bytes size ≡ W.Refused q → A
+not-both : {A : Type 0} {q : Refusal} {size : ℕ} → ◌≡◌ {A = Result ℕ Refusal} (Ok size) (Err q) → A
 not-both e = let z : ◌≡◌ {A = ℕ} 0 1 = cc in absurd (omega arith)
 
 -- a text that was written stands at the start of the room
-pub written-there : {cs : List (Refusal → Type 0)} {line room room' : List ℕ} {size : ℕ} → Writes cs line room (W.Bytes size) room' → take size room' ≡ line
+pub written-there : {cs : List (Refusal → Type 0)} {line room room' : List ℕ} {size : ℕ} → Writes cs line room (Ok size) room' → take size room' ≡ line
 written-there {line = line} {room} x = rw (x.reply.1, x.reply.2) (take-append_seam line (drop (length line) room))
 
 -- ---- write_alist
@@ -58,16 +56,16 @@ only-without-rows n checks room q f h (inr (a, inr (b, inr (c, inr (d, inl x))))
     absurd (omega (arith, x.0, h, alist-length n checks f.most f.few))
 only-without-rows n checks room q f h (inr (a, inr (b, inr (c, inr (d, inr x))))) = absurd x.1
 
-pub alist-lacks : {input room room' : List ℕ} {q : Refusal} → 32768 ≤ length room → WritesAlistOf input room (W.Refused q) room' → LacksAlist input q
+pub alist-lacks : {input room room' : List ℕ} {q : Refusal} → 32768 ≤ length room → WritesAlistOf input room (Err q) room' → LacksAlist input q
 alist-lacks {input} {room} {room'} {q} h x = record { is = by (reading input) refl x.is }
   where
-    on : (c : Contents) → reading input ≡ says c → (y : WritesChecks c.n c.kind c.rows room (W.Refused q) room') (v : Verdict)
-        → y.dual.verdict ≡ v → WritesChecksBy v c.n (checks_in c y.dual) room (W.Refused q) room' → LacksChecksBy v (checks_in c y.dual) q
-    on c f y (J.Refused p) g z = refused-same z.0
-    on c f y J.Accepted g z =
+    on : (c : Contents) → reading input ≡ says c → (y : WritesChecks c.n c.kind c.rows room (Err q) room') (v : Result (Unit {0}) Refusal)
+        → y.dual.verdict ≡ v → WritesChecksBy v c.n (checks_in c y.dual) room (Err q) room' → LacksChecksBy v (checks_in c y.dual) q
+    on c f y (Err p) g z = refused-same z.0
+    on c f y (Ok _) g z =
         only-without-rows c.n (checks_in c y.dual) room q (checks-fit input c y.dual f y.prepares g) h z.reply.0
 
-    by : (found : Reading) → reading input ≡ found → WritesAlistAs found room (W.Refused q) room' → LacksAlistAs found q
+    by : (found : Reading) → reading input ≡ found → WritesAlistAs found room (Err q) room' → LacksAlistAs found q
     by (refused p) f y = refused-same y.0
     by (says c) f y = record { dual = y.dual; prepares = y.prepares; is = on c f y y.dual.verdict refl y.is }
 
@@ -79,13 +77,13 @@ some-rows n checks room p = go (dec_lt 0 (length checks))
     go (yes h) = omega (arith, h)
     go (no h) = absurd (p.1.1.1.0 (R.AlistFault 0) (omega (arith, h), refl))
 
-pub alist-prints : {input room room' : List ℕ} {size : ℕ} → WritesAlistOf input room (W.Bytes size) room' → PrintsAlist input (take size room')
+pub alist-prints : {input room room' : List ℕ} {size : ℕ} → WritesAlistOf input room (Ok size) room' → PrintsAlist input (take size room')
 alist-prints {input} {room} {room'} {size} x = by (reading input) refl x.is
   where
-    on : (c : Contents) → reading input ≡ says c → (y : WritesChecks c.n c.kind c.rows room (W.Bytes size) room') (v : Verdict)
-        → y.dual.verdict ≡ v → WritesChecksBy v c.n (checks_in c y.dual) room (W.Bytes size) room' → PrintsAlist input (take size room')
-    on c f y (J.Refused p) g z = not-both z.0
-    on c f y J.Accepted g z = record {
+    on : (c : Contents) → reading input ≡ says c → (y : WritesChecks c.n c.kind c.rows room (Ok size) room') (v : Result (Unit {0}) Refusal)
+        → y.dual.verdict ≡ v → WritesChecksBy v c.n (checks_in c y.dual) room (Ok size) room' → PrintsAlist input (take size room')
+    on c f y (Err p) g z = not-both z.0
+    on c f y (Ok _) g z = record {
       sheet = c;
       reads = f;
       dual = y.dual;
@@ -95,7 +93,7 @@ alist-prints {input} {room} {room'} {size} x = by (reading input) refl x.is
       is = written-there z;
     }
 
-    by : (found : Reading) → reading input ≡ found → WritesAlistAs found room (W.Bytes size) room' → PrintsAlist input (take size room')
+    by : (found : Reading) → reading input ≡ found → WritesAlistAs found room (Ok size) room' → PrintsAlist input (take size room')
     by (refused p) f y = not-both y.0
     by (says c) f y = on c f y y.dual.verdict refl y.is
 
@@ -117,7 +115,7 @@ given-read input n rows = go (ltb 32768 (length input)) (A.reading input)
 given-sized : (input : List ℕ) (n : ℕ) (rows : List ℕ) → matrix_in input ≡ given n rows → Sized n rows
 given-sized input n rows e = (only-accepted input n rows (given-read input n rows e)).sized
 
-pub from-alist-lacks : {input room room' : List ℕ} {q : Refusal} → 8192 ≤ length room → WritesFromAlist input room (W.Refused q) room'
+pub from-alist-lacks : {input room room' : List ℕ} {q : Refusal} → 8192 ≤ length room → WritesFromAlist input room (Err q) room'
     → matrix_in input ≡ not_given q
 from-alist-lacks {input} {room} {room'} {q} h x = by (matrix_in input) refl x.is
   where
@@ -125,13 +123,13 @@ from-alist-lacks {input} {room} {room'} {q} h x = by (matrix_in input) refl x.is
     short n rows z (inl y) = omega (arith, y.0, h, sheet-length H n 0 rows z.most z.few)
     short n rows z (inr y) = y.1
 
-    by : (found : Given) → matrix_in input ≡ found → WritesGiven found room (W.Refused q) room' → matrix_in input ≡ not_given q
+    by : (found : Given) → matrix_in input ≡ found → WritesGiven found room (Err q) room' → matrix_in input ≡ not_given q
     by (not_given p) f y = f ∙ ap not_given (sym (refused-same y.0))
     by (given n rows) f y = absurd (short n rows (given-sized input n rows f) y.reply.0)
 
-pub from-alist-prints : {input room room' : List ℕ} {size : ℕ} → WritesFromAlist input room (W.Bytes size) room' → PrintsFromAlist input (take size room')
+pub from-alist-prints : {input room room' : List ℕ} {size : ℕ} → WritesFromAlist input room (Ok size) room' → PrintsFromAlist input (take size room')
 from-alist-prints {input} {room} {room'} {size} x = by (matrix_in input) refl x.is
   where
-    by : (found : Given) → matrix_in input ≡ found → WritesGiven found room (W.Bytes size) room' → PrintsFromAlist input (take size room')
+    by : (found : Given) → matrix_in input ≡ found → WritesGiven found room (Ok size) room' → PrintsFromAlist input (take size room')
     by (not_given p) f y = not-both y.0
     by (given n rows) f y = record { n = n; rows = rows; reads = f; is = written-there y }

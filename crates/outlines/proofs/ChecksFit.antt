@@ -1,4 +1,5 @@
 -- The parity checks of an input that is not refused are a matrix that can be written, but for having rows.
+use Rattle.std.proofs.Common.{Ok}
 use lib.ListN.{get_or, length}
 use mathlib.Core.List.{List}
 use mathlib.Core.Path.{◌≡◌, subst}
@@ -12,7 +13,6 @@ use Rattle.outlines.specs.Opening.{kind_as}
 use Rattle.plates.specs.declared.Kind.{Kind}
 use Rattle.plates.specs.declared.Kind.TheVariants.{G, H}
 use Rattle.plates.specs.declared.Prepared.{Prepared}
-use Rattle.plates.specs.declared.Verdict.TheVariants.{Accepted}
 use Rattle.plates.specs.Prepare.{IsPrepared, Prepares, rows_of}
 use Rattle.sheets.proofs.Ranges.{InRange, sheet-in-range}
 use Rattle.sheets.specs.Sheet.{Contents, reading, says}
@@ -35,7 +35,7 @@ checks-below G n rows dual h k = k
 checks-below H n rows dual h k = h
 
 pub checks-fit : (input : List ℕ) (c : Contents) (dual : Prepared) → reading input ≡ says c → Prepares c.n (kind_as Dual c.kind) c.rows 0 dual
-    → dual.verdict ≡ Accepted → ChecksFit c.n (checks_in c dual)
+    → dual.verdict ≡ Ok tt → ChecksFit c.n (checks_in c dual)
 checks-fit input c dual r p e = record {
   least = range.least;
   most = range.most;

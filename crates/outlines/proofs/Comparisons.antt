@@ -1,19 +1,19 @@
 -- What `write_same` replies, by the plates of the inputs and what is told of them; and the line of that.
+use Rattle.std.proofs.Common.{Result, Ok, Err}
 use lib.ListN.{length, length-append}
 use mathlib.Core.List.{List, [], ◌++◌, ◌∷◌}
 use mathlib.Core.Path.{◌≡◌, ap, refl, subst, sym, ◌∙◌}
 use native.Mathlib.Omega.{arith}
 use Prim.Native.Nat.{ℕ, ◌<◌, ◌≤◌}
 use Rattle.listings.proofs.Backwards.{positions-length}
-use Rattle.listings.specs.declared.Written.{Written}
-use Rattle.listings.specs.declared.Written.TheVariants as W
 use Rattle.listings.specs.Lines.{positions}
 use Rattle.listings.specs.Writing.{WritesLine}
 use Rattle.outlines.proofs.Fitting.{text-too-long, text-written}
 use Rattle.outlines.proofs.Putting.{puts_then}
-use Rattle.outlines.specs.Comparing.{ComparesPlate, FirstBy, SecondBy, WritesSame, WritesTold, compared_as, told_line}
+use Rattle.outlines.specs.Comparing.{ComparesPlate, FirstBy, SecondBy, WritesSame, WritesTold, compared_as, replied_as, told_line}
 use Rattle.outlines.specs.declared.Compared.{Compared}
-use Rattle.outlines.specs.declared.Compared.TheVariants as C
+use Rattle.outlines.specs.declared.Uncompared.{Uncompared}
+use Rattle.outlines.specs.declared.Uncompared.TheVariants as U
 use Rattle.outlines.specs.declared.comparing.Told.{Told}
 use Rattle.outlines.specs.declared.comparing.Told.TheVariants as T
 use Rattle.outlines.specs.declared.opening.Which.TheVariants.{Own}
@@ -24,8 +24,6 @@ use Rattle.plates.specs.declared.Plate.{Plate}
 use Rattle.plates.specs.declared.Prepared.{Prepared}
 use Rattle.plates.specs.declared.Refusal.{Refusal}
 use Rattle.plates.specs.declared.Refusal.TheVariants as R
-use Rattle.plates.specs.declared.Verdict.{Verdict}
-use Rattle.plates.specs.declared.Verdict.TheVariants as J
 use Rattle.words.specs.Letters.{bytes}
 
 -- ---- the line
@@ -73,69 +71,53 @@ told-length n (T.Second w) h =
 
 module _ (n : ℕ) (told : Told) (h : n ≤ 64) where
   pub told-written : {room room' scratch scratch' : List ℕ} {size r : ℕ} → Puts scratch 0 (told_line n told) scratch' size → size ≤ length room
-      → Puts room 0 (told_line n told) room' r → WritesLine (told_line n told) room (W.Bytes size) room'
+      → Puts room 0 (told_line n told) room' r → WritesLine (told_line n told) room (Ok size) room'
   told-written = text-written (told_line n told) (omega (arith, told-length n told h))
 
   pub told-too-long : {room scratch scratch' : List ℕ} {size : ℕ} → Puts scratch 0 (told_line n told) scratch' size → length room < size
-      → WritesLine (told_line n told) room (W.Refused R.LineRoom) room
+      → WritesLine (told_line n told) room (Err R.LineRoom) room
   told-too-long = text-too-long (told_line n told) (omega (arith, told-length n told h))
 
 -- ---- the reply
 
-module _ {told : Told} {size : ℕ} where
-  pub compared_same : told ≡ T.Same → C.Same size ≡ compared_as told (W.Bytes size)
-  compared_same e = rw e
-
-  pub compared-mirrored : told ≡ T.Mirrored → C.Different size ≡ compared_as told (W.Bytes size)
-  compared-mirrored e = rw e
-
-  pub compared-lengths : told ≡ T.Lengths → C.Different size ≡ compared_as told (W.Bytes size)
-  compared-lengths e = rw e
-
-  pub compared-first : {w : ℕ} → told ≡ T.First w → C.Different size ≡ compared_as told (W.Bytes size)
-  compared-first e = rw e
-
-  pub compared-second : {w : ℕ} → told ≡ T.Second w → C.Different size ≡ compared_as told (W.Bytes size)
-  compared-second e = rw e
-
-module _ {a b : Plate} {told : Told} {written : Written} {room room' : List ℕ} (t : ToldOf a b told)
+module _ {a b : Plate} {told : Told} {written : Result ℕ Refusal} {room room' : List ℕ} (t : ToldOf a b told)
     (w : WritesLine (told_line a.n told) room written room') where
-  pub plates-told : {size : ℕ} {r : Compared} → written ≡ W.Bytes size → r ≡ compared_as told (W.Bytes size) → WritesTold a b room r room'
-  plates-told e f = record { told = told; tells = t.is; written = written; puts = w; is = f ∙ ap (compared_as told) (sym e) }
+  pub plates-told : {size : ℕ} {r : Compared} → written ≡ Ok size → r ≡ compared_as told size → WritesTold a b room (Ok r) room'
+  plates-told e f = record { told = told; tells = t.is; written = written; puts = w; is = ap (λ (c : Compared). Ok c) f ∙ ap (replied_as told) (sym e) }
 
-  pub plates-untold : {q : Refusal} → written ≡ W.Refused q → WritesTold a b room (C.Refused q) room'
-  plates-untold e = record { told = told; tells = t.is; written = written; puts = w; is = ap (compared_as told) (sym e) }
+  pub plates-untold : {q : Refusal} → written ≡ Err q → WritesTold a b room (Err (U.Room q)) room'
+  plates-untold e = record { told = told; tells = t.is; written = written; puts = w; is = ap (replied_as told) (sym e) }
 
 -- the second input
 module _ {a : Plate} {second room : List ℕ} {prepared : Prepared} (o : Opened Own second prepared) where
-  pub second-refused : {q : Refusal} → prepared.verdict ≡ J.Refused q → ComparesPlate a second room (C.SecondRefused q) room
+  pub second-refused : {q : Refusal} → prepared.verdict ≡ Err q → ComparesPlate a second room (Err (U.Second q)) room
   second-refused {q} e = record {
     prepared = prepared;
     opened = o;
-    is = subst (λ (v : Verdict). SecondBy v a prepared.plate room (C.SecondRefused q) room) (sym e) (refl, refl);
+    is = subst (λ (v : Result (Unit {0}) Refusal). SecondBy v a prepared.plate room (Err (U.Second q)) room) (sym e) (refl, refl);
   }
 
-  pub second-compared : {r : Compared} {room' : List ℕ} → prepared.verdict ≡ J.Accepted → WritesTold a prepared.plate room r room'
+  pub second-compared : {r : Result Compared Uncompared} {room' : List ℕ} → prepared.verdict ≡ Ok tt → WritesTold a prepared.plate room r room'
       → ComparesPlate a second room r room'
   second-compared {r} {room'} e w = record {
     prepared = prepared;
     opened = o;
-    is = subst (λ (v : Verdict). SecondBy v a prepared.plate room r room') (sym e) w;
+    is = subst (λ (v : Result (Unit {0}) Refusal). SecondBy v a prepared.plate room r room') (sym e) w;
   }
 
 -- the first input
 module _ {first second room : List ℕ} {prepared : Prepared} (o : Opened Own first prepared) where
-  pub first-refused : {q : Refusal} → prepared.verdict ≡ J.Refused q → WritesSame first second room (C.FirstRefused q) room
+  pub first-refused : {q : Refusal} → prepared.verdict ≡ Err q → WritesSame first second room (Err (U.First q)) room
   first-refused {q} e = record {
     prepared = prepared;
     opened = o;
-    is = subst (λ (v : Verdict). FirstBy v prepared.plate second room (C.FirstRefused q) room) (sym e) (refl, refl);
+    is = subst (λ (v : Result (Unit {0}) Refusal). FirstBy v prepared.plate second room (Err (U.First q)) room) (sym e) (refl, refl);
   }
 
-  pub first-compared : {r : Compared} {room' : List ℕ} → prepared.verdict ≡ J.Accepted → ComparesPlate prepared.plate second room r room'
+  pub first-compared : {r : Result Compared Uncompared} {room' : List ℕ} → prepared.verdict ≡ Ok tt → ComparesPlate prepared.plate second room r room'
       → WritesSame first second room r room'
   first-compared {r} {room'} e w = record {
     prepared = prepared;
     opened = o;
-    is = subst (λ (v : Verdict). FirstBy v prepared.plate second room r room') (sym e) w;
+    is = subst (λ (v : Result (Unit {0}) Refusal). FirstBy v prepared.plate second room r room') (sym e) w;
   }

@@ -9,12 +9,11 @@ use mathlib.Core.Logic.{inl, inr, ◌⊎◌}
 use mathlib.Core.Path.{◌≡◌, ap, ap₂, refl, subst, sym, ◌∙◌}
 use native.Mathlib.Omega.{arith}
 use Prim.Native.Nat.{◌/◌, ◌<◌, ◌^◌, suc, suc-le-suc, zero-le, ℕ, ◌≤◌}
+use Rattle.std.specs.Prelude.{None, Option, Some}
 use Rattle.decoding.proofs.RestOfWords.{off-below, off-cleared, off-sum, xor-through}
 use Rattle.decoding.specs.Cosets.{taken_off}
 use Rattle.outlines.proofs.RestTells.{xor_below}
 use Rattle.outlines.specs.Comparing.{Alone}
-use Rattle.outlines.specs.declared.comparing.Found.{Found}
-use Rattle.outlines.specs.declared.comparing.Found.TheVariants.{Nothing, Word}
 use Rattle.outlines.specs.Searching.{OutsideAs, first_out, or_word}
 use Rattle.words.proofs.Span.{Nothing as TakesNone, Top, first-unique, least, rising-apart, sum-skip, sum-take, zero_one}
 use Rattle.words.proofs.Sums.{all-zero, in-cons, in_row, in-xor, in-zero}
@@ -83,7 +82,7 @@ module _ (n : ℕ) (Q : ℕ → Type 0) (left : ℕ → ℕ) (three : (x y z : �
   no_rows : (w : ℕ) → In [] w → w ≡ rest
   no_rows w g = xor-zero-eq w rest (sym g.sum)
 
-  start : (none : Bool) → eqb (left rest) 0 ≡ none → OutsideAs (In []) Q (cond none Nothing (Word rest))
+  start : (none : Bool) → eqb (left rest) 0 ≡ none → OutsideAs (In []) Q (cond none None (Some rest))
   start true e = λ w g. subst Q (sym (no_rows w g)) (none_in rest (eqb-true (left rest) 0 e))
   start false e = (
     (subst (IsSum []) (sym (xor_self rest)) (in-zero []), λ q. eqb-false (left rest) 0 e (in-none rest small q)),
@@ -177,11 +176,11 @@ module _ (n : ℕ) (Q : ℕ → Type 0) (left : ℕ → ℕ) (three : (x y z : �
                 ap (λ (y : ℕ). bit y p) (sym (xor-twice v rest) ∙ ap (λ (y : ℕ). bit_xor y rest) x.2) ∙ bit-xor p (bit_xor row x.0) rest
                 ∙ ap₂ differ (bit-xor p row x.0 ∙ ap₂ differ lead.one (zero-up-to h p (omega arith) x.1)) (h.clear 0 (suc-le-suc zero-le))
 
-    one_more : (found : Found) → OutsideAs (In rows) Q found → OutsideAs (In (row ∷ rows)) Q (or_word found (left next) next)
-    one_more (Word w) ih = ((in-cons row ih.0.0, ih.0.1), still-earliest w ih.0.0 ih.1)
-    one_more Nothing ih = by (eqb (left next) 0) refl
+    one_more : (found : Option ℕ) → OutsideAs (In rows) Q found → OutsideAs (In (row ∷ rows)) Q (or_word found (left next) next)
+    one_more (Some w) ih = ((in-cons row ih.0.0, ih.0.1), still-earliest w ih.0.0 ih.1)
+    one_more None ih = by (eqb (left next) 0) refl
       where
-        by : (none : Bool) → eqb (left next) 0 ≡ none → OutsideAs (In (row ∷ rows)) Q (cond none Nothing (Word next))
+        by : (none : Bool) → eqb (left next) 0 ≡ none → OutsideAs (In (row ∷ rows)) Q (cond none None (Some next))
         by true e = all_in ih (none_in next (eqb-true (left next) 0 e))
         by false e = ((next-in, λ q. eqb-false (left next) 0 e (in-none next next-below q)), next-earliest ih)
 

@@ -1,4 +1,6 @@
 -- A sheet put into a room that was measured for it, and the rows of a prepared plate.
+use Rattle.std.proofs.Common.{Result, Ok, Err}
+use Rattle.plates.specs.declared.Refusal.{Refusal}
 use lib.ListN.{drop, length, length-append}
 use lib.Seq.{sets, sets-eq}
 use mathlib.Core.Bool.{Bool, cond, false, true}
@@ -11,8 +13,6 @@ use Rattle.decoding.specs.Cosets.{taken_off}
 use Rattle.listings.proofs.Backwards.{positions-length}
 use Rattle.listings.proofs.Conditions.{fits-room, too_long}
 use Rattle.listings.proofs.Fits256.{decimal-two}
-use Rattle.listings.specs.declared.Written.{Written}
-use Rattle.listings.specs.declared.Written.TheVariants.{Bytes, Refused}
 use Rattle.listings.specs.Lines.{line, positions}
 use Rattle.listings.specs.Writing.{WritesLine}
 use Rattle.outlines.specs.Putting.{Puts}
@@ -60,7 +60,7 @@ module _ (text : List ℕ) (short : length text ≤ 8192) where
 
   -- that was measured before
   pub text-written : {room room' scratch scratch' : List ℕ} {size r : ℕ} → Puts scratch 0 text scratch' size → size ≤ length room
-      → Puts room 0 text room' r → WritesLine text room (Bytes size) room'
+      → Puts room 0 text room' r → WritesLine text room (Ok size) room'
   text-written {room} {size = size} m l p =
       let e : size ≡ length text = m.next fits ∙ omega arith in
       let z : 0 + length text ≡ length text = omega arith in
@@ -68,16 +68,16 @@ module _ (text : List ℕ) (short : length text ≤ 8192) where
       rw (e, p.stands fits, s, z) (fits-room text room (omega (arith, e, l)))
 
   pub text-too-long : {room scratch scratch' : List ℕ} {size : ℕ} → Puts scratch 0 text scratch' size → length room < size
-      → WritesLine text room (Refused R.LineRoom) room
+      → WritesLine text room (Err R.LineRoom) room
   text-too-long {room} m l = too_long text room (omega (arith, m.next fits, l))
 
 module _ (kind : Kind) (n word : ℕ) (rows : List ℕ) (h : n ≤ 64) (k : length rows ≤ 64) where
   pub sheet-written : {room room' scratch scratch' : List ℕ} {size r : ℕ} → Puts scratch 0 (sheet_text kind n word rows) scratch' size → size ≤ length room
-      → Puts room 0 (sheet_text kind n word rows) room' r → WritesLine (sheet_text kind n word rows) room (Bytes size) room'
+      → Puts room 0 (sheet_text kind n word rows) room' r → WritesLine (sheet_text kind n word rows) room (Ok size) room'
   sheet-written = text-written (sheet_text kind n word rows) (sheet-length kind n word rows h k)
 
   pub sheet-too-long : {room scratch scratch' : List ℕ} {size : ℕ} → Puts scratch 0 (sheet_text kind n word rows) scratch' size → length room < size
-      → WritesLine (sheet_text kind n word rows) room (Refused R.LineRoom) room
+      → WritesLine (sheet_text kind n word rows) room (Err R.LineRoom) room
   sheet-too-long = text-too-long (sheet_text kind n word rows) (sheet-length kind n word rows h k)
 
 -- ---- the rows of a prepared plate
@@ -97,6 +97,6 @@ module _ {plate : Plate} (p : IsPrepared plate) where
   rows_few = omega (arith, p.few, rows-used)
 
 -- with what is left of the mask
-pub plate-written : (plate : Plate) {word : ℕ} {room room' : List ℕ} {r : Written} → word ≡ taken_off (rows_of plate) plate.mask
+pub plate-written : (plate : Plate) {word : ℕ} {room room' : List ℕ} {r : Result ℕ Refusal} → word ≡ taken_off (rows_of plate) plate.mask
     → WritesLine (sheet_text G plate.n word (rows_of plate)) room r room' → WritesLine (sheet_of plate) room r room'
 plate-written plate e w = rw e at w

@@ -3,14 +3,13 @@ use lib.Bits.{bit_xor, xor_comm, xor_zero_r}
 use mathlib.Core.Path.{◌≡◌, ap, refl, subst, sym, ◌∙◌}
 use native.Mathlib.Omega.{arith}
 use Prim.Native.Nat.{◌<◌, ◌^◌, ℕ}
+use Rattle.std.specs.Prelude.{None, Option, Some}
 use Rattle.decoding.proofs.MaskedWords.{rest_of}
 use Rattle.decoding.proofs.RestOfWords.{off-cleared, off-sum, off_zero}
 use Rattle.decoding.specs.Cosets.{taken_off}
 use Rattle.outlines.proofs.EarliestOut.{Heads, earliest-out, xor-twice}
 use Rattle.outlines.proofs.RestTells.{rest_below, rest-same, rested-words, rows-below, xor_below}
 use Rattle.outlines.proofs.Reversing.{read_below, read-xor}
-use Rattle.outlines.specs.declared.comparing.Found.{Found}
-use Rattle.outlines.specs.declared.comparing.Found.TheVariants.{Nothing, Word}
 use Rattle.outlines.specs.Searching.{Outside, OutsideAs, first_out, left_of, read_from}
 use Rattle.plates.proofs.SoundIsPrepared.{sound}
 use Rattle.plates.specs.declared.Plate.{Plate}
@@ -80,10 +79,10 @@ heads a p =
     record { leads = s.first; rising = s.rising; below = rows-below a p; clear = off-cleared (rows_of a) a.mask s.first s.rising }
 
 -- the words by the rest are the words by the mask
-rested : (a : Plate) (p : IsPrepared a) (Q : ℕ → Type 0) (found : Found) → OutsideAs (λ w. IsSum (rows_of a) (bit_xor w (rest_of a))) Q found
+rested : (a : Plate) (p : IsPrepared a) (Q : ℕ → Type 0) (found : Option ℕ) → OutsideAs (λ w. IsSum (rows_of a) (bit_xor w (rest_of a))) Q found
     → OutsideAs (IsWord a) Q found
-rested a p Q Nothing h = λ w g. h w ((rested-words a p w).0 g)
-rested a p Q (Word w) h = (((rested-words a p w).1 h.0.0, h.0.1), λ v b e. h.1 v ((rested-words a p v).0 b.0, b.1) e)
+rested a p Q None h = λ w g. h w ((rested-words a p w).0 g)
+rested a p Q (Some w) h = (((rested-words a p w).1 h.0.0, h.0.1), λ v b e. h.1 v ((rested-words a p v).0 b.0, b.1) e)
 
 -- b: a plate of the same length
 module _ (order : Order) (a b : Plate) (p : IsPrepared a) (q : IsPrepared b) where
@@ -105,7 +104,7 @@ module _ (order : Order) (a b : Plate) (p : IsPrepared a) (q : IsPrepared b) whe
       in-none : (w : ℕ) → w < 2 ^ n → IsWord b (read_from order n w) → left_of order n (rows_of b) b.mask w ≡ 0
       in-none = rw e (read_none b q order)
 
-pub outside-found : {order : Order} {a b : Plate} {rest : ℕ} {found : Found} → IsPrepared a → IsPrepared b → a.n ≡ b.n → rest ≡ taken_off (rows_of a) a.mask
+pub outside-found : {order : Order} {a b : Plate} {rest : ℕ} {found : Option ℕ} → IsPrepared a → IsPrepared b → a.n ≡ b.n → rest ≡ taken_off (rows_of a) a.mask
     → found ≡ first_out (left_of order a.n (rows_of b) b.mask) rest (rows_of a) → Outside order a b found
 outside-found {order} {a} {b} {rest} {found} p q e f g = record {
   is =

@@ -1,7 +1,7 @@
 -- A text put into a room piece by piece.
 use borrow.Author.Tests.{ne_eqb}
 use lib.ListN.{get_or, length, length-append, set, take}
-use lib.Seq.{set_out, sets, take_all, take-suc}
+use lib.Seq.{sets, take_all, take-suc}
 use mathlib.Core.List.{◌++◌, List, [], append_assoc, append-nil, ◌∷◌}
 use mathlib.Core.Path.{◌≡◌, ap, refl, subst, sym, ◌∙◌}
 use native.Mathlib.Numerals.{add-one}
@@ -28,14 +28,6 @@ sets-append (x ∷ a) b room at =
 -- nothing is put
 pub puts_none : (room : List ℕ) (at : ℕ) → Puts room at [] room at
 puts_none room at = record { size = refl; stands = λ h. refl; next = λ h. omega arith }
-
--- a byte at the last place that there is a number for
-pub byte_last : {room : List ℕ} {at x : ℕ} → at ≡ 18446744073709551615 → Puts room at (x ∷ []) room at
-byte_last e = record { size = refl; stands = λ h. absurd (omega (arith, e, h)); next = λ h. absurd (omega (arith, e, h)) }
-
--- a byte behind the room's end
-pub byte-dropped : {room : List ℕ} {at x : ℕ} → length room ≤ at → Puts room at (x ∷ []) room (at + 1)
-byte-dropped {room} {at} {x} h = record { size = refl; stands = λ k. sym (set_out room at x h); next = λ k. omega arith }
 
 -- a piece after a piece
 pub puts_then : {room a room' b room'' : List ℕ} {at r k : ℕ} → Puts room at a room' r → Puts room' r b room'' k → Puts room at (a ++ b) room'' k

@@ -1,4 +1,6 @@
 -- Theorem: a sheet as we print it is read as its matrix and mask.
+use Rattle.plates.specs.declared.Refusal.{Refusal}
+use Rattle.std.proofs.Common.{Option, Some, None, Result, Ok}
 use borrow.Author.Tests.{eq-eqb, le-leb, le-ltb, ne_eqb}
 use lib.Dec.{eqb}
 use lib.ListN.{drop, get_or, length}
@@ -19,25 +21,16 @@ use Rattle.outlines.proofs.Putting.{tens}
 use Rattle.outlines.specs.SheetText.{cover_line, letter_of, mask_lines, row_line, row_lines, sheet_text}
 use Rattle.plates.specs.declared.Kind.{Kind}
 use Rattle.plates.specs.declared.Kind.TheVariants.{G, H}
-use Rattle.plates.specs.declared.Verdict.{Verdict}
-use Rattle.plates.specs.declared.Verdict.TheVariants as J
+use Rattle.sheets.specs.declared.line.Fault.{Fault}
 use Rattle.sheets.proofs.Characters.{word_small}
 use Rattle.sheets.proofs.Positions.{position_first}
 use Rattle.sheets.specs.Covers.{cover_fields, cover_is, cover_of}
 use Rattle.sheets.specs.declared.body.Ending.TheVariants.{Fine}
 use Rattle.sheets.specs.declared.cover.Cover.{Cover}
-use Rattle.sheets.specs.declared.cover.CoverLine.TheVariants as C
-use Rattle.sheets.specs.declared.cover.KindField.TheVariants as K
-use Rattle.sheets.specs.declared.cover.OrderField.TheVariants as O
 use Rattle.sheets.specs.declared.line.Came.TheVariants.{Nothing}
 use Rattle.sheets.specs.declared.line.Line.TheVariants as L
-use Rattle.sheets.specs.declared.mask.MaskLine.{MaskLine}
-use Rattle.sheets.specs.declared.mask.MaskLine.TheVariants as M
-use Rattle.sheets.specs.declared.number.Number.{Number}
-use Rattle.sheets.specs.declared.number.Number.TheVariants as N
 use Rattle.sheets.specs.declared.Order.TheVariants.{First}
-use Rattle.sheets.specs.declared.row.Row.TheVariants as R
-use Rattle.sheets.specs.Lines.{front, line_of, row_is, rows_of}
+use Rattle.sheets.specs.Lines.{front, line_of, row_is, row_made, rows_of}
 use Rattle.sheets.specs.Masks.{mask_front, mask_in, mask_is, mask_of, masks_in}
 use Rattle.sheets.specs.Numbers.{number_of}
 use Rattle.sheets.specs.Rows.{bit_of, bits_only, row_of, word_from}
@@ -103,7 +96,7 @@ word_back n w h =
     (λ i l. position_first (positions w 0 n) i (omega (arith, positions-length w 0 n, l))
     ∙ ap bit_of (positions-at w 0 n i l) ∙ bit-back w (0 + i) ∙ ap (bit w) (zero-add i))
 
-row_back : (n w : ℕ) → w < 2 ^ n → row_of n First (positions w 0 n) ≡ R.Is w
+row_back : (n w : ℕ) → w < 2 ^ n → row_of n First (positions w 0 n) ≡ Some w
 row_back n w h = rw (eq-eqb (length (positions w 0 n)) n (positions-length w 0 n), bits-only w 0 n, word_back n w h)
 
 -- ---- the rows
@@ -131,10 +124,10 @@ module _ (n : ℕ) where
       part-more 9 mask (positions w 0 n) (refl, (refl, (refl, (refl, tt))))
       ∙ ap (λ (rest : List (List ℕ)). mask ∷ rest) (part-one 9 (positions w 0 n) (positions-free 9 (omega arith) w 0 n))
 
-  row-line : (w : ℕ) → w < 2 ^ n → line_of n First Nothing (fields (row_text n w)) ≡ L.Row w
-  row-line w h = ap (line_of n First Nothing) (row-fields w) ∙ ap row_is (row_back n w h)
+  row-line : (w : ℕ) → w < 2 ^ n → line_of n First Nothing (fields (row_text n w)) ≡ Ok (L.Row w)
+  row-line w h = ap (line_of n First Nothing) (row-fields w) ∙ ap (λ r. row_made (row_is r)) (row_back n w h)
 
-  row-front : (w : ℕ) (ws : List ℕ) → w < 2 ^ n → front n First Nothing (row_text n w ∷ texts n ws) ≡ L.Row w
+  row-front : (w : ℕ) (ws : List ℕ) → w < 2 ^ n → front n First Nothing (row_text n w ∷ texts n ws) ≡ Ok (L.Row w)
   row-front w [] h = row-line w h
   row-front w (x ∷ ws) h = row-line w h
 
@@ -160,17 +153,17 @@ module _ (n : ℕ) where
 
 -- the lines after the cover, of which the mask's is one or none
 record MaskRead (n word : ℕ) (rows : List ℕ) (ls : List (List ℕ)) : Type 0 where
-  found : MaskLine
+  found : Result (Option ℕ) Fault
   is : mask_front n First ls ≡ found
   says_word : mask_in found ≡ word
   left : drop (masks_in found) ls ≡ texts n rows
-  fine : (c : Contents) → ending_after c (drop (masks_in found) ls) ≡ Fine → bad_by found c ls ≡ J.Accepted
+  fine : (c : Contents) → ending_after c (drop (masks_in found) ls) ≡ Fine → bad_by found c ls ≡ Ok tt
   long : (l : List ℕ) → cover_front (l ∷ ls) ≡ cover_of (fields l)
   text : lines (mask_lines n word ++ (row_lines n rows ++ line end [])) ≡ ls
 
 module _ (n : ℕ) (rows : List ℕ) where
   -- no mask line
-  none-front : (ws : List ℕ) → mask_front n First (texts n ws) ≡ M.NoMask
+  none-front : (ws : List ℕ) → mask_front n First (texts n ws) ≡ Ok None
   none-front [] = refl
   none-front (w ∷ []) = ap (mask_of n First) (row-fields n w)
   none-front (w ∷ x ∷ ws) = ap (mask_of n First) (row-fields n w)
@@ -182,7 +175,7 @@ module _ (n : ℕ) (rows : List ℕ) where
   unmasked : MaskRead n 0 rows (texts n rows)
   unfolding mask_lines
   unmasked = record {
-    found = M.NoMask;
+    found = Ok None;
     is = none-front rows;
     says_word = refl;
     left = refl;
@@ -192,7 +185,7 @@ module _ (n : ℕ) (rows : List ℕ) where
   }
 
   module _ (word : ℕ) (h : word < 2 ^ n) (some : word ≡ 0 → ⊥) where
-    mask_is_lem : (ws : List ℕ) → mask_front n First (mask_text n word ∷ texts n ws) ≡ M.Is word
+    mask_is_lem : (ws : List ℕ) → mask_front n First (mask_text n word ∷ texts n ws) ≡ Ok (Some word)
     mask_is_lem [] = ap (mask_of n First) (mask-fields n word) ∙ ap (λ r. mask_is (row_is r)) (row_back n word h)
     mask_is_lem (w ∷ ws) = ap (mask_of n First) (mask-fields n word) ∙ ap (λ r. mask_is (row_is r)) (row_back n word h)
 
@@ -202,7 +195,7 @@ module _ (n : ℕ) (rows : List ℕ) where
     masked : MaskRead n word rows (mask_text n word ∷ texts n rows)
     unfolding mask_lines
     masked = record {
-      found = M.Is word;
+      found = Ok (Some word);
       is = mask_is_lem rows;
       says_word = refl;
       left = refl;
@@ -223,10 +216,10 @@ module _ (n : ℕ) (rows : List ℕ) where
 
 -- ---- the cover
 
-number-back : (n : ℕ) → n < 100 → number_of 3 (decimal n) ≡ N.Is n
+number-back : (n : ℕ) → n < 100 → number_of 3 (decimal n) ≡ Some n
 number-back n h = by (dec_lt n 10)
   where
-    by : Dec (n < 10) → number_of 3 (decimal n) ≡ N.Is n
+    by : Dec (n < 10) → number_of 3 (decimal n) ≡ Some n
     by (yes s) =
         let e : 0 * 10 + (48 + n - 48) ≡ n = omega arith in
         rw (decimal-low n s, le-leb 48 (48 + n) (omega arith), le-leb (48 + n) 57 (omega arith), e)
@@ -265,10 +258,10 @@ module _ (n : ℕ) (h : n < 100) where
       ∙ ap (λ (rest : List (List ℕ)). cover ∷ rest) (part-more 9 (decimal n) (letter_of kind ∷ 9 ∷ first) (decimal-free 9 (omega arith) n h)
       ∙ ap (λ (rest : List (List ℕ)). decimal n ∷ rest) (after-n kind))
 
-  cover-is : (kind : Kind) → cover_of (fields (cover_text kind n)) ≡ C.Is (cover_says kind n)
+  cover-is : (kind : Kind) → cover_of (fields (cover_text kind n)) ≡ Ok (cover_says kind n)
   unfolding cover_fields
-  cover-is G = ap cover_of (cover-fields G) ∙ ap (λ (m : Number). cover_is m (K.Is G) (O.Is First)) (number-back n h)
-  cover-is H = ap cover_of (cover-fields H) ∙ ap (λ (m : Number). cover_is m (K.Is H) (O.Is First)) (number-back n h)
+  cover-is G = ap cover_of (cover-fields G) ∙ ap (λ (m : Option ℕ). cover_is m (Some G) (Some First)) (number-back n h)
+  cover-is H = ap cover_of (cover-fields H) ∙ ap (λ (m : Option ℕ). cover_is m (Some H) (Some First)) (number-back n h)
 
   cover-feed : (kind : Kind) (s : List ℕ) → cover_line kind n ++ s ≡ cover_text kind n ++ 10 ∷ s
   unfolding cover_line
@@ -321,7 +314,7 @@ module _ (kind : Kind) (n word : ℕ) (rows : List ℕ) (some : 1 ≤ n) (short 
       )
       ∙ ap (λ (rest : List (List ℕ)). cover_text kind n ∷ rest) m.text
 
-  cover-back : cover_front (cover_text kind n ∷ ls) ≡ C.Is (cover_says kind n)
+  cover-back : cover_front (cover_text kind n ∷ ls) ≡ Ok (cover_says kind n)
   cover-back = m.long (cover_text kind n) ∙ cover-is n small kind
 
   says-it : contents text ≡ canonical kind n word rows
@@ -331,7 +324,7 @@ module _ (kind : Kind) (n word : ℕ) (rows : List ℕ) (some : 1 ≤ n) (short 
   ends : ending_after (canonical kind n word rows) (drop (masks_in m.found) ls) ≡ Fine
   ends = rw (m.left, after-rows n rows)
 
-  accepted : verdict text ≡ J.Accepted
+  accepted : verdict text ≡ Ok tt
   unfolding verdict
   accepted =
       rw (
@@ -348,4 +341,4 @@ module _ (kind : Kind) (n word : ℕ) (rows : List ℕ) (some : 1 ≤ n) (short 
 
   -- the theorem
   pub read_back : reading text ≡ says (canonical kind n word rows)
-  read_back = ap (λ (v : Verdict). reading_by v (contents text)) accepted ∙ ap says says-it
+  read_back = ap (λ (v : Result (Unit {0}) Refusal). reading_by v (contents text)) accepted ∙ ap says says-it

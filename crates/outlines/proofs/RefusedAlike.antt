@@ -1,4 +1,5 @@
 -- Theorem: a sheet's own matrix and its dual are refused alike, so that `dual` and `alist` refuse what `sheet` refuses, with the same number and place.
+use Rattle.std.proofs.Common.{Result, Ok, Err}
 use lib.Pow.{pow_pos}
 use mathlib.Core.List.{List}
 use mathlib.Core.Logic.{inl, inr}
@@ -13,8 +14,6 @@ use Rattle.plates.specs.declared.Kind.TheVariants.{G, H}
 use Rattle.plates.specs.declared.Plate.{Plate}
 use Rattle.plates.specs.declared.Prepared.{Prepared}
 use Rattle.plates.specs.declared.Refusal.{Refusal}
-use Rattle.plates.specs.declared.Verdict.{Verdict}
-use Rattle.plates.specs.declared.Verdict.TheVariants.{Accepted, Refused}
 use Rattle.plates.specs.Prepare.{Prepares, PreparesAs, mask_beyond, prepare_conditions}
 use Rattle.plates.specs.Refusals.{Refuses}
 use Rattle.sheets.proofs.Ranges.{sheet-in-range}
@@ -35,11 +34,11 @@ module _ (n : ℕ) (kind : Kind) (rows : List ℕ) (mask : ℕ) (low : mask < 2 
   refuses-plain q (inr (a, inr (b, inr (c, inr (d, x))))) = inr (a, inr (b, inr (c, inr (none, x))))
 
   -- what preparing replies without the mask
-  plain : (plate : Plate) (v : Verdict) → PreparesAs (prepare_conditions n kind rows mask) (InCode kind n rows) n mask plate v
+  plain : (plate : Plate) (v : Result (Unit {0}) Refusal) → PreparesAs (prepare_conditions n kind rows mask) (InCode kind n rows) n mask plate v
       → (r : Prepared) × Prepares n kind rows 0 r × (r.verdict ≡ v)
-  plain plate (Refused q) x = (record { verdict = Refused q; plate = plate }, record { reply = (refuses-plain q x.0, x.1) }, refl)
-  plain plate Accepted (p, x) = (
-    record { verdict = Accepted; plate = record { n = plate.n; k = plate.k; mask = 0; rows = plate.rows; profile = plate.profile } },
+  plain plate (Err q) x = (record { verdict = Err q; plate = plate }, record { reply = (refuses-plain q x.0, x.1) }, refl)
+  plain plate (Ok _) (p, x) = (
+    record { verdict = Ok tt; plate = record { n = plate.n; k = plate.k; mask = 0; rows = plate.rows; profile = plate.profile } },
     record {
       reply = (
         (p.0, (p.1.0, (p.1.1.0, (none, p.1.1.1.1)))),

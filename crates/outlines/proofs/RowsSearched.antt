@@ -9,10 +9,9 @@ use mathlib.Core.List.{List, [], ◌∷◌}
 use mathlib.Core.Path.{◌≡◌, ap, subst, sym, ◌∙◌}
 use native.Mathlib.Omega.{arith}
 use Prim.Native.Nat.{◌+◌, ◌-◌, ◌<◌, suc, zero, ℕ, ◌≤◌}
+use Rattle.std.specs.Prelude.{None, Option, Some, min}
 use Rattle.decoding.specs.Cosets.{taken_off}
-use Rattle.outlines.specs.Comparing.{reversed}
-use Rattle.outlines.specs.declared.comparing.Found.{Found}
-use Rattle.outlines.specs.declared.comparing.Found.TheVariants.{Nothing, Word}
+use Rattle.words.specs.Reversed.{reversed}
 use Rattle.outlines.specs.Searching.{first_out, left_of, or_word, read_from}
 use Rattle.sheets.specs.declared.Order.{Order}
 use Rattle.sheets.specs.declared.Order.TheVariants.{First, Last}
@@ -20,52 +19,52 @@ use Rattle.sheets.specs.declared.Order.TheVariants.{First, Last}
 -- nothing was found from row j on
 pub record NoneFrom (left : ℕ → ℕ) (rest : ℕ) (own : List ℕ) (j : ℕ) : Type 0 where
   pub within : j ≤ length own
-  pub is : first_out left rest (drop j own) ≡ Nothing
+  pub is : first_out left rest (drop j own) ≡ None
 
 -- what is found in later rows is found
-found-later : (left : ℕ → ℕ) (rest : ℕ) (own : List ℕ) (j w : ℕ) → first_out left rest (drop j own) ≡ Word w → first_out left rest own ≡ Word w
+found-later : (left : ℕ → ℕ) (rest : ℕ) (own : List ℕ) (j w : ℕ) → first_out left rest (drop j own) ≡ Some w → first_out left rest own ≡ Some w
 found-later left rest own zero w e = e
 found-later left rest [] (suc j) w e = e
 found-later left rest (x ∷ xs) (suc j) w e =
-    ap (λ (f : Found). or_word f (left (bit_xor (taken_off xs x) rest)) (bit_xor (taken_off xs x) rest)) (found-later left rest xs j w e)
+    ap (λ (f : Option ℕ). or_word f (left (bit_xor (taken_off xs x) rest)) (bit_xor (taken_off xs x) rest)) (found-later left rest xs j w e)
 
 module _ (left : ℕ → ℕ) (rest : ℕ) (own : List ℕ) where
   -- nothing of the rest is left, or something is
   pub rest_in : left rest ≡ 0 → NoneFrom left rest own (length own)
   rest_in e = record {
     within = omega arith;
-    is = ap (first_out left rest) (drop-length own) ∙ ap (λ (t : Bool). cond t Nothing (Word rest)) (eq-eqb (left rest) 0 e);
+    is = ap (first_out left rest) (drop-length own) ∙ ap (λ (t : Bool). cond t None (Some rest)) (eq-eqb (left rest) 0 e);
   }
 
-  pub rest_out : (left rest ≡ 0 → ⊥) → Word rest ≡ first_out left rest own
+  pub rest_out : (left rest ≡ 0 → ⊥) → Some rest ≡ first_out left rest own
   rest_out h =
       sym (found-later left rest own (length own) rest
-      (ap (first_out left rest) (drop-length own) ∙ ap (λ (t : Bool). cond t Nothing (Word rest)) (ne_eqb (left rest) 0 h)))
+      (ap (first_out left rest) (drop-length own) ∙ ap (λ (t : Bool). cond t None (Some rest)) (ne_eqb (left rest) 0 h)))
 
   -- row j, where nothing was found behind it
   module _ (j : ℕ) (n : NoneFrom left rest own (suc j)) where
     abbrev pub word : ℕ
     word = bit_xor (taken_off (drop (suc j) own) (get_or own j 0)) rest
 
-    here : first_out left rest (drop j own) ≡ cond (eqb (left word) 0) Nothing (Word word)
+    here : first_out left rest (drop j own) ≡ cond (eqb (left word) 0) None (Some word)
     here =
         ap (first_out left rest) (drop-cons own j 0 n.within)
-        ∙ ap (λ (f : Found). or_word f (left word) word) n.is
+        ∙ ap (λ (f : Option ℕ). or_word f (left word) word) n.is
 
     pub row_in : left word ≡ 0 → NoneFrom left rest own j
-    row_in e = record { within = omega (arith, n.within); is = here ∙ ap (λ (t : Bool). cond t Nothing (Word word)) (eq-eqb (left word) 0 e) }
+    row_in e = record { within = omega (arith, n.within); is = here ∙ ap (λ (t : Bool). cond t None (Some word)) (eq-eqb (left word) 0 e) }
 
-    pub row_out : (left word ≡ 0 → ⊥) → Word word ≡ first_out left rest own
-    row_out h = sym (found-later left rest own j word (here ∙ ap (λ (t : Bool). cond t Nothing (Word word)) (ne_eqb (left word) 0 h)))
+    pub row_out : (left word ≡ 0 → ⊥) → Some word ≡ first_out left rest own
+    row_out h = sym (found-later left rest own j word (here ∙ ap (λ (t : Bool). cond t None (Some word)) (ne_eqb (left word) 0 h)))
 
-  pub none_out : {j : ℕ} → NoneFrom left rest own j → (0 < j → ⊥) → Nothing ≡ first_out left rest own
-  none_out {j} n h = let e : j ≡ 0 = omega (arith, h) in sym (subst (λ (i : ℕ). first_out left rest (drop i own) ≡ Nothing) e n.is)
+  pub none_out : {j : ℕ} → NoneFrom left rest own j → (0 < j → ⊥) → None ≡ first_out left rest own
+  none_out {j} n h = let e : j ≡ 0 = omega (arith, h) in sym (subst (λ (i : ℕ). first_out left rest (drop i own) ≡ None) e n.is)
 
 -- ---- as the loop finds it
 
 module _ (order : Order) (n : ℕ) (other : List ℕ) (mask rest : ℕ) (own : List ℕ) where
   -- the rest of the plate's mask
-  pub rest-left : {l : ℕ} → l ≡ left_of order n other mask rest → (l ≡ 0 → ⊥) → Word rest ≡ first_out (left_of order n other mask) rest own
+  pub rest-left : {l : ℕ} → l ≡ left_of order n other mask rest → (l ≡ 0 → ⊥) → Some rest ≡ first_out (left_of order n other mask) rest own
   rest-left e h = rest_out (left_of order n other mask) rest own (λ z. h (e ∙ z))
 
   pub loop-start : {l : ℕ} → l ≡ left_of order n other mask rest → l ≡ 0 → NoneFrom (left_of order n other mask) rest own (length own)
@@ -79,9 +78,9 @@ module _ (order : Order) (n : ℕ) (other : List ℕ) (mask rest : ℕ) (own : L
     word_is : w ≡ word (left_of order n other mask) rest own (j - 1) before
     word_is = let k : j - 1 + 1 ≡ suc (j - 1) = omega (arith, some) in is ∙ ap (λ (i : ℕ). bit_xor (taken_off (drop i own) (get_or own (j - 1) 0)) rest) k
 
-    pub row-left : (l ≡ 0 → ⊥) → Word w ≡ first_out (left_of order n other mask) rest own
+    pub row-left : (l ≡ 0 → ⊥) → Some w ≡ first_out (left_of order n other mask) rest own
     row-left h =
-        ap Word word_is
+        ap Some word_is
         ∙ row_out (left_of order n other mask) rest own (j - 1) before (λ z. h (e ∙ ap (left_of order n other mask) word_is ∙ z))
 
     pub loop-on : l ≡ 0 → NoneFrom (left_of order n other mask) rest own (j - 1)
@@ -90,7 +89,7 @@ module _ (order : Order) (n : ℕ) (other : List ℕ) (mask rest : ℕ) (own : L
   pub row-there : {j : ℕ} → NoneFrom (left_of order n other mask) rest own j → 0 < j → j - 1 < length own
   row-there none some = omega (arith, none.within, some)
 
-  pub loop-end : {j : ℕ} → NoneFrom (left_of order n other mask) rest own j → j ≤ 0 → Nothing ≡ first_out (left_of order n other mask) rest own
+  pub loop-end : {j : ℕ} → NoneFrom (left_of order n other mask) rest own j → j ≤ 0 → None ≡ first_out (left_of order n other mask) rest own
   loop-end none h = none_out (left_of order n other mask) rest own none (λ z. omega (arith, z, h))
 
 -- what is left of a word, by what it is as it is read
@@ -103,8 +102,8 @@ left_is order n mask w rows e f = f ∙ ap (λ (y : ℕ). taken_off rows (bit_xo
 pub read_first : (n word : ℕ) {order : Order} → order ≡ First → word ≡ read_from order n word
 read_first n word e = rw e
 
-pub read-last : (n word : ℕ) {order : Order} {r : ℕ} → order ≡ Last → r ≡ reversed n word → r ≡ read_from order n word
-read-last n word e f = rw e f
+pub read-last : (n word : ℕ) {order : Order} {r : ℕ} → n ≤ 64 → order ≡ Last → r ≡ reversed (min n 64) word → r ≡ read_from order n word
+read-last n word h e f = let short : min n 64 ≡ n = omega arith in rw e (f ∙ ap (λ (k : ℕ). reversed k word) short)
 
 -- row j without those behind it
 pub row-alone : (rows : List ℕ) (j rest : ℕ) {r : ℕ} → r ≡ taken_off (take (length rows - (j + 1)) (drop (j + 1) rows)) (get_or rows j 0)

@@ -1,4 +1,5 @@
 -- Theorems: the sheet of an input's plate has the input's words; two inputs have the same words exactly if their plates' sheets have the same bytes.
+use Rattle.std.proofs.Common.{Ok}
 use lib.Bits.{bit_xor, xor_comm, xor_zero_r}
 use mathlib.Core.List.{List}
 use mathlib.Core.Logic.Iff
@@ -21,7 +22,6 @@ use Rattle.plates.proofs.OnePlate.{one-plate}
 use Rattle.plates.proofs.SoundIsPrepared.{sound}
 use Rattle.plates.specs.declared.Kind.TheVariants.{G}
 use Rattle.plates.specs.declared.Plate.{Plate}
-use Rattle.plates.specs.declared.Verdict.TheVariants.{Accepted}
 use Rattle.plates.specs.Prepare.{IsPrepared, IsWord, Prepares, rows_of}
 use Rattle.sheets.specs.Sheet.{Contents, reading, says}
 use Rattle.trellises.proofs.AcceptedIsPrepared.{accepted-code, accepted-length, accepted-mask, plate-same}
@@ -40,7 +40,7 @@ sheet-read plate p =
 
 -- whose preparing gives the plate again, with that mask
 pub sheet-prepares : (plate : Plate) (p : IsPrepared plate)
-    → Prepares plate.n G (rows_of plate) (rest_of plate) (record { verdict = Accepted; plate = rested_plate plate p })
+    → Prepares plate.n G (rows_of plate) (rest_of plate) (record { verdict = Ok tt; plate = rested_plate plate p })
 sheet-prepares plate p = (rested-prepared plate p).same
 
 -- ---- two plates

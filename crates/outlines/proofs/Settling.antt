@@ -8,11 +8,12 @@ use mathlib.Core.Path.{◌≡◌, ap, refl, subst, sym, ◌∙◌}
 use native.Mathlib.Nat.{pow-suc}
 use native.Mathlib.Omega.{arith}
 use Prim.Native.Nat.{◌<◌, ◌^◌, suc, zero, ℕ}
+use Rattle.std.specs.Prelude.{None, Option, Some, is_some, not}
 use Rattle.outlines.proofs.PlatesSearched.{word_below}
-use Rattle.outlines.proofs.Reversing.{reversed-below, reversed-twice}
-use Rattle.outlines.specs.Comparing.{Alone, Equal, Mirrors, NoneEarlier, Tells, reversed}
-use Rattle.outlines.specs.declared.comparing.Found.{Found}
-use Rattle.outlines.specs.declared.comparing.Found.TheVariants.{Nothing, Word}
+use Rattle.outlines.proofs.Reversing.{reversed-twice}
+use Rattle.words.proofs.Reversing.{reversed-below}
+use Rattle.outlines.specs.Comparing.{Alone, Equal, Mirrors, NoneEarlier, Tells}
+use Rattle.words.specs.Reversed.{reversed}
 use Rattle.outlines.specs.declared.comparing.Told.{Told}
 use Rattle.outlines.specs.declared.comparing.Told.TheVariants as T
 use Rattle.outlines.specs.Searching.{ComesFirst, EarlierTold, Outside, OutsideAs, Settles, SettlesAs, TellsAll, TellsMirrored, ToldOf, unless_same}
@@ -99,48 +100,42 @@ first-earlier c e = record { is = λ ne. inl (refl, c.yes_is e ne) }
 pub second-earlier : {w v : ℕ} {r : Bool} → ComesFirst w v r → r ≡ false → EarlierTold w v (T.Second v)
 second-earlier c e = record { is = λ ne. inr (refl, c.no_is e ne) }
 
--- ---- by what was found of each
-
-pub both_found : {second : Found} {w v : ℕ} {r : Told} → second ≡ Word v → EarlierTold w v r → Settles (Word w) second r
-both_found {w = w} {r = r} e x = record { is = subst (λ (f : Found). SettlesAs (Word w) f r) (sym e) x }
-
--- what was found of the first, by another name
-pub first-is : {first first' second : Found} {r : Told} → first ≡ first' → Settles first' second r → Settles first second r
-first-is {second = second} {r} e x = subst (λ (f : Found). Settles f second r) (sym e) x
-
-pub first_found : {second : Found} {w : ℕ} → second ≡ Nothing → Settles (Word w) second (T.First w)
-first_found {w = w} e = record { is = subst (λ (f : Found). SettlesAs (Word w) f (T.First w)) (sym e) refl }
-
-pub second-found : {second : Found} {v : ℕ} → second ≡ Word v → Settles Nothing second (T.Second v)
-second-found {v = v} e = record { is = subst (λ (f : Found). SettlesAs Nothing f (T.Second v)) (sym e) refl }
-
-pub none_found : {second : Found} → second ≡ Nothing → Settles Nothing second T.Same
-none_found e = record { is = subst (λ (f : Found). SettlesAs Nothing f T.Same) (sym e) refl }
-
 -- ---- mirrored
 
 -- two plates of one length, the other way round
 pub turned-about : {n m : ℕ} → n ≡ m → m ≡ n
 turned-about e = sym e
 
-module _ {a b : Plate} (p : IsPrepared a) {found : Found} (o : Outside Last a b found) where
-  pub all-mirrored : found ≡ Nothing → TellsAll a b true
+module _ {a b : Plate} (p : IsPrepared a) {found : Option ℕ} (o : Outside Last a b found) where
+  pub all-mirrored : found ≡ None → TellsAll a b true
   all-mirrored e = record {
     yes_is = λ t. subst (OutsideAs (IsWord a) (λ w. IsWord b (reversed a.n w))) e o.is;
     is_yes = λ h. refl;
   }
 
-  pub not-mirrored : {w : ℕ} → found ≡ Word w → TellsAll a b false
+  pub not-mirrored : {w : ℕ} → found ≡ Some w → TellsAll a b false
   not-mirrored {w} e = record {
     yes_is = λ t. absurd (no_true t);
     is_yes = λ h. absurd (f.0.1 (h w f.0.0));
   }
     where
-      f : OutsideAs (IsWord a) (λ w. IsWord b (reversed a.n w)) (Word w)
+      f : OutsideAs (IsWord a) (λ w. IsWord b (reversed a.n w)) (Some w)
       f = subst (OutsideAs (IsWord a) (λ w. IsWord b (reversed a.n w))) e o.is
 
       no_true : false ≡ true → ⊥
       no_true t = let z : ◌≡◌ {A = ℕ} 0 1 = cc in omega arith
+
+  pub mirrored-where-none : {r : Bool} → is_some found ≡ not r → TellsAll a b r
+  mirrored-where-none {r} = go found r refl
+    where
+      differ_so : false ≡ true → ⊥
+      differ_so t = let z : ◌≡◌ {A = ℕ} 0 1 = cc in omega arith
+
+      go : (f : Option ℕ) (r : Bool) → found ≡ f → is_some f ≡ not r → TellsAll a b r
+      go None true k e = all-mirrored k
+      go None false k e = absurd (differ_so e)
+      go (Some w) true k e = absurd (differ_so (sym e))
+      go (Some w) false k e = not-mirrored k
 
 module _ {a b : Plate} (p : IsPrepared a) (q : IsPrepared b) (n : a.n ≡ b.n) where
   -- a word of the second, from the far end twice
@@ -163,28 +158,13 @@ module _ {a b : Plate} (p : IsPrepared a) (q : IsPrepared b) (n : a.n ≡ b.n) w
   pub mirrored-both : {r s : Bool} → TellsAll a b r → r ≡ true → TellsAll b a s → TellsMirrored a b s
   mirrored-both x t y = record { yes_is = λ e. both-all (x.yes_is t) (y.yes_is e); is_yes = λ m. y.is_yes (mirror-back m) }
 
-  pub mirrored-not : {r : Bool} → TellsAll a b r → r ≡ false → TellsMirrored a b false
-  mirrored-not x t = record { yes_is = λ e. absurd (both e); is_yes = λ m. sym t ∙ x.is_yes (mirror-all m) }
+  pub mirrored-not : {r : Bool} → TellsAll a b r → r ≡ false → TellsMirrored a b r
+  mirrored-not x t = record { yes_is = λ e. absurd (both (sym t ∙ e)); is_yes = λ m. x.is_yes (mirror-all m) }
     where
       both : false ≡ true → ⊥
       both e = let z : ◌≡◌ {A = ℕ} 0 1 = cc in omega arith
 
 -- ---- what is told
-
-pub unless-same : {told : Told} → told ≡ T.Same → T.Same ≡ unless_same told
-unless-same e = rw e
-
-pub unless-mirrored : {told : Told} → told ≡ T.Mirrored → T.Mirrored ≡ unless_same told
-unless-mirrored e = rw e
-
-pub unless-lengths : {told : Told} → told ≡ T.Lengths → T.Mirrored ≡ unless_same told
-unless-lengths e = rw e
-
-pub unless-first : {told : Told} {w : ℕ} → told ≡ T.First w → T.Mirrored ≡ unless_same told
-unless-first e = rw e
-
-pub unless-second : {told : Told} {w : ℕ} → told ≡ T.Second w → T.Mirrored ≡ unless_same told
-unless-second e = rw e
 
 module _ (n m : ℕ) (P Q : ℕ → Type 0) (e : n ≡ m) (s : Told) where
   -- same, or else a word, where the words are not mirrored
@@ -202,17 +182,17 @@ module _ (n m : ℕ) (P Q : ℕ → Type 0) (e : n ≡ m) (s : Told) where
   none-by w f g v (inl a) x = f v a x
   none-by w f g v (inr a) x = g v a x
 
-  settled : (one other : Found) → OutsideAs P Q one → OutsideAs Q P other → SettlesAs one other s → Settled
-  settled Nothing Nothing f g k = inl (k, λ w. (f w, g w))
-  settled (Word w) Nothing f g k = settled-first w k f.0 (none-by w f.1 (λ v a x. a.1 (g v a.0)))
-  settled Nothing (Word w) f g k = settled-second w k g.0 (none-by w (λ v a x. a.1 (f v a.0)) g.1)
-  settled (Word w) (Word v) f g k = go (k.is (λ z. f.0.1 (subst Q (sym z) g.0.0)))
+  settled : (one other : Option ℕ) → OutsideAs P Q one → OutsideAs Q P other → SettlesAs one other s → Settled
+  settled None None f g k = inl (k, λ w. (f w, g w))
+  settled (Some w) None f g k = settled-first w k f.0 (none-by w f.1 (λ v a x. a.1 (g v a.0)))
+  settled None (Some w) f g k = settled-second w k g.0 (none-by w (λ v a x. a.1 (f v a.0)) g.1)
+  settled (Some w) (Some v) f g k = go (k.is (λ z. f.0.1 (subst Q (sym z) g.0.0)))
     where
       go : ((s ≡ T.First w) × Earlier w v) ⊎ ((s ≡ T.Second v) × Earlier v w) → Settled
       go (inl h) = settled-first w h.0 f.0 (none-by w f.1 (λ x a y. g.1 x a (earlier-then y h.1)))
       go (inr h) = settled-second v h.0 g.0 (none-by v (λ x a y. f.1 x a (earlier-then y h.1)) g.1)
 
-module _ {a b : Plate} (n : a.n ≡ b.n) {one other : Found} {s : Told} (x : Outside First a b one) (y : Outside First b a other) (z : Settles one other s)
+module _ {a b : Plate} (n : a.n ≡ b.n) {one other : Option ℕ} {s : Told} (x : Outside First a b one) (y : Outside First b a other) (z : Settles one other s)
     {r : Bool} (m : TellsMirrored a b r) where
   by : Settled a.n b.n (IsWord a) (IsWord b) n s
   by = settled a.n b.n (IsWord a) (IsWord b) n s one other x.is y.is z.is

@@ -9,7 +9,8 @@ use native.Mathlib.Omega.{arith}
 use Prim.Native.Nat.{ℕ}
 use Rattle.outlines.proofs.SameWords.{iff-then, length_is, words_are}
 use Rattle.outlines.proofs.Settling.{either-earlier}
-use Rattle.outlines.specs.Comparing.{Alone, Equal, Mirrors, NoneEarlier, PrintsTold, Tells, reversed, told_line}
+use Rattle.outlines.specs.Comparing.{Alone, Equal, Mirrors, NoneEarlier, PrintsTold, Tells, told_line}
+use Rattle.words.specs.Reversed.{reversed}
 use Rattle.outlines.specs.declared.comparing.Told.{Told}
 use Rattle.outlines.specs.declared.comparing.Told.TheVariants.{First, Lengths, Mirrored, Same, Second}
 use Rattle.outlines.specs.declared.opening.Which.TheVariants.{Own}

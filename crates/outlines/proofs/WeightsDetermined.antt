@@ -1,4 +1,6 @@
 -- Determined: a plate has one text of its weights, and two replies with the rooms after them that meet the promise of `write_weights` are equal.
+use Rattle.std.proofs.Common.{Result, Ok, Err}
+use Rattle.plates.specs.declared.Refusal.{Refusal}
 use lib.ListN.{drop, length}
 use lib.Seq.{ext_get_or}
 use mathlib.Core.Bool.{Bool, false, true}
@@ -6,16 +8,12 @@ use mathlib.Core.List.{◌++◌, List}
 use mathlib.Core.Path.{◌≡◌, ap, refl, subst, sym, ◌∙◌}
 use native.Mathlib.Omega.{arith}
 use Prim.Native.Nat.{ℕ}
-use Rattle.listings.specs.declared.Written.{Written}
-use Rattle.listings.specs.declared.Written.TheVariants.{Bytes, Refused}
 use Rattle.outlines.proofs.Determined.{one-opened}
 use Rattle.outlines.specs.declared.opening.Which.TheVariants.{Own}
 use Rattle.outlines.specs.WeightLines.{WeighsAs, WeighsBy, WeightText, WritesWeights, last_line, weighing_conditions, weight_lines}
 use Rattle.plates.proofs.Refusing.{Single, never_both, refuses-once}
 use Rattle.plates.specs.declared.Plate.{Plate}
 use Rattle.plates.specs.declared.Prepared.{Prepared}
-use Rattle.plates.specs.declared.Verdict.{Verdict}
-use Rattle.plates.specs.declared.Verdict.TheVariants as J
 use Rattle.sheets.specs.Sheet.{reading}
 use Rattle.weights.proofs.CountPairs.{number-once}
 use Rattle.weights.proofs.WeightsDetermined.{least-once, none_above}
@@ -49,25 +47,25 @@ module _ (plate : Plate) (working room : List ℕ) where
   single = ((λ p q x y. x.1 ∙ sym y.1), ((λ p q x y. x.1 ∙ sym y.1), ((λ p q x y. x.1 ∙ sym y.1), tt)))
 
   module _ {working' working'' room' room'' : List ℕ} where
-    as-once : (r s : Written) → WeighsAs plate working room working' room' r → WeighsAs plate working room working'' room'' s
+    as-once : (r s : Result ℕ Refusal) → WeighsAs plate working room working' room' r → WeighsAs plate working room working'' room'' s
         → (r ≡ s) × (working' ≡ working'') × (room' ≡ room'')
-    as-once (Refused p) (Refused q) x y =
-        (ap Refused (refuses-once (weighing_conditions plate working room) single p q x.0 y.0), x.1 ∙ sym y.1, x.2 ∙ sym y.2)
-    as-once (Refused p) (Bytes size) x y = absurd (never_both (weighing_conditions plate working room) y.0 p x.0)
-    as-once (Bytes size) (Refused q) x y = absurd (never_both (weighing_conditions plate working room) x.0 q y.0)
-    as-once (Bytes size) (Bytes size') x y =
+    as-once (Err p) (Err q) x y =
+        (ap Err (refuses-once (weighing_conditions plate working room) single p q x.0 y.0), x.1 ∙ sym y.1, x.2 ∙ sym y.2)
+    as-once (Err p) (Ok size) x y = absurd (never_both (weighing_conditions plate working room) y.0 p x.0)
+    as-once (Ok size) (Err q) x y = absurd (never_both (weighing_conditions plate working room) x.0 q y.0)
+    as-once (Ok size) (Ok size') x y =
         let e = text-once plate x.1.text y.1.text x.1.is_text y.1.is_text in (
-          ap Bytes (x.1.size_is ∙ ap length e ∙ sym y.1.size_is),
+          ap Ok (x.1.size_is ∙ ap length e ∙ sym y.1.size_is),
           x.1.zeroed ∙ sym y.1.zeroed,
           x.1.room_is ∙ ap (λ (t : List ℕ). t ++ drop (length t) room) e ∙ sym y.1.room_is,
         )
 
-    by-once : (v : Verdict) {r s : Written} → WeighsBy v plate working room r working' room' → WeighsBy v plate working room s working'' room''
+    by-once : (v : Result (Unit {0}) Refusal) {r s : Result ℕ Refusal} → WeighsBy v plate working room r working' room' → WeighsBy v plate working room s working'' room''
         → (r ≡ s) × (working' ≡ working'') × (room' ≡ room'')
-    by-once (J.Refused q) x y = (x.0 ∙ sym y.0, x.1 ∙ sym y.1, x.2 ∙ sym y.2)
-    by-once J.Accepted {r} {s} x y = as-once r s x.is y.is
+    by-once (Err q) x y = (x.0 ∙ sym y.0, x.1 ∙ sym y.1, x.2 ∙ sym y.2)
+    by-once (Ok _) {r} {s} x y = as-once r s x.is y.is
 
-pub write-weights-determined : (input working room : List ℕ) {r s : Written} {working' working'' room' room'' : List ℕ}
+pub write-weights-determined : (input working room : List ℕ) {r s : Result ℕ Refusal} {working' working'' room' room'' : List ℕ}
     → WritesWeights input working room r working' room' → WritesWeights input working room s working'' room''
     → (r ≡ s) × (working' ≡ working'') × (room' ≡ room'')
 write-weights-determined input working room {r} {s} {working'} {working''} {room'} {room''} x y =

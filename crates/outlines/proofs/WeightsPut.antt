@@ -1,4 +1,5 @@
 -- The lines of a plate's weights put into a room, one after the other.
+use Rattle.std.proofs.Common.{Result, Ok, Err}
 use borrow.Author.Tests.{ne_eqb}
 use lib.Dec.{eqb}
 use lib.ListN.{drop, get_or, length, length-append, length-replicate, replicate, take}
@@ -11,8 +12,6 @@ use native.Mathlib.Numerals.{add-one}
 use native.Mathlib.Omega.{arith}
 use Prim.Native.Nat.{◌*◌, ◌+◌, ◌<◌, suc, zero, ℕ, ◌≤◌}
 use Rattle.listings.proofs.Fits256.{decimal-length, decimal-two, least-fits-256, no-least-fits-256, weight-fits-256}
-use Rattle.listings.specs.declared.Written.{Written}
-use Rattle.listings.specs.declared.Written.TheVariants.{Bytes, Refused}
 use Rattle.listings.specs.Lines.{least_line, no_least_line, weight_line}
 use Rattle.listings.specs.Writing.{WritesAs, WritesLine, line_room}
 use Rattle.outlines.proofs.Putting.{puts_none, puts_then}
@@ -26,17 +25,17 @@ use Rattle.plates.specs.Refusals.{Refuses}
 abbrev zeros : List ℕ
 zeros = replicate 256 0
 
-module _ (text : List ℕ) (short : length text ≤ 256) {line : List ℕ} {w : Written} (m : WritesLine text zeros w line) where
+module _ (text : List ℕ) (short : length text ≤ 256) {line : List ℕ} {w : Result ℕ Refusal} (m : WritesLine text zeros w line) where
   -- it is not refused
-  made : {A : Type 0} {q : Refusal} → w ≡ Refused q → A
+  made : {A : Type 0} {q : Refusal} → w ≡ Err q → A
   made {A} {q} e = by (subst (WritesAs (line_room text zeros ∷ []) text zeros line) e m.reply).0
     where
       by : Refuses (line_room text zeros ∷ []) q → A
       by (inl h) = absurd (omega (arith, h.0, short, length-replicate {A = ℕ} 256 0))
       by (inr h) = absurd h.1
 
-  module _ {size : ℕ} (e : w ≡ Bytes size) where
-    reply : WritesAs (line_room text zeros ∷ []) text zeros line (Bytes size)
+  module _ {size : ℕ} (e : w ≡ Ok size) where
+    reply : WritesAs (line_room text zeros ∷ []) text zeros line (Ok size)
     reply = subst (WritesAs (line_room text zeros ∷ []) text zeros line) e m.reply
 
     made-there : take size line ≡ text
@@ -51,17 +50,17 @@ pub weight-none : (weight count : ℕ) {room : List ℕ} {at : ℕ} → count �
 unfolding weight_part
 weight-none weight count {room} {at} e = rw e (puts_none room at)
 
-module _ (weight count : ℕ) {line : List ℕ} {w : Written} (m : WritesLine (weight_line weight count) zeros w line) where
-  pub weight-made : {q : Refusal} {room : List ℕ} {at : ℕ} → w ≡ Refused q → Puts room at (weight_part weight count) room at
+module _ (weight count : ℕ) {line : List ℕ} {w : Result ℕ Refusal} (m : WritesLine (weight_line weight count) zeros w line) where
+  pub weight-made : {q : Refusal} {room : List ℕ} {at : ℕ} → w ≡ Err q → Puts room at (weight_part weight count) room at
   weight-made = made (weight_line weight count) (weight-fits-256 weight count) m
 
-  pub weight-within : {size : ℕ} → w ≡ Bytes size → size ≤ length line
+  pub weight-within : {size : ℕ} → w ≡ Ok size → size ≤ length line
   weight-within = made-within (weight_line weight count) (weight-fits-256 weight count) m
 
-  pub weight-taken : {size : ℕ} → w ≡ Bytes size → size ≡ length (take size line)
+  pub weight-taken : {size : ℕ} → w ≡ Ok size → size ≡ length (take size line)
   weight-taken {size} e = sym (length-take-le size line (weight-within e))
 
-  pub weight-put : {size at r : ℕ} {room room' : List ℕ} → (count ≡ 0 → ⊥) → w ≡ Bytes size → Puts room at (take size line) room' r
+  pub weight-put : {size at r : ℕ} {room room' : List ℕ} → (count ≡ 0 → ⊥) → w ≡ Ok size → Puts room at (take size line) room' r
       → Puts room at (weight_part weight count) room' r
   unfolding weight_part
   weight-put h e p = rw (ne_eqb count 0 h, ← made-there (weight_line weight count) (weight-fits-256 weight count) m e) p
@@ -73,27 +72,17 @@ unfolding last_line
 last-short true least = no-least-fits-256
 last-short false least = least-fits-256 least
 
-pub last_none : {none : Bool} (least : ℕ) {line line' : List ℕ} {w : Written} → none ≡ true → WritesLine no_least_line line w line'
-    → WritesLine (last_line none least) line w line'
-unfolding last_line
-last_none least e m = rw e m
-
-pub last_some : {none : Bool} (least : ℕ) {line line' : List ℕ} {w : Written} → none ≡ false → WritesLine (least_line least) line w line'
-    → WritesLine (last_line none least) line w line'
-unfolding last_line
-last_some least e m = rw e m
-
-module _ (none : Bool) (least : ℕ) {line : List ℕ} {w : Written} (m : WritesLine (last_line none least) zeros w line) where
-  pub last_made : {q : Refusal} {room : List ℕ} {at : ℕ} → w ≡ Refused q → Puts room at (last_line none least) room at
+module _ (none : Bool) (least : ℕ) {line : List ℕ} {w : Result ℕ Refusal} (m : WritesLine (last_line none least) zeros w line) where
+  pub last_made : {q : Refusal} {room : List ℕ} {at : ℕ} → w ≡ Err q → Puts room at (last_line none least) room at
   last_made = made (last_line none least) (last-short none least) m
 
-  pub last_within : {size : ℕ} → w ≡ Bytes size → size ≤ length line
+  pub last_within : {size : ℕ} → w ≡ Ok size → size ≤ length line
   last_within = made-within (last_line none least) (last-short none least) m
 
-  pub last_taken : {size : ℕ} → w ≡ Bytes size → size ≡ length (take size line)
+  pub last_taken : {size : ℕ} → w ≡ Ok size → size ≡ length (take size line)
   last_taken {size} e = sym (length-take-le size line (last_within e))
 
-  pub last-put : {size at r : ℕ} {room room' : List ℕ} → w ≡ Bytes size → Puts room at (take size line) room' r → Puts room at (last_line none least) room' r
+  pub last-put : {size at r : ℕ} {room room' : List ℕ} → w ≡ Ok size → Puts room at (take size line) room' r → Puts room at (last_line none least) room' r
   last-put e p = rw (← made-there (last_line none least) (last-short none least) m e) p
 
 -- ---- the lines of the weights, from turn to turn

@@ -1,10 +1,8 @@
 -- Parity checks as alist text: what the verbs `alist` and `from-alist` reply to an input, and what they leave in the room.
-use Rattle.std.specs.Prelude.{ltb, length, cond, List, ◌↔◌, ◌≡◌, ℕ, ◌≤◌}
+use Rattle.std.specs.Prelude.{ltb, length, cond, List, ◌↔◌, ◌≡◌, ℕ, ◌≤◌, Result, Ok, Err}
 use Rattle.alists.specs.Calls.{WritesAlist, no_rows}
 use Rattle.alists.specs.Reading as A
 use Rattle.alists.specs.Text.{alist_text}
-use Rattle.listings.specs.declared.Written.{Written}
-use Rattle.listings.specs.declared.Written.TheVariants.{Refused}
 use Rattle.listings.specs.Writing.{WritesLine}
 use Rattle.outlines.specs.declared.opening.Which.TheVariants.{Dual}
 use Rattle.outlines.specs.Opening.{kind_as}
@@ -16,8 +14,6 @@ use Rattle.plates.specs.declared.Kind.TheVariants.{G, H}
 use Rattle.plates.specs.declared.Prepared.{Prepared}
 use Rattle.plates.specs.declared.Refusal.{Refusal}
 use Rattle.plates.specs.declared.Refusal.TheVariants.{AlistFault, InputTooLong}
-use Rattle.plates.specs.declared.Verdict.{Verdict}
-use Rattle.plates.specs.declared.Verdict.TheVariants as J
 use Rattle.plates.specs.Prepare.{Prepares, rows_of}
 use Rattle.sheets.specs.Sheet.{Contents, Reading, reading, refused, says}
 
@@ -29,24 +25,24 @@ checks_of H rows dual = rows
 checks_of G rows dual = dual
 
 -- by the verdict on a matrix: its refusal, and the room as it was; or the checks as alist text, refused with 16 at place 0 where there are none, then 11
-abbrev pub WritesChecksBy : Verdict → ℕ → List ℕ → List ℕ → Written → List ℕ → Type 0
-WritesChecksBy (J.Refused q) n checks room r room' = (r ≡ Refused q) × (room' ≡ room)
-WritesChecksBy J.Accepted n checks room r room' = WritesAlist n checks room r room'
+abbrev pub WritesChecksBy : Result (Unit {0}) Refusal → ℕ → List ℕ → List ℕ → Result ℕ Refusal → List ℕ → Type 0
+WritesChecksBy (Err q) n checks room r room' = (r ≡ Err q) × (room' ≡ room)
+WritesChecksBy (Ok _) n checks room r room' = WritesAlist n checks room r room'
 
 -- what is written of a matrix. Its dual, the same rows under the other letter, is prepared without a mask, and refused as the sheet itself is, with the same
 -- number and place (proofs/RefusedAlike)
-pub record WritesChecks (n : ℕ) (kind : Kind) (rows room : List ℕ) (r : Written) (room' : List ℕ) : Type 0 where
+pub record WritesChecks (n : ℕ) (kind : Kind) (rows room : List ℕ) (r : Result ℕ Refusal) (room' : List ℕ) : Type 0 where
   pub dual : Prepared
   pub prepares : Prepares n (kind_as Dual kind) rows 0 dual
   pub is : WritesChecksBy dual.verdict n (checks_of kind rows (rows_of dual.plate)) room r room'
 
 -- by the reading of the input: its refusal, and the room as it was; or what is written of its sheet
-abbrev pub WritesAlistAs : Reading → List ℕ → Written → List ℕ → Type 0
-WritesAlistAs (refused q) room r room' = (r ≡ Refused q) × (room' ≡ room)
+abbrev pub WritesAlistAs : Reading → List ℕ → Result ℕ Refusal → List ℕ → Type 0
+WritesAlistAs (refused q) room r room' = (r ≡ Err q) × (room' ≡ room)
 WritesAlistAs (says c) room r room' = WritesChecks c.n c.kind c.rows room r room'
 
 -- the promise of `write_alist`
-pub record WritesAlistOf (input room : List ℕ) (r : Written) (room' : List ℕ) : Type 0 where
+pub record WritesAlistOf (input room : List ℕ) (r : Result ℕ Refusal) (room' : List ℕ) : Type 0 where
   pub is : WritesAlistAs (reading input) room r room'
 
 -- the checks of a sheet, by what preparing its dual replies
@@ -59,14 +55,14 @@ pub record PrintsAlist (input text : List ℕ) : Type 0 where
   pub reads : reading input ≡ says sheet
   pub dual : Prepared
   pub prepares : Prepares sheet.n (kind_as Dual sheet.kind) sheet.rows 0 dual
-  pub accepted : dual.verdict ≡ J.Accepted
+  pub accepted : dual.verdict ≡ Ok tt
   pub some : 1 ≤ length (checks_in sheet dual)
   pub is : text ≡ alist_text sheet.n (checks_in sheet dual)
 
 -- why it writes none though there is room, by the verdict on the matrix: its refusal; or there are no checks
-abbrev pub LacksChecksBy : Verdict → List ℕ → Refusal → Type 0
-LacksChecksBy (J.Refused p) checks q = q ≡ p
-LacksChecksBy J.Accepted checks q = no_rows checks q
+abbrev pub LacksChecksBy : Result (Unit {0}) Refusal → List ℕ → Refusal → Type 0
+LacksChecksBy (Err p) checks q = q ≡ p
+LacksChecksBy (Ok _) checks q = no_rows checks q
 
 -- of a sheet that was read
 pub record LacksChecks (c : Contents) (q : Refusal) : Type 0 where
@@ -104,12 +100,12 @@ abbrev pub checks_sheet : ℕ → List ℕ → List ℕ
 checks_sheet n rows = sheet_text H n 0 rows
 
 -- by the matrix: the refusal, and the room as it was; or its sheet, or 11
-abbrev pub WritesGiven : Given → List ℕ → Written → List ℕ → Type 0
-WritesGiven (not_given q) room r room' = (r ≡ Refused q) × (room' ≡ room)
+abbrev pub WritesGiven : Given → List ℕ → Result ℕ Refusal → List ℕ → Type 0
+WritesGiven (not_given q) room r room' = (r ≡ Err q) × (room' ≡ room)
 WritesGiven (given n rows) room r room' = WritesLine (checks_sheet n rows) room r room'
 
 -- the promise of `write_from_alist`
-pub record WritesFromAlist (input room : List ℕ) (r : Written) (room' : List ℕ) : Type 0 where
+pub record WritesFromAlist (input room : List ℕ) (r : Result ℕ Refusal) (room' : List ℕ) : Type 0 where
   pub is : WritesGiven (matrix_in input) room r room'
 
 -- the text that it writes for an input that is not refused, where there is room

@@ -1,29 +1,24 @@
 -- What is told of two sheets: that they have the same words, that one has the other's from the far end, or the earliest word that one of them has alone.
-use Rattle.std.specs.Prelude.{List, [], ◌∷◌, ◌↔◌, ◌⊎◌, ◌≡◌, ◌*◌, ◌+◌, ◌<◌, ◌^◌, suc, zero, ℕ}
-use Rattle.listings.specs.declared.Written.{Written}
-use Rattle.listings.specs.declared.Written.TheVariants as W
+use Rattle.plates.specs.declared.Refusal.{Refusal}
+use Rattle.std.specs.Prelude.{List, [], ◌∷◌, ◌↔◌, ◌⊎◌, ◌≡◌, ◌<◌, ◌^◌, ℕ, Result, Ok, Err}
 use Rattle.listings.specs.Lines.{line, positions}
 use Rattle.listings.specs.Writing.{WritesLine}
 use Rattle.outlines.specs.declared.comparing.Told.{Told}
 use Rattle.outlines.specs.declared.comparing.Told.TheVariants.{First, Lengths, Mirrored, Same, Second}
 use Rattle.outlines.specs.declared.Compared.{Compared}
 use Rattle.outlines.specs.declared.Compared.TheVariants as C
+use Rattle.outlines.specs.declared.Uncompared.{Uncompared}
+use Rattle.outlines.specs.declared.Uncompared.TheVariants as U
 use Rattle.outlines.specs.declared.opening.Which.TheVariants.{Own}
 use Rattle.outlines.specs.Opening.{Opened}
 use Rattle.plates.specs.declared.Plate.{Plate}
 use Rattle.plates.specs.declared.Prepared.{Prepared}
-use Rattle.plates.specs.declared.Verdict.{Verdict}
-use Rattle.plates.specs.declared.Verdict.TheVariants as J
 use Rattle.plates.specs.Prepare.{IsWord}
 use Rattle.words.specs.Letters.{bytes}
-use Rattle.words.specs.Word.{Earlier, bit}
+use Rattle.words.specs.Reversed.{reversed}
+use Rattle.words.specs.Word.{Earlier}
 
 -- ---- two sets of words
-
--- a word of n positions from the far end: its position i is the word's position n - 1 - i
-abbrev pub reversed : ℕ → ℕ → ℕ
-reversed zero w = 0
-reversed (suc n) w = reversed n w * 2 + bit w n
 
 -- the words of one are those of the other
 abbrev pub Equal : (P Q : ℕ → Type 0) → Type 0
@@ -61,41 +56,45 @@ told_line n (Second w) = line (bytes "other") (positions w 0 n ∷ bytes "second
 
 -- ---- the call
 
--- the line's length, and whether it says same; or refusal 11
-abbrev pub compared_as : Told → Written → Compared
-compared_as told (W.Refused q) = C.Refused q
-compared_as Same (W.Bytes size) = C.Same size
-compared_as Mirrored (W.Bytes size) = C.Different size
-compared_as Lengths (W.Bytes size) = C.Different size
-compared_as (First w) (W.Bytes size) = C.Different size
-compared_as (Second w) (W.Bytes size) = C.Different size
+-- the line's length, and whether it says same
+abbrev pub compared_as : Told → ℕ → Compared
+compared_as Same size = C.Same size
+compared_as Mirrored size = C.Different size
+compared_as Lengths size = C.Different size
+compared_as (First w) size = C.Different size
+compared_as (Second w) size = C.Different size
+
+-- or refusal 11
+abbrev pub replied_as : Told → Result ℕ Refusal → Result Compared Uncompared
+replied_as told (Err q) = Err (U.Room q)
+replied_as told (Ok size) = Ok (compared_as told size)
 
 -- two plates: the line that is told of their words at the start of the room, or 11
-pub record WritesTold (a b : Plate) (room : List ℕ) (r : Compared) (room' : List ℕ) : Type 0 where
+pub record WritesTold (a b : Plate) (room : List ℕ) (r : Result Compared Uncompared) (room' : List ℕ) : Type 0 where
   pub told : Told
   pub tells : Tells a.n b.n (IsWord a) (IsWord b) told
-  pub written : Written
+  pub written : Result ℕ Refusal
   pub puts : WritesLine (told_line a.n told) room written room'
-  pub is : r ≡ compared_as told written
+  pub is : r ≡ replied_as told written
 
 -- by the verdict on the second input: its refusal, and the room as it was; or the line
-abbrev pub SecondBy : Verdict → Plate → Plate → List ℕ → Compared → List ℕ → Type 0
-SecondBy (J.Refused q) a b room r room' = (r ≡ C.SecondRefused q) × (room' ≡ room)
-SecondBy J.Accepted a b room r room' = WritesTold a b room r room'
+abbrev pub SecondBy : Result (Unit {0}) Refusal → Plate → Plate → List ℕ → Result Compared Uncompared → List ℕ → Type 0
+SecondBy (Err q) a b room r room' = (r ≡ Err (U.Second q)) × (room' ≡ room)
+SecondBy (Ok _) a b room r room' = WritesTold a b room r room'
 
 -- a plate, and an input
-pub record ComparesPlate (a : Plate) (second room : List ℕ) (r : Compared) (room' : List ℕ) : Type 0 where
+pub record ComparesPlate (a : Plate) (second room : List ℕ) (r : Result Compared Uncompared) (room' : List ℕ) : Type 0 where
   pub prepared : Prepared
   pub opened : Opened Own second prepared
   pub is : SecondBy prepared.verdict a prepared.plate room r room'
 
 -- by the verdict on the first input, which comes before the second's
-abbrev pub FirstBy : Verdict → Plate → List ℕ → List ℕ → Compared → List ℕ → Type 0
-FirstBy (J.Refused q) a second room r room' = (r ≡ C.FirstRefused q) × (room' ≡ room)
-FirstBy J.Accepted a second room r room' = ComparesPlate a second room r room'
+abbrev pub FirstBy : Result (Unit {0}) Refusal → Plate → List ℕ → List ℕ → Result Compared Uncompared → List ℕ → Type 0
+FirstBy (Err q) a second room r room' = (r ≡ Err (U.First q)) × (room' ≡ room)
+FirstBy (Ok _) a second room r room' = ComparesPlate a second room r room'
 
 -- the promise of `write_same`
-pub record WritesSame (first second room : List ℕ) (r : Compared) (room' : List ℕ) : Type 0 where
+pub record WritesSame (first second room : List ℕ) (r : Result Compared Uncompared) (room' : List ℕ) : Type 0 where
   pub prepared : Prepared
   pub opened : Opened Own first prepared
   pub is : FirstBy prepared.verdict prepared.plate second room r room'
@@ -106,7 +105,7 @@ pub record PrintsTold (first second text : List ℕ) (told : Told) : Type 0 wher
   pub other : Prepared
   pub opened_one : Opened Own first one
   pub opened_other : Opened Own second other
-  pub accepted_one : one.verdict ≡ J.Accepted
-  pub accepted_other : other.verdict ≡ J.Accepted
+  pub accepted_one : one.verdict ≡ Ok tt
+  pub accepted_other : other.verdict ≡ Ok tt
   pub tells : Tells one.plate.n other.plate.n (IsWord one.plate) (IsWord other.plate) told
   pub is : text ≡ told_line one.plate.n told

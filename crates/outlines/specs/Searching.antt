@@ -1,10 +1,9 @@
 -- What the functions that compare plates promise one another: a search for the first of a plate's words that another plate does not have.
 use Rattle.std.specs.Int.Bits.{bit_xor}
-use Rattle.std.specs.Prelude.{eqb, Bool, cond, false, true, List, [], ◌∷◌, ◌⊎◌, ◌≡◌, ℕ}
+use Rattle.std.specs.Prelude.{None, Option, Some, eqb, Bool, cond, false, true, List, [], ◌∷◌, ◌⊎◌, ◌≡◌, ℕ}
 use Rattle.decoding.specs.Cosets.{taken_off}
-use Rattle.outlines.specs.Comparing.{Alone, Mirrors, Tells, reversed}
-use Rattle.outlines.specs.declared.comparing.Found.{Found}
-use Rattle.outlines.specs.declared.comparing.Found.TheVariants.{Nothing, Word}
+use Rattle.outlines.specs.Comparing.{Alone, Mirrors, Tells}
+use Rattle.words.specs.Reversed.{reversed}
 use Rattle.outlines.specs.declared.comparing.Told.{Told}
 use Rattle.outlines.specs.declared.comparing.Told.TheVariants as T
 use Rattle.plates.specs.declared.Plate.{Plate}
@@ -23,22 +22,22 @@ unfoldable pub left_of : Order → ℕ → List ℕ → ℕ → ℕ → ℕ
 left_of order n rows mask w = taken_off rows (bit_xor (read_from order n w) mask)
 
 -- what was found before, or the word where something is left of it
-abbrev pub or_word : Found → ℕ → ℕ → Found
-or_word (Word v) left w = Word v
-or_word Nothing left w = cond (eqb left 0) Nothing (Word w)
+abbrev pub or_word : Option ℕ → ℕ → ℕ → Option ℕ
+or_word (Some v) left w = Some v
+or_word None left w = cond (eqb left 0) None (Some w)
 
 -- the first word of which something is left: of the rest, and of each row from the last to the first, the later rows taken off and the rest added
-abbrev pub first_out : (ℕ → ℕ) → ℕ → List ℕ → Found
-first_out left rest [] = or_word Nothing (left rest) rest
+abbrev pub first_out : (ℕ → ℕ) → ℕ → List ℕ → Option ℕ
+first_out left rest [] = or_word None (left rest) rest
 first_out left rest (row ∷ rows) = or_word (first_out left rest rows) (left (bit_xor (taken_off rows row) rest)) (bit_xor (taken_off rows row) rest)
 
 -- the earliest word that is in P and not in Q, or that all words of P are in Q
-abbrev pub OutsideAs : (P Q : ℕ → Type 0) → Found → Type 0
-OutsideAs P Q Nothing = (w : ℕ) → P w → Q w
-OutsideAs P Q (Word w) = Alone P Q w × ((v : ℕ) → Alone P Q v → Earlier v w → ⊥)
+abbrev pub OutsideAs : (P Q : ℕ → Type 0) → Option ℕ → Type 0
+OutsideAs P Q None = (w : ℕ) → P w → Q w
+OutsideAs P Q (Some w) = Alone P Q w × ((v : ℕ) → Alone P Q v → Earlier v w → ⊥)
 
 -- of a plate's words, those that another plate has when they are so read
-pub record Outside (order : Order) (a b : Plate) (r : Found) : Type 0 where
+pub record Outside (order : Order) (a b : Plate) (r : Option ℕ) : Type 0 where
   pub is : OutsideAs (IsWord a) (λ w. IsWord b (read_from order a.n w)) r
 
 -- whether all words of a plate are words of another from the far end
@@ -61,13 +60,13 @@ pub record EarlierTold (w v : ℕ) (r : Told) : Type 0 where
   pub is : (w ≡ v → ⊥) → ((r ≡ T.First w) × Earlier w v) ⊎ ((r ≡ T.Second v) × Earlier v w)
 
 -- by the earliest word that each has alone
-abbrev pub SettlesAs : Found → Found → Told → Type 0
-SettlesAs (Word w) (Word v) r = EarlierTold w v r
-SettlesAs (Word w) Nothing r = r ≡ T.First w
-SettlesAs Nothing (Word v) r = r ≡ T.Second v
-SettlesAs Nothing Nothing r = r ≡ T.Same
+abbrev pub SettlesAs : Option ℕ → Option ℕ → Told → Type 0
+SettlesAs (Some w) (Some v) r = EarlierTold w v r
+SettlesAs (Some w) None r = r ≡ T.First w
+SettlesAs None (Some v) r = r ≡ T.Second v
+SettlesAs None None r = r ≡ T.Same
 
-pub record Settles (first second : Found) (r : Told) : Type 0 where
+pub record Settles (first second : Option ℕ) (r : Told) : Type 0 where
   pub is : SettlesAs first second r
 
 -- same where that is told, and else mirrored

@@ -1,7 +1,5 @@
 -- The weights of an input's plate, printed line by line, and what writing them replies and leaves in what was lent.
-use Rattle.std.specs.Prelude.{eqb, drop, get_or, length, replicate, Bool, cond, false, true, ◌++◌, List, [], ◌∷◌, ◌≡◌, ◌+◌, ◌<◌, suc, ℕ, ◌≤◌}
-use Rattle.listings.specs.declared.Written.{Written}
-use Rattle.listings.specs.declared.Written.TheVariants.{Bytes, Refused}
+use Rattle.std.specs.Prelude.{eqb, drop, get_or, length, replicate, Bool, cond, false, true, ◌++◌, List, [], ◌∷◌, ◌≡◌, ◌+◌, ◌<◌, suc, ℕ, ◌≤◌, Result, Ok, Err}
 use Rattle.listings.specs.Lines.{least_line, no_least_line, weight_line}
 use Rattle.outlines.specs.declared.opening.Which.TheVariants.{Own}
 use Rattle.outlines.specs.Opening.{Opened}
@@ -9,8 +7,6 @@ use Rattle.plates.specs.declared.Plate.{Plate}
 use Rattle.plates.specs.declared.Prepared.{Prepared}
 use Rattle.plates.specs.declared.Refusal.{Refusal}
 use Rattle.plates.specs.declared.Refusal.TheVariants.{LineRoom, MetricRoom}
-use Rattle.plates.specs.declared.Verdict.{Verdict}
-use Rattle.plates.specs.declared.Verdict.TheVariants as J
 use Rattle.plates.specs.Refusals.{Passes, Refuses}
 use Rattle.weights.specs.Weights.{LeastIs, NumberOfWeight, whole_space, working_need}
 
@@ -48,7 +44,7 @@ pub record WeightText (plate : Plate) (text : List ℕ) : Type 0 where
 pub record PrintsWeights (input text : List ℕ) : Type 0 where
   pub prepared : Prepared
   pub opened : Opened Own input prepared
-  pub accepted : prepared.verdict ≡ J.Accepted
+  pub accepted : prepared.verdict ≡ Ok tt
   pub is : WeightText prepared.plate text
 
 -- ---- the refusals of a plate, in order: 22, 8, 11
@@ -76,21 +72,21 @@ pub record WeightsGiven (plate : Plate) (working room : List ℕ) (size : ℕ) (
   pub zeroed : working' ≡ replicate (working_need plate) 0 ++ drop (working_need plate) working
 
 -- of a plate: the first refusal in order with both rooms as they were, or the text
-abbrev pub WeighsAs : Plate → List ℕ → List ℕ → List ℕ → List ℕ → Written → Type 0
-WeighsAs plate working room working' room' (Refused q) = Refuses (weighing_conditions plate working room) q × (working' ≡ working) × (room' ≡ room)
-WeighsAs plate working room working' room' (Bytes size) =
+abbrev pub WeighsAs : Plate → List ℕ → List ℕ → List ℕ → List ℕ → Result ℕ Refusal → Type 0
+WeighsAs plate working room working' room' (Err q) = Refuses (weighing_conditions plate working room) q × (working' ≡ working) × (room' ≡ room)
+WeighsAs plate working room working' room' (Ok size) =
     Passes (weighing_conditions plate working room) × WeightsGiven plate working room size working' room'
 
-pub record Weighs (plate : Plate) (working room : List ℕ) (r : Written) (working' room' : List ℕ) : Type 0 where
+pub record Weighs (plate : Plate) (working room : List ℕ) (r : Result ℕ Refusal) (working' room' : List ℕ) : Type 0 where
   pub is : WeighsAs plate working room working' room' r
 
 -- by the verdict on the input: its refusal with both rooms as they were, or what is replied of its plate
-abbrev pub WeighsBy : Verdict → Plate → List ℕ → List ℕ → Written → List ℕ → List ℕ → Type 0
-WeighsBy (J.Refused q) plate working room r working' room' = (r ≡ Refused q) × (working' ≡ working) × (room' ≡ room)
-WeighsBy J.Accepted plate working room r working' room' = Weighs plate working room r working' room'
+abbrev pub WeighsBy : Result (Unit {0}) Refusal → Plate → List ℕ → List ℕ → Result ℕ Refusal → List ℕ → List ℕ → Type 0
+WeighsBy (Err q) plate working room r working' room' = (r ≡ Err q) × (working' ≡ working) × (room' ≡ room)
+WeighsBy (Ok _) plate working room r working' room' = Weighs plate working room r working' room'
 
 -- the promise of `write_weights`
-pub record WritesWeights (input working room : List ℕ) (r : Written) (working' room' : List ℕ) : Type 0 where
+pub record WritesWeights (input working room : List ℕ) (r : Result ℕ Refusal) (working' room' : List ℕ) : Type 0 where
   pub prepared : Prepared
   pub opened : Opened Own input prepared
   pub is : WeighsBy prepared.verdict prepared.plate working room r working' room'

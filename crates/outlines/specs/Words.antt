@@ -1,11 +1,10 @@
 -- The words of a sheet, and what is printed for an input that is not refused.
-use Rattle.std.specs.Prelude.{List, ◌↔◌, ◌≡◌, ◌<◌, ◌^◌, ℕ}
+use Rattle.std.specs.Prelude.{List, ◌↔◌, ◌≡◌, ◌<◌, ◌^◌, ℕ, Ok}
 use Rattle.outlines.specs.declared.opening.Which.{Which}
 use Rattle.outlines.specs.Opening.{Opened, kind_as, mask_as}
 use Rattle.outlines.specs.SheetText.{sheet_of}
 use Rattle.plates.specs.Code.{InCode, Masked}
 use Rattle.plates.specs.declared.Prepared.{Prepared}
-use Rattle.plates.specs.declared.Verdict.TheVariants.{Accepted}
 use Rattle.sheets.specs.Sheet.{Contents}
 use Rattle.words.specs.Parity.{parity}
 
@@ -38,5 +37,5 @@ InDual c w = (w < 2 ^ c.n) × ((v : ℕ) → InCode c.kind c.n c.rows v → pari
 pub record PrintsSheet (which : Which) (input text : List ℕ) : Type 0 where
   pub prepared : Prepared
   pub opened : Opened which input prepared
-  pub accepted : prepared.verdict ≡ Accepted
+  pub accepted : prepared.verdict ≡ Ok tt
   pub is : text ≡ sheet_of prepared.plate

@@ -7,13 +7,11 @@ ghost use Rattle.plates.specs.Prepare.{IsPrepared, rows_of};
 
 use crate::opening;
 use crate::opening::Which;
-use alists::Alist;
-use listings::Written;
-use plates::{Kind, Plate, Refusal, Verdict};
-use sheets::{Sheet, SheetReply};
+use plates::{Kind, Plate, Refusal};
+use sheets::Sheet;
 
 // The rows of a plate as alist text.
-fn put_rows_of(plate: Plate, room: &mut [u8]) -> Written
+fn put_rows_of(plate: Plate, room: &mut [u8]) -> Result<usize, Refusal>
     requires { IsPrepared plate }
     ensures { WritesAlist plate.n (rows_of plate) room.old result room.new }
 {
@@ -23,7 +21,7 @@ fn put_rows_of(plate: Plate, room: &mut [u8]) -> Written
 }
 
 // The parity checks of a matrix as alist text: its rows where they are checks, else the rows of the dual's plate.
-fn put_checks(kind: Kind, rows: &[u64], dual: Plate, room: &mut [u8]) -> Written
+fn put_checks(kind: Kind, rows: &[u64], dual: Plate, room: &mut [u8]) -> Result<usize, Refusal>
     requires { IsPrepared dual }
     ensures { WritesAlist dual.n (checks_of kind rows.now (rows_of dual)) room.old result room.new }
 {
@@ -34,36 +32,29 @@ fn put_checks(kind: Kind, rows: &[u64], dual: Plate, room: &mut [u8]) -> Written
 }
 
 // The parity checks of a sheet, whose rows stand at the start of the table, as alist text.
-fn write_checks(sheet: Sheet, table: &[u64; 64], room: &mut [u8]) -> Written
+fn write_checks(sheet: Sheet, table: &[u64; 64], room: &mut [u8]) -> Result<usize, Refusal>
     requires { sheet.rows ≤ length table.now }
     ensures { WritesChecks sheet.n sheet.kind (take sheet.rows table.now) room.old result room.new }
 {
     let dual = opening::prepared_of(Which::Dual, sheet, table);
-    let verdict = dual.verdict;
-    let kind = sheet.kind;
+    dual.verdict?;
     let rows = &table[..];
     let count = sheet.rows;
-    match verdict {
-        Verdict::Refused(refusal) => Written::Refused(refusal),
-        Verdict::Accepted => put_checks(kind, &rows[..count], dual.plate, room),
-    }
+    put_checks(sheet.kind, &rows[..count], dual.plate, room)
 }
 
 // The parity checks of an input's code as alist text; its mask is passed over. A refusal is the input's, its matrix's, 16 at place 0 where
 // there are no checks, or 11 where the room is too short.
-pub fn write_alist(input: &[u8], room: &mut [u8]) -> Written
+pub fn write_alist(input: &[u8], room: &mut [u8]) -> Result<usize, Refusal>
     ensures { WritesAlistOf input.now room.old result room.new }
 {
     let mut table = [0; 64];
-    let reply = sheets::read_sheet(input, &mut table);
-    match reply {
-        SheetReply::Read(sheet) => write_checks(sheet, &table, room),
-        SheetReply::Refused(refusal) => Written::Refused(refusal),
-    }
+    let sheet = sheets::read_sheet(input, &mut table)?;
+    write_checks(sheet, &table, room)
 }
 
 // The first rows of a table as a sheet of parity checks.
-fn put_matrix(n: usize, count: usize, table: &[u64; 64], room: &mut [u8]) -> Written
+fn put_matrix(n: usize, count: usize, table: &[u64; 64], room: &mut [u8]) -> Result<usize, Refusal>
     requires n_bound { n ≤ 64 }
     requires count_bound { count ≤ 64 }
     requires count_in_bounds { count ≤ length table.now }
@@ -74,16 +65,13 @@ fn put_matrix(n: usize, count: usize, table: &[u64; 64], room: &mut [u8]) -> Wri
 }
 
 // An alist text as a sheet of parity checks by position. A refusal is 15 where the text is over 32,768 bytes, 16 with its first faulty line, or 11.
-pub fn write_from_alist(input: &[u8], room: &mut [u8]) -> Written
+pub fn write_from_alist(input: &[u8], room: &mut [u8]) -> Result<usize, Refusal>
     ensures { WritesFromAlist input.now room.old result room.new }
 {
     if 32768 < input.len() {
-        return Written::Refused(Refusal::InputTooLong);
+        return Err(Refusal::InputTooLong);
     }
     let mut table = [0; 64];
-    let reply = alists::read(input, &mut table);
-    match reply {
-        Alist::Matrix { n, count } => put_matrix(n, count, &table, room),
-        Alist::Refused(refusal) => Written::Refused(refusal),
-    }
+    let matrix = alists::read(input, &mut table)?;
+    put_matrix(matrix.n, matrix.count, &table, room)
 }

@@ -2,8 +2,6 @@
 ghost use Rattle.std.specs.Int.Bits.{bit_xor};
 ghost use Rattle.std.specs.Prelude.{drop, get_or, length, ◌≡◌, ◌+◌, ◌<◌, ◌≤◌};
 ghost use Rattle.decoding.specs.Cosets.{taken_off};
-ghost use Rattle.outlines.specs.Comparing.{reversed};
-ghost use Rattle.outlines.specs.declared.comparing.Found.TheVariants.{Nothing, Word};
 ghost use Rattle.outlines.specs.Searching.{ComesFirst, EarlierTold, Outside, Settles, TellsAll, TellsMirrored, ToldOf};
 ghost use Rattle.outlines.specs.Searching.{first_out, left_of, read_from, unless_same};
 ghost use Rattle.plates.specs.Prepare.{IsPrepared};
@@ -22,27 +20,6 @@ pub enum Told {
     Second(u64),
 }
 
-// A word that was found, or that there is none.
-#[derive(Clone, Copy)]
-pub enum Found {
-    Word(u64),
-    Nothing,
-}
-
-// A word of n positions from the far end.
-fn from_far_end(n: usize, word: u64) -> u64
-    requires { n ≤ 64 }
-    ensures { result ≡ reversed n word }
-{
-    let mut turned: u64 = 0;
-    let mut i: usize = 0;
-    while i < n {
-        turned = turned * 2 + words::bit_at(word, i);
-        i += 1;
-    }
-    turned
-}
-
 // A word as it is, or from the far end.
 fn read_from(order: Order, n: usize, word: u64) -> u64
     requires { n ≤ 64 }
@@ -50,7 +27,7 @@ fn read_from(order: Order, n: usize, word: u64) -> u64
 {
     match order {
         Order::First => word,
-        Order::Last => from_far_end(n, word),
+        Order::Last => words::reversed(n, word),
     }
 }
 
@@ -72,26 +49,31 @@ fn word_of(rows: &[u64], rest: u64, j: usize) -> u64
 }
 
 // The first word of a plate, of those that tell all, of which something is left.
-fn first_out(order: Order, n: usize, own: &[u64], rest: u64, other: &[u64], mask: u64) -> Found
+fn first_out(
+    order: Order,
+    n: usize,
+    own: &[u64],
+    rest: u64,
+    other: &[u64],
+    mask: u64,
+) -> Option<u64>
     requires { n ≤ 64 }
     ensures { result ≡ first_out (left_of order n other.now mask) rest own.now }
 {
     if left_of(order, n, other, mask, rest) != 0 {
-        return Found::Word(rest);
+        return Some(rest);
     }
-    let mut j = own.len();
-    while 0 < j {
-        j -= 1;
+    for j in (0..own.len()).rev() {
         let word = word_of(own, rest, j);
         if left_of(order, n, other, mask, word) != 0 {
-            return Found::Word(word);
+            return Some(word);
         }
     }
-    Found::Nothing
+    None
 }
 
 // The earliest word of a plate that another of the same length does not have when it is so read.
-fn outside(order: Order, own: Plate, other: Plate) -> Found
+fn outside(order: Order, own: Plate, other: Plate) -> Option<u64>
     requires prepared { IsPrepared own }
     requires prepared_2 { IsPrepared other }
     requires n_value { own.n ≡ other.n }
@@ -113,11 +95,7 @@ fn all_mirrored(own: Plate, other: Plate) -> bool
     requires n_value { own.n ≡ other.n }
     ensures { TellsAll own other result }
 {
-    let found = outside(Order::Last, own, other);
-    match found {
-        Found::Word(_) => false,
-        Found::Nothing => true,
-    }
+    outside(Order::Last, own, other).is_none()
 }
 
 // Whether the words of one plate are those of the other from the far end.
@@ -127,10 +105,7 @@ fn are_mirrored(first: Plate, second: Plate) -> bool
     requires n_value { first.n ≡ second.n }
     ensures { TellsMirrored first second result }
 {
-    if all_mirrored(first, second) {
-        return all_mirrored(second, first);
-    }
-    false
+    all_mirrored(first, second) && all_mirrored(second, first)
 }
 
 // Whether the first of two words that differ is the earlier one.
@@ -150,33 +125,15 @@ fn earlier_of(first: u64, second: u64) -> Told
     Told::Second(second)
 }
 
-// What is told by the second's word, where the first has one.
-fn settle_word(first: u64, second: Found) -> Told
-    ensures { Settles (Word first) second result }
-{
-    match second {
-        Found::Word(word) => earlier_of(first, word),
-        Found::Nothing => Told::First(first),
-    }
-}
-
-// What is told by the second's word, where the first has none.
-fn settle_none(second: Found) -> Told
-    ensures { Settles Nothing second result }
-{
-    match second {
-        Found::Word(word) => Told::Second(word),
-        Found::Nothing => Told::Same,
-    }
-}
-
 // What is told by the earliest word that each plate has alone, mirrored words passed over.
-fn settle(first: Found, second: Found) -> Told
+fn settle(first: Option<u64>, second: Option<u64>) -> Told
     ensures { Settles first second result }
 {
-    match first {
-        Found::Word(word) => settle_word(word, second),
-        Found::Nothing => settle_none(second),
+    match (first, second) {
+        (Some(word), Some(other)) => earlier_of(word, other),
+        (Some(word), None) => Told::First(word),
+        (None, Some(word)) => Told::Second(word),
+        (None, None) => Told::Same,
     }
 }
 
@@ -186,10 +143,7 @@ fn unless_same(told: Told) -> Told
 {
     match told {
         Told::Same => Told::Same,
-        Told::Mirrored => Told::Mirrored,
-        Told::Lengths => Told::Mirrored,
-        Told::First(_) => Told::Mirrored,
-        Told::Second(_) => Told::Mirrored,
+        _ => Told::Mirrored,
     }
 }
 

@@ -3,10 +3,9 @@ ghost use Rattle.std.specs.Prelude.{length, take, ◌≡◌, ◌≤◌};
 ghost use Rattle.outlines.specs.declared.opening.Which.TheVariants.{Dual};
 ghost use Rattle.outlines.specs.Opening.{Opened, kind_as, mask_as};
 ghost use Rattle.plates.specs.Prepare.{Prepares};
-ghost use Rattle.plates.specs.Replying.{refused_with};
 
-use plates::{Kind, Plate, Prepared, Refusal, Verdict};
-use sheets::{Sheet, SheetReply};
+use plates::{Kind, Prepared};
+use sheets::Sheet;
 
 // Which code of an input: its own with its mask, or the dual of its code.
 #[derive(Clone, Copy)]
@@ -45,22 +44,6 @@ fn mask_as(which: Which, mask: u64) -> u64
     }
 }
 
-// A refusal, with the zero plate beside it.
-fn refused(refusal: Refusal) -> Prepared
-    ensures { result ≡ refused_with refusal }
-{
-    Prepared {
-        verdict: Verdict::Refused(refusal),
-        plate: Plate {
-            n: 0,
-            k: 0,
-            mask: 0,
-            rows: [0; 64],
-            profile: [0; 65],
-        },
-    }
-}
-
 // What preparing replies to a sheet, whose rows stand at the start of the table.
 pub fn prepared_of(which: Which, sheet: Sheet, table: &[u64; 64]) -> Prepared
     requires { sheet.rows ≤ length table.now }
@@ -85,7 +68,7 @@ pub fn opened(which: Which, input: &[u8]) -> Prepared
     let mut table = [0; 64];
     let reply = sheets::read_sheet(input, &mut table);
     match reply {
-        SheetReply::Read(sheet) => prepared_of(which, sheet, &table),
-        SheetReply::Refused(refusal) => refused(refusal),
+        Ok(sheet) => prepared_of(which, sheet, &table),
+        Err(refusal) => plates::refused(refusal),
     }
 }

@@ -13,14 +13,10 @@ use plates::Kind;
 fn put_byte(room: &mut [u8], at: usize, byte: u8) -> usize
     ensures { Puts room.old at (byte ∷ []) room.new result }
 {
-    if at == usize::MAX {
-        return at;
-    }
     if at < room.len() {
         room[at] = byte;
-        return at + 1;
     }
-    at + 1
+    at.saturating_add(1)
 }
 
 // Some bytes.
@@ -28,10 +24,8 @@ pub fn put(room: &mut [u8], at: usize, text: &[u8]) -> usize
     ensures { Puts room.old at text.now room.new result }
 {
     let mut next = at;
-    let mut i = 0;
-    while i < text.len() {
-        next = put_byte(room, next, text[i]);
-        i += 1;
+    for byte in text {
+        next = put_byte(room, next, *byte);
     }
     next
 }
@@ -68,10 +62,8 @@ pub fn put_positions(room: &mut [u8], at: usize, word: u64, n: usize) -> usize
     ensures { Puts room.old at (positions word 0 n) room.new result }
 {
     let mut next = at;
-    let mut i = 0;
-    while i < n {
+    for i in 0..n {
         next = put_byte(room, next, bit_character(word, i));
-        i += 1;
     }
     next
 }
@@ -130,10 +122,8 @@ fn put_rows(room: &mut [u8], at: usize, rows: &[u64], n: usize) -> usize
     ensures { Puts room.old at (row_lines n rows.now) room.new result }
 {
     let mut next = at;
-    let mut i = 0;
-    while i < rows.len() {
-        next = put_row(room, next, rows[i], n);
-        i += 1;
+    for row in rows {
+        next = put_row(room, next, *row, n);
     }
     next
 }

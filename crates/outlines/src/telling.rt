@@ -8,7 +8,6 @@ ghost use Rattle.words.specs.Letters.{bytes};
 
 use crate::comparing::Told;
 use crate::pieces;
-use listings::Written;
 use plates::Refusal;
 
 // The line of a word, and whose it is, at the start of the room; its length.
@@ -34,15 +33,15 @@ fn put_told(n: usize, told: Told, room: &mut [u8]) -> usize
 }
 
 // The line of what is told into the room, or refusal 11.
-pub fn write_told(n: usize, told: Told, room: &mut [u8]) -> Written
+pub fn write_told(n: usize, told: Told, room: &mut [u8]) -> Result<usize, Refusal>
     requires { n ≤ 64 }
     ensures { WritesLine (told_line n told) room.old result room.new }
 {
     let mut scratch = [0u8; 1];
     let size = put_told(n, told, &mut scratch);
     if room.len() < size {
-        return Written::Refused(Refusal::LineRoom);
+        return Err(Refusal::LineRoom);
     }
     put_told(n, told, room);
-    Written::Bytes(size)
+    Ok(size)
 }

@@ -11,11 +11,11 @@ tell-told-requires c =
       prepared_2 = search rules;
     }
 
-pub write_told-written-requires : goal.write_told-written-requires
-write_told-written-requires c = search plate-short
+pub write_told-requires : goal.write_told-requires
+write_told-requires c = search plate-short
 
-pub returns-in-Bytes : goal.returns-in-Bytes
-returns-in-Bytes c = search plates-told
+pub returns-in-Ok : goal.returns-in-Ok
+returns-in-Ok c = search plates-told
 
-pub returns-in-Refused : goal.returns-in-Refused
-returns-in-Refused c = search plates-untold
+pub returns-in-Err : goal.returns-in-Err
+returns-in-Err c = search plates-untold

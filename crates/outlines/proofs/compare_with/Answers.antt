@@ -11,8 +11,8 @@ compare_plates-requires c =
       prepared_2 = search opened-prepared;
     }
 
-pub returns-in-Refused : goal.returns-in-Refused
-returns-in-Refused c = search second-refused
+pub returns-in-Err : goal.returns-in-Err
+returns-in-Err c = search second-refused
 
-pub returns-in-Accepted : goal.returns-in-Accepted
-returns-in-Accepted c = search second-compared
+pub returns-in-Ok : goal.returns-in-Ok
+returns-in-Ok c = search second-compared

@@ -1,12 +1,13 @@
 -- `write_plate_of` meets its contract.
+use Rattle.std.proofs.lemmas.Result.{err_from_is_err_and}
 use Rattle.outlines.proofs.Replying.{opened-prepared, sheet-given, sheet-refused}
 use Rattle.outlines.proofs.write_plate_of.Goals as goal
 
 pub put_plate-requires : goal.put_plate-requires
-put_plate-requires c = search opened-prepared
+put_plate-requires c = opened-prepared c.opened-prepared.ensures c.in_ok-prepared.was
 
-pub returns-in-Refused : goal.returns-in-Refused
-returns-in-Refused c = search sheet-refused
+pub returns-in_err-prepared : goal.returns-in_err-prepared
+returns-in_err-prepared c = let p = err_from_is_err_and c.from_residual.result c.from_residual.ensures.1 in rw (p.1, p.2) (sheet-refused c.opened-prepared.ensures c.in_err-prepared.was)
 
-pub returns-in-Accepted : goal.returns-in-Accepted
-returns-in-Accepted c = search sheet-given
+pub returns : goal.returns
+returns c = sheet-given c.opened-prepared.ensures c.in_ok-prepared.was c.put_plate.ensures

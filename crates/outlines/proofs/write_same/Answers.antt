@@ -6,8 +6,8 @@ use Rattle.outlines.proofs.write_same.Goals as goal
 pub compare_with-requires : goal.compare_with-requires
 compare_with-requires c = search opened-prepared
 
-pub returns-in-Refused : goal.returns-in-Refused
-returns-in-Refused c = search first-refused
+pub returns-in-Err : goal.returns-in-Err
+returns-in-Err c = search first-refused
 
-pub returns-in-Accepted : goal.returns-in-Accepted
-returns-in-Accepted c = search first-compared
+pub returns-in-Ok : goal.returns-in-Ok
+returns-in-Ok c = search first-compared

@@ -22,5 +22,5 @@ all_mirrored-requires-then-all_mirrored c =
 pub returns-then-all_mirrored : goal.returns-then-all_mirrored
 returns-then-all_mirrored c = search mirrored-both
 
-pub returns : goal.returns
-returns c = search mirrored-not
+pub returns-else-all_mirrored : goal.returns-else-all_mirrored
+returns-else-all_mirrored c = search mirrored-not

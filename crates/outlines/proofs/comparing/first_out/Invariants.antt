@@ -5,6 +5,3 @@ use Rattle.outlines.proofs.comparing.first_out.Given as goal
 
 abbrev pub invariant-loop-j : goal.invariant-loop-j
 invariant-loop-j l = NoneFrom (left_of l.order l.n l.other l.mask) l.rest l.own l.j
-
-abbrev pub decreases-loop-j : goal.decreases-loop-j
-decreases-loop-j l = l.j

@@ -5,8 +5,8 @@ use Rattle.outlines.proofs.opening.opened.Goals as goal
 pub prepared_of-requires : goal.prepared_of-requires
 prepared_of-requires c = search rows-within
 
-pub returns-in-Read : goal.returns-in-Read
-returns-in-Read c = search opened-sheet
+pub returns-in-Ok : goal.returns-in-Ok
+returns-in-Ok c = search opened-sheet
 
-pub returns-in-Refused : goal.returns-in-Refused
-returns-in-Refused c = search opened-refused
+pub returns-in-Err : goal.returns-in-Err
+returns-in-Err c = search opened-refused

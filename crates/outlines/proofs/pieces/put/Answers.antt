@@ -2,11 +2,11 @@
 use Rattle.outlines.proofs.Putting.{bytes-end, bytes_on, bytes-size, bytes-start}
 use Rattle.outlines.proofs.pieces.put.Goals as goal
 
-pub loop-i-init : goal.loop-i-init
-loop-i-init c = search bytes-start
+pub loop-byte-init : goal.loop-byte-init
+loop-byte-init c = search bytes-start
 
-pub loop-i-preserved : goal.loop-i-preserved
-loop-i-preserved c = search bytes_on
+pub loop-byte-preserved : goal.loop-byte-preserved
+loop-byte-preserved c = search bytes_on
 
 pub shape_of-room : goal.shape_of-room
 shape_of-room c = search bytes-size

@@ -2,11 +2,11 @@
 use Rattle.outlines.proofs.Putting.{rows_end, rows_on, rows_size, rows_start}
 use Rattle.outlines.proofs.pieces.put_rows.Goals as goal
 
-pub loop-i-init : goal.loop-i-init
-loop-i-init c = search rows_start
+pub loop-row-init : goal.loop-row-init
+loop-row-init c = search rows_start
 
-pub loop-i-preserved : goal.loop-i-preserved
-loop-i-preserved c = search rows_on
+pub loop-row-preserved : goal.loop-row-preserved
+loop-row-preserved c = search rows_on
 
 pub shape_of-room : goal.shape_of-room
 shape_of-room c = search rows_size

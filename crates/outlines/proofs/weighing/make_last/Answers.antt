@@ -1,9 +1,11 @@
 -- `weighing::make_last` meets its contract.
-use Rattle.outlines.proofs.WeightsPut.{last_none, last_some}
+use Rattle.outlines.specs.WeightLines.{last_line}
 use Rattle.outlines.proofs.weighing.make_last.Goals as goal
 
-pub returns-then-none : goal.returns-then-none
-returns-then-none c = search last_none
+pub returns-in-Some : goal.returns-in-Some
+unfolding last_line
+returns-in-Some c = rw c.in-Some.is c.write_least.ensures
 
-pub returns : goal.returns
-returns c = search last_some
+pub returns-in-None : goal.returns-in-None
+unfolding last_line
+returns-in-None c = rw c.in-None.is c.write_no_least.ensures
