@@ -2,6 +2,7 @@
 -- calls but the weights (A9: `weights-of-matrix`) speak of those; demands 2 and 3 are stated over them. Here: the words, profile and counts, 23, refusal 5,
 -- the mask line of a sheet and its 17, and a masked decode against a plain one. What a zero mask gives: ZeroMasks. 23 stands after 3 and before 4 by
 -- Demand1: `prepare-numbers`; the mask is reversed with the rows in A4's statement, by sheets/specs/Turned: `rest_turned`.
+use Rattle.std.proofs.Common.{Result, Ok, Err}
 use lib.Bits.{bit_xor, xor_comm}
 use lib.IntN.{ℤ}
 use lib.ListN.{length}
@@ -18,7 +19,6 @@ use Rattle.decoding.proofs.DecodeDetermined.{counts_same}
 use Rattle.decoding.proofs.MaskedCounts.{mask-branches, mask-entering}
 use Rattle.decoding.proofs.MaskedDecoding.{PlainlyBest, decode-masked, metric-masked}
 use Rattle.decoding.specs.declared.Answer.{Answer}
-use Rattle.decoding.specs.declared.Decoded.TheVariants.{Found}
 use Rattle.decoding.specs.Decode.{Best, Decodes}
 use Rattle.decoding.specs.Turning.{turned_by}
 use Rattle.demands.proofs.Demand1.{prepare-refuses-exactly}
@@ -32,8 +32,6 @@ use Rattle.plates.specs.declared.Plate.{Plate}
 use Rattle.plates.specs.declared.Prepared.{Prepared}
 use Rattle.plates.specs.declared.Refusal.{Refusal}
 use Rattle.plates.specs.declared.Refusal.TheVariants.{MaskBeyond}
-use Rattle.plates.specs.declared.Verdict.{Verdict}
-use Rattle.plates.specs.declared.Verdict.TheVariants.{Accepted, Refused}
 use Rattle.plates.specs.Prepare.{IsPrepared, IsWord, PlateOf, Prepares, PreparesAs, RowOver, bad_length, prepare_conditions, rows_of, too_many_rows}
 use Rattle.plates.specs.Refusals.{Passes, Refuses, number, place}
 use Rattle.plates.specs.Replying.{refused_with}
@@ -83,7 +81,7 @@ module _ (C : ℕ → Type 0) (zero_in : C 0) (closed : (a b : ℕ) → C a → 
 
 module _ (n : ℕ) (kind : Kind) (rows : List ℕ) (mask : ℕ) (r : Prepared) (p : Prepares n kind rows mask r) where
   -- 23 is replied exactly where 1 to 3 are not and the mask has a one at n or beyond
-  pub mask-refused-exactly : (r.verdict ≡ Refused MaskBeyond) ↔ (Passes (bad_length n ∷ too_many_rows rows ∷ RowOver n rows ∷ []) × (2 ^ n ≤ mask))
+  pub mask-refused-exactly : (r.verdict ≡ Err MaskBeyond) ↔ (Passes (bad_length n ∷ too_many_rows rows ∷ RowOver n rows ∷ []) × (2 ^ n ≤ mask))
   mask-refused-exactly = (
     (λ e. first ((prepare-refuses-exactly n kind rows mask r p MaskBeyond).0 e)),
     λ h. (prepare-refuses-exactly n kind rows mask r p MaskBeyond).1 (inr (h.0.0, inr (h.0.1.0, inr (h.0.1.1.0, inl (h.1, refl))))),
@@ -98,7 +96,7 @@ module _ (n : ℕ) (kind : Kind) (rows : List ℕ) (mask : ℕ) (r : Prepared) (
       first (inr (a, inr (b, inr (c, inr (m, inr (d, none)))))) = absurd none
 
   -- an accepted plate has the mask
-  pub plate-has-mask : r.verdict ≡ Accepted → r.plate.mask ≡ mask
+  pub plate-has-mask : r.verdict ≡ Ok tt → r.plate.mask ≡ mask
   plate-has-mask = accepted-mask n kind rows mask r p
 
 -- its number is 23, and its place 0
@@ -109,8 +107,8 @@ mask-number = (refl, refl)
 
 -- any reply to a prepared plate's own first k rows as G and its own mask is the plate itself
 pub prepared-is-own : (plate : Plate) → IsPrepared plate → (r : Prepared) → Prepares plate.n G (rows_of plate) plate.mask r
-    → r ≡ record { verdict = Accepted; plate = plate }
-prepared-is-own plate p r x = prepare-determined plate.n G (rows_of plate) plate.mask r (record { verdict = Accepted; plate = plate }) x p.same
+    → r ≡ record { verdict = Ok tt; plate = plate }
+prepared-is-own plate p r x = prepare-determined plate.n G (rows_of plate) plate.mask r (record { verdict = Ok tt; plate = plate }) x p.same
 
 -- with another mask it is prepared exactly if that one has no one at n or beyond
 pub remasked-prepared : (plate : Plate) → IsPrepared plate → (mask : ℕ) → IsPrepared (with_mask mask plate) ↔ (mask < 2 ^ plate.n)
@@ -162,9 +160,9 @@ module _ (n : ℕ) (kind : Kind) (rows : List ℕ) (m m' : ℕ) (h : m < 2 ^ n) 
 
   -- and the plate of the one, with the other mask, is that of the other
   other-accepts : (plate : Plate) → Passes (prepare_conditions n kind rows m) × PlateOf (InCode kind n rows) n m plate
-      → s ≡ record { verdict = Accepted; plate = with_mask m' plate }
+      → s ≡ record { verdict = Ok tt; plate = with_mask m' plate }
   other-accepts plate ((a, (b, (c, (d, e)))), x) =
-      prepare-determined n kind rows m' s (record { verdict = Accepted; plate = with_mask m' plate }) q (record {
+      prepare-determined n kind rows m' s (record { verdict = Ok tt; plate = with_mask m' plate }) q (record {
         reply = (
           (a, (b, (c, ((λ y z. omega (arith, z.0, h')), e)))),
           record {
@@ -185,12 +183,12 @@ module _ (n : ℕ) (kind : Kind) (rows : List ℕ) (m m' : ℕ) (h : m < 2 ^ n) 
   pub same-verdict : s.verdict ≡ r.verdict
   same-verdict = go r.verdict r.plate p.reply
     where
-      go : (v : Verdict) (plate : Plate) → PreparesAs (prepare_conditions n kind rows m) (InCode kind n rows) n m plate v → s.verdict ≡ v
-      go (Refused c) plate x =
+      go : (v : Result (Unit {0}) Refusal) (plate : Plate) → PreparesAs (prepare_conditions n kind rows m) (InCode kind n rows) n m plate v → s.verdict ≡ v
+      go (Err c) plate x =
           ap (λ (y : Prepared). y.verdict) (prepare-determined n kind rows m' s (refused_with c) q (record { reply = (other-refuses c x.0, refl) }))
-      go Accepted plate x = ap (λ (y : Prepared). y.verdict) (other-accepts plate x)
+      go (Ok _) plate x = ap (λ (y : Prepared). y.verdict) (other-accepts plate x)
 
-  module _ (e : r.verdict ≡ Accepted) where
+  module _ (e : r.verdict ≡ Ok tt) where
     -- the plates differ in their masks alone
     pub differ-in-mask : s.plate ≡ with_mask m' r.plate
     differ-in-mask = ap (λ (y : Prepared). y.plate) (other-accepts r.plate (accepted n kind rows m r p e))
@@ -201,7 +199,7 @@ module _ (n : ℕ) (kind : Kind) (rows : List ℕ) (m m' : ℕ) (h : m < 2 ^ n) 
 
     -- nor those that decoding reports, whatever the samples and the rooms
     pub decode-counts-unchanged : (samples samples' metrics metrics' room room' : List ℤ) (decisions decisions' words words' : List ℕ) (a b : Answer)
-        → Decodes r.plate samples metrics decisions metrics' decisions' (Found a) → Decodes s.plate samples' room words room' words' (Found b)
+        → Decodes r.plate samples metrics decisions metrics' decisions' (Ok a) → Decodes s.plate samples' room words room' words' (Ok b)
         → a.counts ≡ b.counts
     decode-counts-unchanged samples samples' metrics metrics' room room' decisions decisions' words words' a b x y =
         let c = profile-and-counts-unchanged in
@@ -227,7 +225,7 @@ module _ (n : ℕ) (kind : Kind) (rows : List ℕ) (m m' : ℕ) (h : m < 2 ^ n) 
 
 -- one matrix prepared with a mask and without
 module _ (n : ℕ) (kind : Kind) (rows : List ℕ) (mask : ℕ) (h : mask < 2 ^ n) (r s : Prepared) (p : Prepares n kind rows mask r)
-    (q : Prepares n kind rows 0 s) (e : r.verdict ≡ Accepted) (samples : List ℤ) where
+    (q : Prepares n kind rows 0 s) (e : r.verdict ≡ Ok tt) (samples : List ℤ) where
   plain : s.plate ≡ with_mask 0 r.plate
   plain = differ-in-mask n kind rows mask 0 h (pow_pos n) r s p q e
 

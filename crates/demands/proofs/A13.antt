@@ -1,5 +1,6 @@
 -- A13, a code and its dual: in the same order of positions and without masks they have equal profiles. Stated of a matrix and two replies of
 -- `prepare`, one to the matrix as G and one to it as H; "first depth over 12" is trellises/specs/Dual: `TooWideAt`.
+use Rattle.std.proofs.Common.{Ok, Err}
 use lib.ListN.{get_or, length}
 use mathlib.Core.List.{List}
 use mathlib.Core.Logic.{◌⊎◌}
@@ -9,7 +10,6 @@ use Rattle.plates.specs.Code.{InCode}
 use Rattle.plates.specs.declared.Kind.TheVariants.{G, H}
 use Rattle.plates.specs.declared.Prepared.{Prepared}
 use Rattle.plates.specs.declared.Refusal.TheVariants.{TooWide}
-use Rattle.plates.specs.declared.Verdict.TheVariants.{Accepted, Refused}
 use Rattle.plates.specs.Heads.{RowsOf}
 use Rattle.plates.specs.Prepare.{Prepares}
 use Rattle.plates.specs.Profile.{live_at}
@@ -27,12 +27,12 @@ dual-profiles-equal n matrix below a b p q = dual-profiles n matrix below a b p 
 module _ (n : ℕ) (matrix : List ℕ) (r s : Prepared) (x : Prepares n G matrix 0 r) (y : Prepares n H matrix 0 s) where
   -- preparing the same valid matrix as G and as H is accepted both times or refused with 4 both times, and at the same depth
   pub dual-accepted-or-refused : 1 ≤ n → n ≤ 64 → length matrix ≤ 64 → ((j : ℕ) → j < length matrix → get_or matrix j 0 < 2 ^ n)
-      → ((r.verdict ≡ Accepted) × (s.verdict ≡ Accepted)) ⊎ ((d : ℕ) × (r.verdict ≡ Refused (TooWide d)) × (s.verdict ≡ Refused (TooWide d)))
+      → ((r.verdict ≡ Ok tt) × (s.verdict ≡ Ok tt)) ⊎ ((d : ℕ) × (r.verdict ≡ Err (TooWide d)) × (s.verdict ≡ Err (TooWide d)))
   dual-accepted-or-refused = accepted-or-refused-both n matrix r s x y
 
   -- that depth is the first over 12 of both plates
-  pub dual-first-depth : (d : ℕ) → r.verdict ≡ Refused (TooWide d)
-      → (s.verdict ≡ Refused (TooWide d)) × TooWideAt (InCode G n matrix) n d × TooWideAt (InCode H n matrix) n d
+  pub dual-first-depth : (d : ℕ) → r.verdict ≡ Err (TooWide d)
+      → (s.verdict ≡ Err (TooWide d)) × TooWideAt (InCode G n matrix) n d × TooWideAt (InCode H n matrix) n d
   dual-first-depth = refused-at-same-depth n matrix r s x y
 
   -- whatever the matrix, valid or not, the verdicts are the same
@@ -44,5 +44,5 @@ module _ (n : ℕ) (matrix : List ℕ) (r s : Prepared) (x : Prepares n G matrix
   dual-plate-profiles = (same_profile n matrix r s x y, same_length n matrix r s x y)
 
   -- where they are accepted, k of the one and k of the other are n
-  pub dual-dimensions : r.verdict ≡ Accepted → r.plate.k + s.plate.k ≡ n
+  pub dual-dimensions : r.verdict ≡ Ok tt → r.plate.k + s.plate.k ≡ n
   dual-dimensions = dimensions-together n matrix r s x y

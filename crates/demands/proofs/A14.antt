@@ -2,6 +2,7 @@
 -- judging/specs/Listing (`faulty_at`, `repeats_at`, `listed_graph`), Judging (the conditions, `Wrongly`, `Missing`, `Judges`), Surplus (`SurplusOver`), and
 -- trellises/specs/Graph (`Path`, `Spells`). A line that leaves depth 0 elsewhere than in state 0, or enters depth n elsewhere, is no bad line but a
 -- useless branch: it is on no full path (`full-paths-from-zero-to-zero`).
+use Rattle.std.proofs.Common.{Err, Ok, Result}
 use lib.ListN.{drop, get_or, length, replicate}
 use lib.Dec.{eqb}
 use mathlib.Core.Bool.{Bool, cond, false, true, ◌||◌}
@@ -15,7 +16,7 @@ use Rattle.demands.proofs.Demand1.{its-number}
 use Rattle.demands.specs.Refusing.{Numbered, RefusesExactly}
 use Rattle.judging.proofs.Determined.{judge-determined, right-exactly}
 use Rattle.judging.specs.declared.Judged.{Judged}
-use Rattle.judging.specs.declared.Judged.TheVariants.{NotSpelled, Refused, Right, SpelledWrongly}
+use Rattle.judging.specs.declared.Judged.TheVariants.{NotSpelled, Right, SpelledWrongly}
 use Rattle.judging.specs.declared.Judgement.{Judgement}
 use Rattle.judging.specs.Judging.{JudgesBy, Judges, Missing, Wrongly, graph_against, judging_conditions, room_need}
 use Rattle.judging.specs.Listing.{listed_graph}
@@ -60,62 +61,62 @@ module _ (plate : Plate) (text room : List ℕ) where
 
   module _ (room' : List ℕ) (r : Judgement) (p : Judges plate text room room' r) where
     -- the reply by its verdict
-    by-verdict : (v : Judged) → r.verdict ≡ v → JudgesBy plate (entries plate.n text) room room' v
+    by-verdict : (v : Result Judged Refusal) → r.verdict ≡ v → JudgesBy plate (entries plate.n text) room room' v
     by-verdict v e = subst (JudgesBy plate (entries plate.n text) room room') e p.reply
 
     -- refused exactly under them
-    pub judge-refuses-exactly : RefusesExactly Refused (judging_conditions plate (entries plate.n text) room) r.verdict
+    pub judge-refuses-exactly : RefusesExactly Err (judging_conditions plate (entries plate.n text) room) r.verdict
     judge-refuses-exactly q = (
-      (λ e. (by-verdict (Refused q) e).0),
+      (λ e. (by-verdict (Err q) e).0),
       λ h. ap (λ (j : Judgement). j.verdict)
-          (judge-determined plate text room room' room r (record { verdict = Refused q; states = replicate 65 0; branches = replicate 64 0 }) p
+          (judge-determined plate text room room' room r (record { verdict = Err q; states = replicate 65 0; branches = replicate 64 0 }) p
           (record { reply = (h, refl); surplus = (refl, refl) })).0,
     )
 
     -- a refused call leaves the room
-    pub judge-refused-unchanged : (q : Refusal) → r.verdict ≡ Refused q → room' ≡ room
-    judge-refused-unchanged q e = (by-verdict (Refused q) e).1
+    pub judge-refused-unchanged : (q : Refusal) → r.verdict ≡ Err q → room' ≡ room
+    judge-refused-unchanged q e = (by-verdict (Err q) e).1
 
-    module _ (not : (q : Refusal) → r.verdict ≡ Refused q → ⊥) where
+    module _ (not : (q : Refusal) → r.verdict ≡ Err q → ⊥) where
       -- success leaves the needed room zero, and the rest as it was
       pub judge-zeroes-room : room' ≡ replicate (room_need (entries plate.n text)) 0 ++ drop (room_need (entries plate.n text)) room
       judge-zeroes-room = go r.verdict refl p.reply
         where
-          go : (v : Judged) → r.verdict ≡ v → JudgesBy plate (entries plate.n text) room room' v
+          go : (v : Result Judged Refusal) → r.verdict ≡ v → JudgesBy plate (entries plate.n text) room room' v
               → room' ≡ replicate (room_need (entries plate.n text)) 0 ++ drop (room_need (entries plate.n text)) room
-          go (Refused q) e x = absurd (not q e)
-          go Right e x = x.2
-          go (SpelledWrongly w) e x = x.2
-          go (NotSpelled w) e x = x.2
+          go (Err q) e x = absurd (not q e)
+          go (Ok Right) e x = x.2
+          go (Ok (SpelledWrongly w)) e x = x.2
+          go (Ok (NotSpelled w)) e x = x.2
 
       -- right exactly if the full paths spell exactly the plate's words
-      pub judged-right-exactly : (r.verdict ≡ Right) ↔ Spells (graph_against plate (entries plate.n text)) plate.n (IsWord plate)
+      pub judged-right-exactly : (r.verdict ≡ Ok Right) ↔ Spells (graph_against plate (entries plate.n text)) plate.n (IsWord plate)
       judged-right-exactly = right-exactly plate text room room' r p not
 
       -- otherwise a word is shown: spelled wrongly, or not spelled
-      pub judged-otherwise : (r.verdict ≡ Right → ⊥)
-          → ((w : ℕ) × (r.verdict ≡ SpelledWrongly w) × Wrongly (graph_against plate (entries plate.n text)) plate.n (IsWord plate) w)
-          ⊎ ((w : ℕ) × (r.verdict ≡ NotSpelled w) × Missing (graph_against plate (entries plate.n text)) plate.n (IsWord plate) w)
+      pub judged-otherwise : (r.verdict ≡ Ok Right → ⊥)
+          → ((w : ℕ) × (r.verdict ≡ Ok (SpelledWrongly w)) × Wrongly (graph_against plate (entries plate.n text)) plate.n (IsWord plate) w)
+          ⊎ ((w : ℕ) × (r.verdict ≡ Ok (NotSpelled w)) × Missing (graph_against plate (entries plate.n text)) plate.n (IsWord plate) w)
       judged-otherwise wrong = go r.verdict refl p.reply
         where
-          go : (v : Judged) → r.verdict ≡ v → JudgesBy plate (entries plate.n text) room room' v
-              → ((w : ℕ) × (r.verdict ≡ SpelledWrongly w) × Wrongly (graph_against plate (entries plate.n text)) plate.n (IsWord plate) w)
-              ⊎ ((w : ℕ) × (r.verdict ≡ NotSpelled w) × Missing (graph_against plate (entries plate.n text)) plate.n (IsWord plate) w)
-          go (Refused q) e x = absurd (not q e)
-          go Right e x = absurd (wrong e)
-          go (SpelledWrongly w) e x = inl (w, e, x.1)
-          go (NotSpelled w) e x = inr (w, e, x.1)
+          go : (v : Result Judged Refusal) → r.verdict ≡ v → JudgesBy plate (entries plate.n text) room room' v
+              → ((w : ℕ) × (r.verdict ≡ Ok (SpelledWrongly w)) × Wrongly (graph_against plate (entries plate.n text)) plate.n (IsWord plate) w)
+              ⊎ ((w : ℕ) × (r.verdict ≡ Ok (NotSpelled w)) × Missing (graph_against plate (entries plate.n text)) plate.n (IsWord plate) w)
+          go (Err q) e x = absurd (not q e)
+          go (Ok Right) e x = absurd (wrong e)
+          go (Ok (SpelledWrongly w)) e x = inl (w, e, x.1)
+          go (Ok (NotSpelled w)) e x = inr (w, e, x.1)
 
     -- on a right listing the surplus: those on full paths are ours and the surplus, which is a number from 0 on, so that none is negative
-    pub judged-surplus : r.verdict ≡ Right → SurplusOver (graph_against plate (entries plate.n text)) plate.n (rows_of plate) r.states r.branches
+    pub judged-surplus : r.verdict ≡ Ok Right → SurplusOver (graph_against plate (entries plate.n text)) plate.n (rows_of plate) r.states r.branches
     judged-surplus e =
-        subst (λ (v : Judged). SurplusIn (graph_against plate (entries plate.n text)) plate.n (rows_of plate) v r.states r.branches) e p.surplus
+        subst (λ (v : Result Judged Refusal). SurplusIn (graph_against plate (entries plate.n text)) plate.n (rows_of plate) v r.states r.branches) e p.surplus
 
-    pub states-are-ours-and-surplus : r.verdict ≡ Right → (t : ℕ) → t ≤ plate.n
+    pub states-are-ours-and-surplus : r.verdict ≡ Ok Right → (t : ℕ) → t ≤ plate.n
         → Number (StateOn (graph_against plate (entries plate.n text)) plate.n t) (2 ^ live_at (rows_of plate) t + get_or r.states t 0)
     states-are-ours-and-surplus e = (judged-surplus e).state
 
-    pub branches-are-ours-and-surplus : r.verdict ≡ Right → (t : ℕ) → t < plate.n
+    pub branches-are-ours-and-surplus : r.verdict ≡ Ok Right → (t : ℕ) → t < plate.n
         → Number (BranchOn (graph_against plate (entries plate.n text)) plate.n t) (2 ^ active_at (rows_of plate) t + get_or r.branches t 0)
     branches-are-ours-and-surplus e = (judged-surplus e).branch
 

@@ -1,6 +1,7 @@
 -- A2, what is wrong with a line: 10 is split into 17 to 20, and its place is line and field, both from 1. The faults of a line stand in
 -- sheets/specs/Faults (`Wrong`, `Open`, `WrongAt`), each by itself and apart from the reader; which of several is told is `FirstFault`, and why an input
 -- is refused `RefusedFor`. A sheet's refusals with their conditions in the paper's order: SheetRefusals.
+use Rattle.std.proofs.Common.{Err}
 use lib.ListN.{length}
 use mathlib.Core.Bool.{false}
 use mathlib.Core.List.{List, [], ◌∷◌}
@@ -13,7 +14,6 @@ use Rattle.plates.specs.declared.Kind.{Kind}
 use Rattle.plates.specs.declared.Prepared.{Prepared}
 use Rattle.plates.specs.declared.Refusal.{Refusal}
 use Rattle.plates.specs.declared.Refusal.TheVariants.{FieldCount, FieldValue, FirstField, RowField, SheetLine, TooWide}
-use Rattle.plates.specs.declared.Verdict.TheVariants.{Refused}
 use Rattle.plates.specs.Prepare.{Prepares, Wide, prepare_conditions}
 use Rattle.plates.specs.Refusals.{Refuses, field, number, place}
 use Rattle.sheets.proofs.SheetFaults.{no-fault, refused-for}
@@ -125,7 +125,7 @@ read-has-none = no-fault
 -- ---- a too-wide plate names the first depth over 12
 
 pub wide-names-depth : (n : ℕ) (kind : Kind) (rows : List ℕ) (mask : ℕ) (r : Prepared) → Prepares n kind rows mask r → (d : ℕ)
-    → r.verdict ≡ Refused (TooWide d) → TooWideAt (InCode kind n rows) n d
+    → r.verdict ≡ Err (TooWide d) → TooWideAt (InCode kind n rows) n d
 wide-names-depth n kind rows mask r p d e = go ((prepare-refuses-exactly n kind rows mask r p (TooWide d)).0 e)
   where
     told : Wide (InCode kind n rows) n (TooWide d) → TooWideAt (InCode kind n rows) n d

@@ -1,5 +1,6 @@
 -- A3, how firm one flag is: `firmness` gives for one position of a block its reading, fixed with its bit or open with its margin, and the position
 -- beside it. Definitions: decoding/specs/Firmness (`Always`, `Margin`, `TellsFirmness`). Bounds are those of A8.
+use Rattle.std.proofs.Common.{Result, Ok, Err}
 use lib.IntN.{+ℤ_idl, -ℤ-+ℤ_cancel, ◌+ℤ◌, ◌-ℤ◌, nat_abs, pos, ℤ}
 use lib.ListN.{drop, get_or, length, replicate}
 use lib.Signed.{◌≤ℤ◌}
@@ -14,8 +15,6 @@ use Rattle.decoding.proofs.FirmnessMargin.{margin-bounds, margin-sign}
 use Rattle.decoding.proofs.IntegerOrder.{≤ℤ-antisym}
 use Rattle.decoding.specs.declared.Answer.{Answer}
 use Rattle.decoding.specs.declared.firmness.Flag.{Flag}
-use Rattle.decoding.specs.declared.firmness.Flagged.{Flagged}
-use Rattle.decoding.specs.declared.firmness.Flagged.TheVariants.{Found, Refused}
 use Rattle.decoding.specs.Decode.{Best, Decodes, decision_need, metric_need}
 use Rattle.decoding.specs.Firmness.{Agrees, Always, BestAmong, FlagOf, TellsFirmness, Margin, Means, firmness_conditions, is_fixed, value}
 use Rattle.decoding.specs.Metric.{limit}
@@ -29,7 +28,6 @@ use Rattle.plates.specs.Prepare.{IsPrepared, IsWord}
 use Rattle.plates.specs.Refusals.{Passes, number}
 use Rattle.words.proofs.Word.{bit-cases}
 use Rattle.words.specs.Word.{bit}
-use Rattle.decoding.specs.declared.Decoded.TheVariants as D
 
 module _ (plate : Plate) (samples : List ℤ) (position : ℕ) (metrics : List ℤ) (decisions : List ℕ) where
   -- the conditions, in order
@@ -52,57 +50,57 @@ module _ (plate : Plate) (samples : List ℤ) (position : ℕ) (metrics : List �
   )
 
   -- the two rooms after the call, and its reply
-  module _ (metrics' : List ℤ) (decisions' : List ℕ) (r : Flagged) (p : TellsFirmness plate samples position metrics decisions metrics' decisions' r) where
+  module _ (metrics' : List ℤ) (decisions' : List ℕ) (r : Result Flag Refusal) (p : TellsFirmness plate samples position metrics decisions metrics' decisions' r) where
     -- refused exactly under them
-    pub firmness-refuses-exactly : RefusesExactly Refused (firmness_conditions plate samples position metrics decisions) r
+    pub firmness-refuses-exactly : RefusesExactly Err (firmness_conditions plate samples position metrics decisions) r
     firmness-refuses-exactly q = (
       (λ e. (subst (TellsFirmness plate samples position metrics decisions metrics' decisions') e p).0),
-      λ h. (firmness-determined plate samples position metrics decisions r (Refused q) metrics' metrics decisions' decisions p (h, refl, refl)).0,
+      λ h. (firmness-determined plate samples position metrics decisions r (Err q) metrics' metrics decisions' decisions p (h, refl, refl)).0,
     )
 
     -- where none of them holds the flag is found
-    pub firmness-passed-found : Passes (firmness_conditions plate samples position metrics decisions) → (f : Flag) × (r ≡ Found f)
+    pub firmness-passed-found : Passes (firmness_conditions plate samples position metrics decisions) → (f : Flag) × (r ≡ Ok f)
     firmness-passed-found h = go r refl
       where
-        go : (s : Flagged) → r ≡ s → (f : Flag) × (r ≡ Found f)
-        go (Found f) e = (f, e)
-        go (Refused q) e = absurd (never_both (firmness_conditions plate samples position metrics decisions) h q ((firmness-refuses-exactly q).0 e))
+        go : (s : Result Flag Refusal) → r ≡ s → (f : Flag) × (r ≡ Ok f)
+        go (Ok f) e = (f, e)
+        go (Err q) e = absurd (never_both (firmness_conditions plate samples position metrics decisions) h q ((firmness-refuses-exactly q).0 e))
 
     -- a refused call changes nothing lent
-    pub firmness-refused-unchanged : (q : Refusal) → r ≡ Refused q → (metrics' ≡ metrics) × (decisions' ≡ decisions)
+    pub firmness-refused-unchanged : (q : Refusal) → r ≡ Err q → (metrics' ≡ metrics) × (decisions' ≡ decisions)
     firmness-refused-unchanged q e = let x = subst (TellsFirmness plate samples position metrics decisions metrics' decisions') e p in (x.1, x.2)
 
     -- one that succeeds zeroes the room it needs, as decoding does, and touches no more
-    pub firmness-found-zeroes : (f : Flag) → r ≡ Found f
+    pub firmness-found-zeroes : (f : Flag) → r ≡ Ok f
         → (metrics' ≡ replicate (metric_need plate) (pos 0) ++ drop (metric_need plate) metrics)
         × (decisions' ≡ replicate (decision_need plate) 0 ++ drop (decision_need plate) decisions)
     firmness-found-zeroes f e =
         let x = subst (TellsFirmness plate samples position metrics decisions metrics' decisions') e p in (x.2.metrics_zero, x.2.decisions_zero)
 
     -- the reply carries the position beside the reading
-    pub firmness-position : (f : Flag) → r ≡ Found f → f.position ≡ position
+    pub firmness-position : (f : Flag) → r ≡ Ok f → f.position ≡ position
     firmness-position f e = (subst (TellsFirmness plate samples position metrics decisions metrics' decisions') e p).1.position_is
 
     -- it is of this flag
-    flag-of : (f : Flag) → r ≡ Found f → FlagOf (IsWord plate) samples position f
+    flag-of : (f : Flag) → r ≡ Ok f → FlagOf (IsWord plate) samples position f
     flag-of f e = (subst (TellsFirmness plate samples position metrics decisions metrics' decisions') e p).1
 
     -- fixed means that every word has that bit
-    pub fixed-is-always : (f : Flag) → r ≡ Found f → is_fixed f.reading ≡ true → (w : ℕ) → IsWord plate w → pos (bit w position) ≡ value f.reading
+    pub fixed-is-always : (f : Flag) → r ≡ Ok f → is_fixed f.reading ≡ true → (w : ℕ) → IsWord plate w → pos (bit w position) ≡ value f.reading
     fixed-is-always f e o = subst (λ (b : Bool). Means (IsWord plate) samples position b (value f.reading)) o (flag-of f e).reading
 
     -- open comes with the margin: the best metric among words with 0 there minus the best among those with 1
-    pub open-is-margin : (f : Flag) → r ≡ Found f → is_fixed f.reading ≡ false → Margin (IsWord plate) samples position (value f.reading)
+    pub open-is-margin : (f : Flag) → r ≡ Ok f → is_fixed f.reading ≡ false → Margin (IsWord plate) samples position (value f.reading)
     open-is-margin f e o = subst (λ (b : Bool). Means (IsWord plate) samples position b (value f.reading)) o (flag-of f e).reading
 
     -- a fixed reading has the decoded bit; of an open one a positive margin means that decoding gives 0 there, a negative one 1. Decoding may
     -- have any rooms that are long enough
-    pub firmness-agrees : (f : Flag) → r ≡ Found f → (a : Answer) (room room' : List ℤ) (words words' : List ℕ)
-        → Decodes plate samples room words room' words' (D.Found a) → Agrees f.reading (bit a.word position)
+    pub firmness-agrees : (f : Flag) → r ≡ Ok f → (a : Answer) (room room' : List ℤ) (words words' : List ℕ)
+        → Decodes plate samples room words room' words' (Ok a) → Agrees f.reading (bit a.word position)
     firmness-agrees f e a room room' words words' x = margin-sign plate samples position a x.1 f (flag-of f e)
 
     -- an open margin lies within 262,016 either way
-    pub firmness-margin : (f : Flag) → r ≡ Found f → is_fixed f.reading ≡ false → nat_abs (value f.reading) ≤ 262016
+    pub firmness-margin : (f : Flag) → r ≡ Ok f → is_fixed f.reading ≡ false → nat_abs (value f.reading) ≤ 262016
     firmness-margin f e o =
         margin-bounds plate samples position metrics decisions metrics' decisions' f
         (subst (TellsFirmness plate samples position metrics decisions metrics' decisions') e p) o

@@ -1,5 +1,8 @@
 -- A4, `last` covers the whole sheet: rows (and the mask, A11), block samples and printed words. What a sheet says is by position
 -- (sheets/specs/Sheet: `contents`, Turning: `in_order`), so that demand 2 is read after the turning. One statement covers both cover words.
+use Rattle.plates.specs.declared.Refusal.{Refusal}
+use Rattle.decoding.specs.declared.Answer.{Answer}
+use Rattle.std.proofs.Common.{Some, Result}
 use lib.Dec.{eqb}
 use lib.IntN.{nat_abs, pos, ℤ}
 use lib.ListN.{get_or, length}
@@ -7,7 +10,6 @@ use mathlib.Core.Bool.{◌&&◌, true}
 use mathlib.Core.List.{List, ◌∷◌, reverse}
 use mathlib.Core.Path.{refl, ◌≡◌}
 use Prim.Native.Nat.{◌<◌, ℕ, ◌≤◌}
-use Rattle.decoding.specs.declared.Decoded.{Decoded}
 use Rattle.decoding.specs.Decode.{SampleOver}
 use Rattle.decoding.specs.Metric.{limit}
 use Rattle.listings.specs.Lines.{positions}
@@ -22,7 +24,6 @@ use Rattle.sheets.proofs.TurnedSheets.{turned-says}
 use Rattle.sheets.proofs.TurnedText.{text-turned}
 use Rattle.sheets.specs.declared.Order.{Order}
 use Rattle.sheets.specs.declared.Order.TheVariants.{Last}
-use Rattle.sheets.specs.declared.row.Row.TheVariants.{Is}
 use Rattle.sheets.specs.Rows.{bits_only, row_of, word_from}
 use Rattle.sheets.specs.Sheet.{Contents, reading, says}
 use Rattle.sheets.specs.Turned.{IsTurned, other, text_turned, under_other}
@@ -31,7 +32,7 @@ use Rattle.sheets.specs.Turning.{by_position, in_order}
 -- ---- what `last` applies to
 
 -- rows: the characters of the field from the far end
-pub last-turns-rows : (n : ℕ) (f : List ℕ) → (eqb (length f) n && bits_only f) ≡ true → row_of n Last f ≡ Is (word_from (reverse f))
+pub last-turns-rows : (n : ℕ) (f : List ℕ) → (eqb (length f) n && bits_only f) ≡ true → row_of n Last f ≡ Some (word_from (reverse f))
 last-turns-rows n f e = rw e
 
 -- block samples: those of each line from the far end
@@ -60,15 +61,15 @@ pub turned-says-same : (s t : List ℕ) → IsTurned s t → length t ≤ 32768 
 turned-says-same = turned-says
 
 -- and give the same plate and the same answers by position
-pub turned-answers-same : (s t : List ℕ) → IsTurned s t → length t ≤ 32768 → (prepared : Prepared) (answers : List Decoded)
+pub turned-answers-same : (s t : List ℕ) → IsTurned s t → length t ≤ 32768 → (prepared : Prepared) (answers : List (Result Answer Refusal))
     → Answers s prepared answers → Answers t prepared answers
 turned-answers-same = same-answers
 
 -- each listing has these answers, in its cover's order
-pub listing-has-answers : (s : List ℕ) (prepared : Prepared) (answers : List Decoded) (a : Answers s prepared answers)
+pub listing-has-answers : (s : List ℕ) (prepared : Prepared) (answers : List (Result Answer Refusal)) (a : Answers s prepared answers)
     → Reports s (listing_lines a.sheet.order prepared.plate a.sheet answers)
 listing-has-answers = answers-listed
 
-pub turned-listing-has-answers : (s t : List ℕ) → IsTurned s t → length t ≤ 32768 → (prepared : Prepared) (answers : List Decoded)
+pub turned-listing-has-answers : (s t : List ℕ) → IsTurned s t → length t ≤ 32768 → (prepared : Prepared) (answers : List (Result Answer Refusal))
     → (a : Answers s prepared answers) → Reports t (listing_lines (other a.sheet.order) prepared.plate a.sheet answers)
 turned-listing-has-answers = turned-listed

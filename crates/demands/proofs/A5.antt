@@ -1,17 +1,18 @@
 -- A5, a shift's tally: one report for a sheet of heard lines. Definitions: sheets/specs/Blocks (heard lines), reports/specs/Tally (`advance`,
 -- `standing`, `reference_of`, `share`, `tally_of`, from the lines themselves), Report (`HeardsReport`), listings/specs/Lines (`tally_line`).
+use Rattle.std.proofs.Common.{Result, Ok, Err}
 use borrow.Author.Tests.{le-ltb, lt-ltb, ne_eqb}
 use lib.IntN.{+ℤ_assoc, +ℤ_idl, +ℤ_invr, ◌+ℤ◌, negsuc, pos, pos-+ℤ-pos, ℤ}
 use lib.ListN.{drop, length}
 use mathlib.Core.Bool.{Bool, cond, true}
 use mathlib.Core.List.{◌++◌, List, [], ◌∷◌}
 use mathlib.Core.Logic.{inl, inr, ◌⊎◌}
+use Rattle.std.specs.Prelude.{None, Option, Some}
 use mathlib.Core.Path.{ap, refl, subst, sym, ◌∙◌, ◌≡◌}
 use native.Mathlib.Decide.{dec_le}
 use native.Mathlib.Omega.{arith}
 use Prim.Native.Nat.{◌+◌, ◌-◌, ◌<◌, suc, zero, zero-le, ℕ, ◌≤◌}
 use Rattle.decoding.specs.declared.Answer.{Answer}
-use Rattle.decoding.specs.declared.Decoded.{Decoded}
 use Rattle.demands.specs.Requests.{TallyTold}
 use Rattle.listings.specs.declared.Tally.{Tally}
 use Rattle.listings.specs.Decimal.{decimal, signed_decimal}
@@ -20,11 +21,9 @@ use Rattle.plates.proofs.PrepareDetermined.{prepare-determined}
 use Rattle.plates.specs.declared.Plate.{Plate}
 use Rattle.plates.specs.declared.Prepared.{Prepared}
 use Rattle.plates.specs.declared.Refusal.{Refusal}
-use Rattle.plates.specs.declared.Verdict.{Verdict}
 use Rattle.plates.specs.Prepare.{Prepares}
 use Rattle.reports.proofs.MetricsSummed.{metrics-summed}
 use Rattle.reports.proofs.TallyLaws.{none-plus}
-use Rattle.reports.specs.declared.tally.Reference.{Reference}
 use Rattle.reports.specs.declared.tally.Standing.{Standing}
 use Rattle.reports.specs.Report.{BlockAnswers, HeardsReport, LinesReport, PreparedReports, Reports, ReportsAs, SheetReports}
 use Rattle.reports.specs.Report.{at_first, closing, heard_lines, line_of_answer, line_of_heard}
@@ -40,10 +39,7 @@ use Rattle.sheets.specs.Masks.{mask_front, mask_in, masks_in}
 use Rattle.sheets.specs.Sheet.{Contents, Reading, contents, contents_with, cover_front, cover_in, reading, says}
 use Rattle.sheets.specs.Text.{lines}
 use Rattle.sheets.specs.Turning.{by_position}
-use Rattle.decoding.specs.declared.Decoded.TheVariants as D
-use Rattle.plates.specs.declared.Verdict.TheVariants as J
 use Rattle.reports.proofs.TallyLaws as Laws
-use Rattle.reports.specs.declared.tally.Reference.TheVariants as R
 use Rattle.reports.specs.declared.tally.Standing.TheVariants as S
 use Rattle.sheets.specs.declared.word.Word.TheVariants as W
 
@@ -62,11 +58,11 @@ advance-is-difference counter reference h k = (omega arith, go (dec_le reference
 
 module _ (reference counter : ℕ) where
   -- 0 is a repeat
-  pub zero-is-repeat : advance counter reference ≡ 0 → standing (R.Counter reference) counter ≡ S.Repeat
+  pub zero-is-repeat : advance counter reference ≡ 0 → standing (Some reference) counter ≡ S.Repeat
   zero-is-repeat e = rw e
 
   -- over 32767 is out of turn
-  pub over-is-out-of-turn : 32767 < advance counter reference → standing (R.Counter reference) counter ≡ S.OutOfTurn
+  pub over-is-out-of-turn : 32767 < advance counter reference → standing (Some reference) counter ≡ S.OutOfTurn
   over-is-out-of-turn h = by-step (advance counter reference) h
     where
       by-step : (step : ℕ) → 32767 < step → standing_by step ≡ S.OutOfTurn
@@ -75,7 +71,7 @@ module _ (reference counter : ℕ) where
 
   -- any other leaves advance minus one missing
   pub other-is-onward : 0 < advance counter reference → advance counter reference ≤ 32767
-      → standing (R.Counter reference) counter ≡ S.Onward (advance counter reference - 1)
+      → standing (Some reference) counter ≡ S.Onward (advance counter reference - 1)
   other-is-onward a b = by-step (advance counter reference) a b
     where
       by-step : (step : ℕ) → 0 < step → step ≤ 32767 → standing_by step ≡ S.Onward (step - 1)
@@ -84,36 +80,36 @@ module _ (reference counter : ℕ) where
 
 -- ---- what a line adds, and what it does to the reference
 
-module _ (reference : Reference) (counter : ℕ) (samples : List ℤ) where
+module _ (reference : Option ℕ) (counter : ℕ) (samples : List ℤ) where
   -- a line refused counts as refused only and leaves the reference
   pub refused-only : (q : Refusal)
-      → (share reference counter samples (D.Refused q) ≡ refused_share) × (reference_of reference counter (D.Refused q) ≡ reference)
+      → (share reference counter samples (Err q) ≡ refused_share) × (reference_of reference counter (Err q) ≡ reference)
   refused-only q = (refl, refl)
 
   module _ (a : Answer) where
     -- a repeat is neither decoded nor summed
     pub repeat-only : standing reference counter ≡ S.Repeat
-        → (share reference counter samples (D.Found a) ≡ repeated_share) × (reference_of reference counter (D.Found a) ≡ reference)
+        → (share reference counter samples (Ok a) ≡ repeated_share) × (reference_of reference counter (Ok a) ≡ reference)
     repeat-only e = (ap (λ (s : Standing). found_share s samples a) e, ap (λ (s : Standing). reference_by s counter reference) e)
 
     -- out of turn: decoded, adding nothing to missing, and the reference counter stays
     pub out-of-turn-decoded : standing reference counter ≡ S.OutOfTurn
-        → (share reference counter samples (D.Found a) ≡ decoded_share 1 0 samples a) × (reference_of reference counter (D.Found a) ≡ reference)
+        → (share reference counter samples (Ok a) ≡ decoded_share 1 0 samples a) × (reference_of reference counter (Ok a) ≡ reference)
     out-of-turn-decoded e = (ap (λ (s : Standing). found_share s samples a) e, ap (λ (s : Standing). reference_by s counter reference) e)
 
     -- any other is decoded, adds advance minus one to missing and becomes the reference
     pub onward-decoded : (missing : ℕ) → standing reference counter ≡ S.Onward missing
-        → (share reference counter samples (D.Found a) ≡ decoded_share 0 missing samples a) × (reference_of reference counter (D.Found a) ≡ R.Counter counter)
+        → (share reference counter samples (Ok a) ≡ decoded_share 0 missing samples a) × (reference_of reference counter (Ok a) ≡ Some counter)
     onward-decoded missing e = (ap (λ (s : Standing). found_share s samples a) e, ap (λ (s : Standing). reference_by s counter reference) e)
 
 -- the first line not refused sets the reference and is decoded
 pub first-sets-reference : (counter : ℕ) (samples : List ℤ) (a : Answer)
-    → (share R.Unset counter samples (D.Found a) ≡ decoded_share 0 0 samples a) × (reference_of R.Unset counter (D.Found a) ≡ R.Counter counter)
+    → (share None counter samples (Ok a) ≡ decoded_share 0 0 samples a) × (reference_of None counter (Ok a) ≡ Some counter)
 first-sets-reference counter samples a = (refl, refl)
 
 -- a repeat prints no line
-pub repeat-prints-none : (order : Order) (plate : Plate) (reference : Reference) (counter : ℕ) (a : Answer) → standing reference counter ≡ S.Repeat
-    → line_of_heard order plate reference counter (D.Found a) ≡ []
+pub repeat-prints-none : (order : Order) (plate : Plate) (reference : Option ℕ) (counter : ℕ) (a : Answer) → standing reference counter ≡ S.Repeat
+    → line_of_heard order plate reference counter (Ok a) ≡ []
 repeat-prints-none order plate reference counter a e = ap (λ (s : Standing). cond (is_repeat s) [] (line_of_answer order plate a)) e
 
 -- ---- a sheet mixing block and heard is 17 at the first that departs
@@ -162,13 +158,13 @@ sum-is-signed (negsuc k) above below e =
 -- the tally line of some heard lines: its numbers in the order named, the sum of metrics over the number decoded as two whole numbers, unreduced
 pub tally-line-is : (hs : List Heard) → let t = tally_of hs in
     tally_line t ≡ line tally_name (decimal t.decoded ∷ decimal t.refused ∷ decimal t.repeated ∷ decimal t.late ∷ decimal t.missing
-    ∷ decimal t.opposing ∷ decimal t.zeros ∷ signed_decimal (metrics_from R.Unset hs) ∷ decimal t.decoded ∷ [])
+    ∷ decimal t.opposing ∷ decimal t.zeros ∷ signed_decimal (metrics_from None hs) ∷ decimal t.decoded ∷ [])
 unfolding tally_line
 tally-line-is hs =
     let t = tally_of hs in
     ap (λ (s : List ℕ). line tally_name (decimal t.decoded ∷ decimal t.refused ∷ decimal t.repeated ∷ decimal t.late ∷ decimal t.missing
     ∷ decimal t.opposing ∷ decimal t.zeros ∷ s ∷ decimal t.decoded ∷ []))
-    (sum-is-signed (metrics_from R.Unset hs) t.above t.below (metrics-summed R.Unset hs))
+    (sum-is-signed (metrics_from None hs) t.above t.below (metrics-summed None hs))
 
 -- ---- from the sheet's bytes on
 
@@ -205,13 +201,13 @@ counter-for-each s c e =
     (with-counters cover (mask_in front) (drop (masks_in front) (drop 1 (lines s))))
 
 -- as many heard lines as counters and blocks
-answers-many : (plate : Plate) (blocks : List (List ℤ)) (replies : List Decoded) → BlockAnswers plate blocks replies → length replies ≡ length blocks
+answers-many : (plate : Plate) (blocks : List (List ℤ)) (replies : List (Result Answer Refusal)) → BlockAnswers plate blocks replies → length replies ≡ length blocks
 answers-many plate [] [] x = refl
 answers-many plate [] (r ∷ rs) x = absurd x
 answers-many plate (b ∷ bs) [] x = absurd x
 answers-many plate (b ∷ bs) (r ∷ rs) x = ap suc (answers-many plate bs rs x.1)
 
-heards-many : (counters : List ℕ) (blocks : List (List ℤ)) (replies : List Decoded) → length counters ≡ length blocks → length replies ≡ length blocks
+heards-many : (counters : List ℕ) (blocks : List (List ℤ)) (replies : List (Result Answer Refusal)) → length counters ≡ length blocks → length replies ≡ length blocks
     → length (heards_of counters blocks replies) ≡ length blocks
 heards-many [] [] replies e f = refl
 heards-many [] (b ∷ bs) replies e f = absurd (omega arith)
@@ -219,7 +215,7 @@ heards-many (c ∷ cs) [] replies e f = absurd (omega arith)
 heards-many (c ∷ cs) (b ∷ bs) [] e f = absurd (omega arith)
 heards-many (c ∷ cs) (b ∷ bs) (r ∷ rs) e f = ap suc (heards-many cs bs rs (omega arith) (omega arith))
 
-lines-before : (order : Order) (plate : Plate) (reference : Reference) (hs : List Heard) (rest : List (List ℕ))
+lines-before : (order : Order) (plate : Plate) (reference : Option ℕ) (hs : List Heard) (rest : List (List ℕ))
     → heard_lines order plate reference hs rest ≡ heard_lines order plate reference hs [] ++ rest
 lines-before order plate reference [] rest = refl
 lines-before order plate reference (h ∷ hs) rest =
@@ -233,15 +229,15 @@ module _ (sheet : Contents) (plate : Plate) (as_many : length sheet.counters ≡
       let heards = heards_of sheet.counters sheet.blocks h.replies in record {
         replies = h.replies;
         answered = h.answered;
-        before = heard_lines sheet.order plate R.Unset heards [];
-        are = h.are ∙ lines-before sheet.order plate R.Unset heards _
-            ∙ ap (λ (t : Tally). heard_lines sheet.order plate R.Unset heards [] ++ closing t (length sheet.blocks)) (none-plus (tally_of heards));
-        together = Laws.together R.Unset heards
+        before = heard_lines sheet.order plate None heards [];
+        are = h.are ∙ lines-before sheet.order plate None heards _
+            ∙ ap (λ (t : Tally). heard_lines sheet.order plate None heards [] ++ closing t (length sheet.blocks)) (none-plus (tally_of heards));
+        together = Laws.together None heards
             ∙ heards-many sheet.counters sheet.blocks h.replies as_many (answers-many plate sheet.blocks h.replies h.answered);
       }
 
   -- past the plate's and the profile's line
-  told-after : (lines : List (List ℕ)) → sheet.heard ≡ true → PreparedReports J.Accepted plate sheet lines → TallyTold sheet plate lines
+  told-after : (lines : List (List ℕ)) → sheet.heard ≡ true → PreparedReports (Ok tt) plate sheet lines → TallyTold sheet plate lines
   told-after [] e x = absurd x
   told-after (k ∷ []) e x = absurd x.1
   told-after (k ∷ l ∷ ls) e x =
@@ -257,7 +253,7 @@ module _ (sheet : Contents) (plate : Plate) (as_many : length sheet.counters ≡
 -- the listing of an input that is a sheet of heard lines whose matrix is accepted: decoded, refused and repeated lines together are the number
 -- that `end` prints
 pub tally-of-bytes : (input : List ℕ) (lines : List (List ℕ)) → Reports input lines → (sheet : Contents) → reading input ≡ says sheet → sheet.heard ≡ true
-    → (prepared : Prepared) → Prepares sheet.n sheet.kind sheet.rows sheet.mask prepared → prepared.verdict ≡ J.Accepted
+    → (prepared : Prepared) → Prepares sheet.n sheet.kind sheet.rows sheet.mask prepared → prepared.verdict ≡ Ok tt
     → TallyTold sheet prepared.plate lines
 tally-of-bytes input lines r sheet e heard prepared p a =
     let x : SheetReports sheet lines = subst (λ (found : Reading). ReportsAs found lines) e r.is in
@@ -265,4 +261,4 @@ tally-of-bytes input lines r sheet e heard prepared p a =
     let y : PreparedReports prepared.verdict prepared.plate sheet lines =
     subst (λ (q : Prepared). PreparedReports q.verdict q.plate sheet lines) d x.is in
     told-after sheet prepared.plate (counter-for-each input sheet e) lines heard
-    (subst (λ (v : Verdict). PreparedReports v prepared.plate sheet lines) a y)
+    (subst (λ (v : Result (Unit {0}) Refusal). PreparedReports v prepared.plate sheet lines) a y)

@@ -1,5 +1,6 @@
 -- Metric without the word (document 02, A7): `best_metric` refuses exactly under 5 to 8 and `best_word` under 5 to 9, in this order, and both
 -- change nothing then; together they say what decoding says; each reports the counts of demand 3; they leave their rooms as decoding does.
+use Rattle.std.proofs.Common.{Result, Ok, Err}
 use lib.IntN.{nat_abs, pos, ℤ}
 use lib.ListN.{drop, get_or, length, replicate}
 use lib.Signed.{◌≤ℤ◌}
@@ -13,9 +14,7 @@ use Rattle.decoding.proofs.ApartTogether.{decode-refusal, metric-agrees, metric-
 use Rattle.decoding.proofs.SampleLimits.{samples-are-n}
 use Rattle.decoding.specs.Apart.{Chooses, Measures, metric_conditions}
 use Rattle.decoding.specs.declared.Answer.{Answer}
-use Rattle.decoding.specs.declared.apart.Chosen.{Chosen}
 use Rattle.decoding.specs.declared.apart.Measure.{Measure}
-use Rattle.decoding.specs.declared.apart.Measured.{Measured}
 use Rattle.decoding.specs.declared.apart.Selection.{Selection}
 use Rattle.decoding.specs.Decode.{Decodes, decision_need, decode_conditions, metric_need}
 use Rattle.decoding.specs.Metric.{limit, metric_of}
@@ -30,14 +29,10 @@ use Rattle.plates.specs.declared.Plate.{Plate}
 use Rattle.plates.specs.declared.Prepared.{Prepared}
 use Rattle.plates.specs.declared.Refusal.{Refusal}
 use Rattle.plates.specs.declared.Refusal.TheVariants.{DecisionRoom}
-use Rattle.plates.specs.declared.Verdict.TheVariants.{Accepted}
 use Rattle.plates.specs.Prepare.{IsPrepared, Prepares}
 use Rattle.plates.specs.Refusals.{Passes, Refuses, number}
 use Rattle.trellises.proofs.WordsTrellis.{accepted-words}
 use Rattle.trellises.specs.Branching.{trellis_of}
-use Rattle.decoding.specs.declared.apart.Chosen.TheVariants as C
-use Rattle.decoding.specs.declared.apart.Measured.TheVariants as M
-use Rattle.decoding.specs.declared.Decoded.TheVariants as D
 
 -- ---- the metric: 5 to 8
 
@@ -53,28 +48,28 @@ module _ (plate : Plate) (samples metrics : List ℤ) where
       ((λ q c. c.0 p), ((λ q c. c.0 size), ((λ q c. omega (arith, c.over, within c.position c.there)), ((λ q c. omega (arith, c.0, m)), tt))))
 
   -- the room after the call, and its reply
-  module _ (metrics' : List ℤ) (r : Measured) (p : Measures plate samples metrics metrics' r) where
+  module _ (metrics' : List ℤ) (r : Result Measure Refusal) (p : Measures plate samples metrics metrics' r) where
     -- refused exactly under them
-    pub metric-refuses-exactly : RefusesExactly M.Refused (metric_conditions plate samples metrics) r
+    pub metric-refuses-exactly : RefusesExactly Err (metric_conditions plate samples metrics) r
     metric-refuses-exactly q = (
       (λ e. (subst (Measures plate samples metrics metrics') e p).0),
-      λ h. (metric-determined plate samples metrics r (M.Refused q) metrics' metrics p (h, refl)).0,
+      λ h. (metric-determined plate samples metrics r (Err q) metrics' metrics p (h, refl)).0,
     )
 
     -- where none of them holds the metric is found
-    pub metric-passed-found : Passes (metric_conditions plate samples metrics) → (m : Measure) × (r ≡ M.Found m)
+    pub metric-passed-found : Passes (metric_conditions plate samples metrics) → (m : Measure) × (r ≡ Ok m)
     metric-passed-found h = go r refl
       where
-        go : (s : Measured) → r ≡ s → (m : Measure) × (r ≡ M.Found m)
-        go (M.Found m) e = (m, e)
-        go (M.Refused q) e = absurd (never_both (metric_conditions plate samples metrics) h q ((metric-refuses-exactly q).0 e))
+        go : (s : Result Measure Refusal) → r ≡ s → (m : Measure) × (r ≡ Ok m)
+        go (Ok m) e = (m, e)
+        go (Err q) e = absurd (never_both (metric_conditions plate samples metrics) h q ((metric-refuses-exactly q).0 e))
 
     -- a refused call changes nothing lent
-    pub metric-refused-unchanged : (q : Refusal) → r ≡ M.Refused q → metrics' ≡ metrics
+    pub metric-refused-unchanged : (q : Refusal) → r ≡ Err q → metrics' ≡ metrics
     metric-refused-unchanged q e = (subst (Measures plate samples metrics metrics') e p).1
 
     -- one that succeeds zeroes the room it needs, and touches no more
-    pub metric-found-zeroes : (m : Measure) → r ≡ M.Found m → metrics' ≡ replicate (metric_need plate) (pos 0) ++ drop (metric_need plate) metrics
+    pub metric-found-zeroes : (m : Measure) → r ≡ Ok m → metrics' ≡ replicate (metric_need plate) (pos 0) ++ drop (metric_need plate) metrics
     metric-found-zeroes m e = (subst (Measures plate samples metrics metrics') e p).2
 
 -- ---- the word: 5 to 9
@@ -85,28 +80,28 @@ module _ (plate : Plate) (samples metrics : List ℤ) (decisions : List ℕ) whe
   word-numbers = decode-numbers plate samples metrics decisions
 
   -- the two rooms after the call, and its reply
-  module _ (metrics' : List ℤ) (decisions' : List ℕ) (r : Chosen) (p : Chooses plate samples metrics decisions metrics' decisions' r) where
+  module _ (metrics' : List ℤ) (decisions' : List ℕ) (r : Result Selection Refusal) (p : Chooses plate samples metrics decisions metrics' decisions' r) where
     -- refused exactly under them
-    pub word-refuses-exactly : RefusesExactly C.Refused (decode_conditions plate samples metrics decisions) r
+    pub word-refuses-exactly : RefusesExactly Err (decode_conditions plate samples metrics decisions) r
     word-refuses-exactly q = (
       (λ e. (subst (Chooses plate samples metrics decisions metrics' decisions') e p).0),
-      λ h. (word-determined plate samples metrics decisions r (C.Refused q) metrics' metrics decisions' decisions p (h, refl, refl)).0,
+      λ h. (word-determined plate samples metrics decisions r (Err q) metrics' metrics decisions' decisions p (h, refl, refl)).0,
     )
 
     -- where none of them holds the word is found
-    pub word-passed-found : Passes (decode_conditions plate samples metrics decisions) → (c : Selection) × (r ≡ C.Found c)
+    pub word-passed-found : Passes (decode_conditions plate samples metrics decisions) → (c : Selection) × (r ≡ Ok c)
     word-passed-found h = go r refl
       where
-        go : (s : Chosen) → r ≡ s → (c : Selection) × (r ≡ C.Found c)
-        go (C.Found c) e = (c, e)
-        go (C.Refused q) e = absurd (never_both (decode_conditions plate samples metrics decisions) h q ((word-refuses-exactly q).0 e))
+        go : (s : Result Selection Refusal) → r ≡ s → (c : Selection) × (r ≡ Ok c)
+        go (Ok c) e = (c, e)
+        go (Err q) e = absurd (never_both (decode_conditions plate samples metrics decisions) h q ((word-refuses-exactly q).0 e))
 
     -- a refused call changes nothing lent
-    pub word-refused-unchanged : (q : Refusal) → r ≡ C.Refused q → (metrics' ≡ metrics) × (decisions' ≡ decisions)
+    pub word-refused-unchanged : (q : Refusal) → r ≡ Err q → (metrics' ≡ metrics) × (decisions' ≡ decisions)
     word-refused-unchanged q e = let x = subst (Chooses plate samples metrics decisions metrics' decisions') e p in (x.1, x.2)
 
     -- one that succeeds zeroes the room it needs, as decoding does, and touches no more
-    pub word-found-zeroes : (c : Selection) → r ≡ C.Found c
+    pub word-found-zeroes : (c : Selection) → r ≡ Ok c
         → (metrics' ≡ replicate (metric_need plate) (pos 0) ++ drop (metric_need plate) metrics)
         × (decisions' ≡ replicate (decision_need plate) 0 ++ drop (decision_need plate) decisions)
     word-found-zeroes c e =
@@ -117,20 +112,20 @@ module _ (plate : Plate) (samples metrics : List ℤ) (decisions : List ℕ) whe
 module _ (plate : Plate) (samples : List ℤ) where
   -- the metric call gives the metric and the counts of decode's answer, whatever the rooms
   pub metric-is-decodes : (room room' metrics metrics' : List ℤ) (decisions decisions' : List ℕ) (m : Measure) (a : Answer)
-      → Measures plate samples room room' (M.Found m) → Decodes plate samples metrics decisions metrics' decisions' (D.Found a)
+      → Measures plate samples room room' (Ok m) → Decodes plate samples metrics decisions metrics' decisions' (Ok a)
       → (m.metric ≡ a.metric) × (m.counts ≡ a.counts)
   metric-is-decodes = metric-agrees plate samples
 
   -- the word call gives its word and its counts
   pub word-is-decodes : (metrics : List ℤ) (decisions : List ℕ) (room room' metrics' : List ℤ) (words words' decisions' : List ℕ) (c : Selection) (a : Answer)
-      → Chooses plate samples room words room' words' (C.Found c) → Decodes plate samples metrics decisions metrics' decisions' (D.Found a)
+      → Chooses plate samples room words room' words' (Ok c) → Decodes plate samples metrics decisions metrics' decisions' (Ok a)
       → (c.word ≡ a.word) × (c.counts ≡ a.counts)
   word-is-decodes = word-agrees plate samples
 
   -- the two replies make up a reply of decode, with the rooms that the word call leaves; their counts are the same
   pub both-are-decode : (room room' metrics metrics' : List ℤ) (decisions decisions' : List ℕ) (m : Measure) (c : Selection)
-      → Measures plate samples room room' (M.Found m) → Chooses plate samples metrics decisions metrics' decisions' (C.Found c)
-      → Decodes plate samples metrics decisions metrics' decisions' (D.Found (record { word = c.word; metric = m.metric; counts = c.counts }))
+      → Measures plate samples room room' (Ok m) → Chooses plate samples metrics decisions metrics' decisions' (Ok c)
+      → Decodes plate samples metrics decisions metrics' decisions' (Ok (record { word = c.word; metric = m.metric; counts = c.counts }))
       × (m.counts ≡ c.counts)
   both-are-decode = together plate samples
 
@@ -146,9 +141,9 @@ module _ (plate : Plate) (samples : List ℤ) where
 
 -- ---- over the words that a mask makes of the code of a matrix, where preparing both accepts
 
-module _ (n : ℕ) (kind : Kind) (rows : List ℕ) (mask : ℕ) (r : Prepared) (p : Prepares n kind rows mask r) (e : r.verdict ≡ Accepted)
+module _ (n : ℕ) (kind : Kind) (rows : List ℕ) (mask : ℕ) (r : Prepared) (p : Prepares n kind rows mask r) (e : r.verdict ≡ Ok tt)
     (samples metrics metrics' : List ℤ) where
-  module _ (m : Measure) (d : Measures r.plate samples metrics metrics' (M.Found m)) where
+  module _ (m : Measure) (d : Measures r.plate samples metrics metrics' (Ok m)) where
     size : length samples ≡ r.plate.n
     size = samples-are-n r.plate samples d.0.1.0
 
@@ -166,7 +161,7 @@ module _ (n : ℕ) (kind : Kind) (rows : List ℕ) (mask : ℕ) (r : Prepared) (
     pub metric-comparisons : m.counts.comparisons ≡ entering_less_one (trellis_of r.plate) n
     metric-comparisons = steps-comparisons n kind rows mask r p e samples size m.counts d.1.additions d.1.comparisons
 
-  module _ (decisions decisions' : List ℕ) (c : Selection) (d : Chooses r.plate samples metrics decisions metrics' decisions' (C.Found c)) where
+  module _ (decisions decisions' : List ℕ) (c : Selection) (d : Chooses r.plate samples metrics decisions metrics' decisions' (Ok c)) where
     counted-n : length samples ≡ r.plate.n
     counted-n = samples-are-n r.plate samples d.0.1.0
 

@@ -1,5 +1,6 @@
 -- A8, twelve-bit converters: samples are from -2047 to 2047 everywhere, metrics lie within 131,008 either way and A3's margins within 262,016.
 -- 7 means outside the range. The limit is decoding/specs/Metric: `limit`; document 01's last case, 64 samples of the limit, is its worked bound.
+use Rattle.std.proofs.Common.{Ok}
 use lib.IntN.{nat_abs, negsuc, pos, ℤ}
 use lib.ListN.{get_or, length, replicate}
 use mathlib.Core.Bool.{false}
@@ -27,9 +28,6 @@ use Rattle.plates.specs.declared.Refusal.TheVariants.{NotPrepared, SampleRange}
 use Rattle.plates.specs.Prepare.{IsPrepared, not_prepared}
 use Rattle.plates.specs.Refusals.{number, place}
 use Rattle.reports.specs.Report.{BlockAnswer}
-use Rattle.decoding.specs.declared.apart.Measured.TheVariants as M
-use Rattle.decoding.specs.declared.Decoded.TheVariants as D
-use Rattle.decoding.specs.declared.firmness.Flagged.TheVariants as J
 
 -- ---- the range
 
@@ -67,18 +65,18 @@ module _ (plate : Plate) (samples : List ℤ) (given : (q : Refusal) → not_pre
 
 -- what decoding replies
 pub decode-metric-bound : (plate : Plate) (samples metrics metrics' : List ℤ) (decisions decisions' : List ℕ) (a : Answer)
-    → Decodes plate samples metrics decisions metrics' decisions' (D.Found a) → nat_abs a.metric ≤ 131008
+    → Decodes plate samples metrics decisions metrics' decisions' (Ok a) → nat_abs a.metric ≤ 131008
 decode-metric-bound plate samples metrics metrics' decisions decisions' a d =
     omega (arith, ap nat_abs d.1.metric, metric-bound plate samples d.0.0 d.0.1.0 d.0.1.1.0 a.word)
 
 -- what the metric call of A7 replies
-pub measured-metric-bound : (plate : Plate) (samples metrics metrics' : List ℤ) (m : Measure) → Measures plate samples metrics metrics' (M.Found m)
+pub measured-metric-bound : (plate : Plate) (samples metrics metrics' : List ℤ) (m : Measure) → Measures plate samples metrics metrics' (Ok m)
     → nat_abs m.metric ≤ 131008
 measured-metric-bound plate samples metrics metrics' m d =
     omega (arith, ap nat_abs d.1.metric, metric-bound plate samples d.0.0 d.0.1.0 d.0.1.1.0 d.1.word)
 
 -- what a listing prints of a block or heard line, over a prepared plate
-pub listed-metric-bound : (plate : Plate) → IsPrepared plate → (samples : List ℤ) (a : Answer) → BlockAnswer plate samples (D.Found a)
+pub listed-metric-bound : (plate : Plate) → IsPrepared plate → (samples : List ℤ) (a : Answer) → BlockAnswer plate samples (Ok a)
     → nat_abs a.metric ≤ 131008
 listed-metric-bound plate given samples a x =
     omega (arith, ap nat_abs x.1.metric, metric-bound plate samples (λ q c. c.0 given) x.0.0 x.0.1.0 a.word)
@@ -86,7 +84,7 @@ listed-metric-bound plate given samples a x =
 -- ---- A3's margins
 
 pub margin-bound : (plate : Plate) (samples : List ℤ) (position : ℕ) (metrics metrics' : List ℤ) (decisions decisions' : List ℕ) (f : Flag)
-    → TellsFirmness plate samples position metrics decisions metrics' decisions' (J.Found f) → is_fixed f.reading ≡ false → nat_abs (value f.reading) ≤ 262016
+    → TellsFirmness plate samples position metrics decisions metrics' decisions' (Ok f) → is_fixed f.reading ≡ false → nat_abs (value f.reading) ≤ 262016
 margin-bound plate samples position metrics metrics' decisions decisions' = margin-bounds plate samples position metrics decisions metrics' decisions'
 
 -- ---- document 01's last case

@@ -1,6 +1,7 @@
 -- A9, weights of a plate: `count_weights` gives the number of codewords of every weight 0 to n, and the smallest weight above zero. Definitions:
 -- weights/specs/Number (`NumberOf`) and Weights (`OfWeight`, `LeastWeight`, the conditions, `Filled`, `CountsWeights`). The lines that are printed:
 -- listings/specs/Lines (`weight_line`, `least_line`, `no_least_line`).
+use Rattle.std.proofs.Common.{Result, Ok, Err, Option, Some, None}
 use lib.Count.{ones}
 use lib.ListN.{drop, get_or, length, replicate}
 use mathlib.Core.List.{◌++◌, List, [], ◌∷◌}
@@ -17,13 +18,10 @@ use Rattle.plates.specs.declared.Kind.{Kind}
 use Rattle.plates.specs.declared.Plate.{Plate}
 use Rattle.plates.specs.declared.Prepared.{Prepared}
 use Rattle.plates.specs.declared.Refusal.{Refusal}
-use Rattle.plates.specs.declared.Verdict.TheVariants.{Accepted}
 use Rattle.plates.specs.Prepare.{IsPrepared, Prepares}
 use Rattle.trellises.proofs.AcceptedIsPrepared.{accepted-code, accepted-length}
 use Rattle.weights.proofs.WeightsDetermined.{count-weights-determined}
 use Rattle.weights.proofs.WeightsMean.{counts-add-up, least-weight, none-exactly}
-use Rattle.weights.specs.declared.Counted.{Counted}
-use Rattle.weights.specs.declared.Counted.TheVariants.{Least, OnlyZero, Refused}
 use Rattle.weights.specs.Number.{NumberOf, total}
 use Rattle.weights.specs.Weights.{CountsWeights, Filled, LeastWeight, NumberOfWeight, weight_conditions, working_need}
 use Rattle.words.specs.Choice.{count}
@@ -38,26 +36,26 @@ module _ (plate : Plate) (counts working : List ℕ) where
   pub working-need-is : working_need plate ≡ 130 * 2 ^ widest plate
   working-need-is = refl
 
-  module _ (counts' working' : List ℕ) (r : Counted) (p : CountsWeights plate counts working counts' working' r) where
+  module _ (counts' working' : List ℕ) (r : Result (Option ℕ) Refusal) (p : CountsWeights plate counts working counts' working' r) where
     -- refused exactly under them
-    pub weights-refuse-exactly : RefusesExactly Refused (weight_conditions plate counts working) r
+    pub weights-refuse-exactly : RefusesExactly Err (weight_conditions plate counts working) r
     weights-refuse-exactly q = (
       (λ e. (subst (CountsWeights plate counts working counts' working') e p).0),
-      λ h. (count-weights-determined plate counts working r (Refused q) p (h, refl, refl)).0,
+      λ h. (count-weights-determined plate counts working r (Err q) p (h, refl, refl)).0,
     )
 
     -- a refused call changes nothing lent
-    pub weights-refused-unchanged : (q : Refusal) → r ≡ Refused q → (counts' ≡ counts) × (working' ≡ working)
+    pub weights-refused-unchanged : (q : Refusal) → r ≡ Err q → (counts' ≡ counts) × (working' ≡ working)
     weights-refused-unchanged q e = let x = subst (CountsWeights plate counts working counts' working') e p in (x.1, x.2)
 
-    module _ (not : (q : Refusal) → r ≡ Refused q → ⊥) where
+    module _ (not : (q : Refusal) → r ≡ Err q → ⊥) where
       filled : Filled plate counts working counts' working'
       filled = go r refl p
         where
-          go : (s : Counted) → r ≡ s → CountsWeights plate counts working counts' working' s → Filled plate counts working counts' working'
-          go (Refused q) e x = absurd (not q e)
-          go (Least w) e x = x.2
-          go OnlyZero e x = x.2
+          go : (s : Result (Option ℕ) Refusal) → r ≡ s → CountsWeights plate counts working counts' working' s → Filled plate counts working counts' working'
+          go (Err q) e x = absurd (not q e)
+          go (Ok (Some w)) e x = x.2
+          go (Ok None) e x = x.2
 
       -- else the 65 lent numbers are the numbers of codewords of each weight, zero beyond n; what stands behind them is as it was
       pub weights-counted : (w : ℕ) → w < 65 → NumberOfWeight plate w (get_or counts' w 0)
@@ -78,22 +76,22 @@ module _ (plate : Plate) (counts working : List ℕ) where
       weights-add-up = counts-add-up plate counts working counts' working' r p not
 
       -- "none" is said exactly where k is 0
-      pub none-where-k-is-zero : (r ≡ OnlyZero) ↔ (plate.k ≡ 0)
+      pub none-where-k-is-zero : (r ≡ Ok None) ↔ (plate.k ≡ 0)
       none-where-k-is-zero = none-exactly plate counts working counts' working' r p not
 
     -- the smallest weight above zero: some codeword has it, and none above zero has a smaller one
-    pub least-is-smallest : (w : ℕ) → r ≡ Least w → LeastWeight plate w
+    pub least-is-smallest : (w : ℕ) → r ≡ Ok (Some w) → LeastWeight plate w
     least-is-smallest w e = (subst (CountsWeights plate counts working counts' working') e p).1
 
     -- by the counts: above zero at it, and zero at each smaller one above 0
-    pub least-by-counts : IsPrepared plate → (w : ℕ) → r ≡ Least w
+    pub least-by-counts : IsPrepared plate → (w : ℕ) → r ≡ Ok (Some w)
         → (0 < w) × (w ≤ plate.n) × (0 < get_or counts' w 0) × ((v : ℕ) → 0 < v → v < w → get_or counts' v 0 ≡ 0)
     least-by-counts given w e =
         least-weight plate counts working counts' working' given w (subst (CountsWeights plate counts working counts' working') e p)
 
 -- ---- of the code of a matrix, where preparing it with a mask accepts: the mask adds nothing to the weights
 
-module _ (n : ℕ) (kind : Kind) (rows : List ℕ) (mask : ℕ) (r : Prepared) (p : Prepares n kind rows mask r) (e : r.verdict ≡ Accepted) where
+module _ (n : ℕ) (kind : Kind) (rows : List ℕ) (mask : ℕ) (r : Prepared) (p : Prepares n kind rows mask r) (e : r.verdict ≡ Ok tt) where
   -- c is the number of codewords with w ones
   pub weights-of-matrix : (w c : ℕ) → NumberOfWeight r.plate w c → NumberOf (λ x. InCode kind n rows x × (ones x ≡ w)) (2 ^ n) c
   weights-of-matrix w c k = record {

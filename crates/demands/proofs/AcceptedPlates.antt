@@ -1,5 +1,6 @@
 -- What holds of an accepted plate besides demands 1 to 3: its profile by dimensions, its last ones, the range of a metric, the parity checks of its
 -- code, and that the numbers of a section, from which the code works, are those of the trellis.
+use Rattle.std.proofs.Common.{Ok}
 use lib.Dec.{leb, ltb}
 use lib.IntN.{nat_abs, ℤ}
 use lib.ListN.{get_or, length}
@@ -29,7 +30,6 @@ use Rattle.plates.specs.declared.Plate.{Plate}
 use Rattle.plates.specs.declared.Prepared.{Prepared}
 use Rattle.plates.specs.declared.Refusal.{Refusal}
 use Rattle.plates.specs.declared.Refusal.TheVariants.{NotPrepared}
-use Rattle.plates.specs.declared.Verdict.TheVariants.{Accepted}
 use Rattle.plates.specs.Dimension.{Dimension}
 use Rattle.plates.specs.Prepare.{IsPrepared, Prepares, not_prepared, rows_of}
 use Rattle.reports.specs.Report.{BlockAnswer}
@@ -46,8 +46,6 @@ use Rattle.words.specs.Choice.{count}
 use Rattle.words.specs.Ends.{firsts, lasts}
 use Rattle.words.specs.Span.{Last, Spans}
 use Rattle.words.specs.Sum.{IsSum}
-use Rattle.decoding.specs.declared.apart.Measured.TheVariants as M
-use Rattle.decoding.specs.declared.Decoded.TheVariants as D
 use Rattle.trellises.specs.States as T
 
 -- a set of the same words has the same dimension
@@ -60,7 +58,7 @@ same-dimension S R e d x = record {
 }
 
 -- A matrix as G or H and a mask, and what preparing them replies where it accepts
-module _ (n : ℕ) (kind : Kind) (rows : List ℕ) (mask : ℕ) (r : Prepared) (p : Prepares n kind rows mask r) (e : r.verdict ≡ Accepted) where
+module _ (n : ℕ) (kind : Kind) (rows : List ℕ) (mask : ℕ) (r : Prepared) (p : Prepares n kind rows mask r) (e : r.verdict ≡ Ok tt) where
   spans : Spans (rows_of r.plate) (firsts (rows_of r.plate)) (lasts (rows_of r.plate))
   spans = (sound (accepted-prepared n kind rows mask r p e)).reduced.spans
 
@@ -144,7 +142,7 @@ module _ (n : ℕ) (kind : Kind) (rows : List ℕ) (mask : ℕ) (r : Prepared) (
 -- ---- the code of a matrix given as G
 
 -- there is a parity-check matrix of it, so that Wolf's statement speaks of one
-pub parity-checks-exist : (n : ℕ) (rows : List ℕ) (mask : ℕ) (r : Prepared) → Prepares n G rows mask r → r.verdict ≡ Accepted
+pub parity-checks-exist : (n : ℕ) (rows : List ℕ) (mask : ℕ) (r : Prepared) → Prepares n G rows mask r → r.verdict ≡ Ok tt
     → (checks : List ℕ) × ParityChecks (InCode G n rows) n checks
 parity-checks-exist n rows mask r p e =
     sums-checked n rows (λ j h. code_below G n rows (accepted n G rows mask r p e).0.1.1.0 (get_or rows j 0) (in_row rows j))
@@ -169,20 +167,20 @@ module _ (plate : Plate) (samples : List ℤ) where
 
   -- of decode: within 2047 n, and so within 131,008
   pub decode-metric-lies : (metrics metrics' : List ℤ) (decisions decisions' : List ℕ) (a : Answer)
-      → Decodes plate samples metrics decisions metrics' decisions' (D.Found a) → (nat_abs a.metric ≤ 2047 * plate.n) × (nat_abs a.metric ≤ 131008)
+      → Decodes plate samples metrics decisions metrics' decisions' (Ok a) → (nat_abs a.metric ≤ 2047 * plate.n) × (nat_abs a.metric ≤ 131008)
   decode-metric-lies metrics metrics' decisions decisions' a d =
       let h = metric-lies d.0.1.0 d.0.1.1.0 a.word a.metric d.1.metric in
       (h, omega (arith, h, short d.0.0))
 
   -- of the metric call
-  pub metric-call-lies : (metrics metrics' : List ℤ) (m : Measure) → Measures plate samples metrics metrics' (M.Found m)
+  pub metric-call-lies : (metrics metrics' : List ℤ) (m : Measure) → Measures plate samples metrics metrics' (Ok m)
       → (nat_abs m.metric ≤ 2047 * plate.n) × (nat_abs m.metric ≤ 131008)
   metric-call-lies metrics metrics' m d =
       let h = metric-lies d.0.1.0 d.0.1.1.0 d.1.word m.metric d.1.metric in
       (h, omega (arith, h, short d.0.0))
 
   -- of a listing's line for a block of an accepted plate
-  pub listed-metric-lies : IsPrepared plate → (a : Answer) → BlockAnswer plate samples (D.Found a)
+  pub listed-metric-lies : IsPrepared plate → (a : Answer) → BlockAnswer plate samples (Ok a)
       → (nat_abs a.metric ≤ 2047 * plate.n) × (nat_abs a.metric ≤ 131008)
   listed-metric-lies g a x =
       let h = metric-lies x.0.0 x.0.1.0 a.word a.metric x.1.metric in

@@ -1,4 +1,5 @@
 -- Tests of a decoded block: each word is compared, and the counts are those of the steps.
+use Rattle.std.proofs.Common.{Ok}
 use borrow.Author.Tests.{eqb-false, eqb-true}
 use lib.Dec.{T, eqb, eqb→eq}
 use lib.IntN.{nat_abs, pos, ℤ}
@@ -26,7 +27,6 @@ use Rattle.plates.specs.declared.Plate.{Plate}
 use Rattle.plates.specs.Prepare.{IsPrepared, IsWord, rows_of}
 use Rattle.trellises.specs.SectionOf.{section_of}
 use Rattle.words.specs.Word.{bit, Earlier}
-use Rattle.decoding.specs.declared.Decoded.TheVariants as D
 
 -- ---- which of two words is earlier, by their first k positions
 
@@ -151,10 +151,10 @@ module _ (plate : Plate) (samples : List ℤ) (a : Answer) where
   }
 
   -- the block is decoded so, and not otherwise
-  abbrev pub decoded : Check (InRooms plate (Decodes plate samples) (D.Found a))
+  abbrev pub decoded : Check (InRooms plate (Decodes plate samples) (Ok a))
   decoded =
       by (λ p.
-      in-rooms plate (Decodes plate samples) (D.Found a) (decode-determined plate samples) (λ metrics decisions m d. (
+      in-rooms plate (Decodes plate samples) (Ok a) (decode-determined plate samples) (λ metrics decisions m d. (
         decode-passes plate samples metrics decisions p.0.given p.0.count p.0.within m d,
         tested-best p.0 p.1,
         record { metrics_zero = refl; decisions_zero = refl },

@@ -1,6 +1,7 @@
 -- Demand 1: every public call takes every input, refuses exactly under the numbered conditions of document 01 in its order, and a refused
 -- call changes nothing lent; a decode that succeeds zeroes the working room it needs and touches no more.
 -- No public function has a `requires`: each takes every input, and replies as its promise says. Here a reply that meets the promise is given.
+use Rattle.std.proofs.Common.{Result, Ok, Err, Option}
 use lib.IntN.{nat_abs, pos, ℤ}
 use lib.ListN.{drop, get_or, length, replicate}
 use mathlib.Core.List.{◌++◌, List, [], ◌∷◌}
@@ -9,17 +10,13 @@ use native.Mathlib.Omega.{arith}
 use Prim.Native.Nat.{◌<◌, ℕ, ◌≤◌}
 use Rattle.coding.proofs.CodingDetermined.{encode-determined, read-back-determined}
 use Rattle.coding.specs.Coding.{Encodes, ReadsBack, encode_conditions, read_conditions}
-use Rattle.coding.specs.declared.Encoded.{Encoded}
-use Rattle.coding.specs.declared.ReadBack.{ReadBack}
 use Rattle.decoding.proofs.DecodeDetermined.{decode-determined}
 use Rattle.decoding.specs.declared.Answer.{Answer}
-use Rattle.decoding.specs.declared.Decoded.{Decoded}
 use Rattle.decoding.specs.Decode.{Decodes, decision_need, decode_conditions, metric_need}
 use Rattle.decoding.specs.Metric.{limit}
 use Rattle.demands.specs.Refusing.{Numbered, RefusesExactly, WriteRefuses}
 use Rattle.listings.proofs.Determined.{must-refuse}
 use Rattle.listings.specs.declared.Tally.{Tally}
-use Rattle.listings.specs.declared.Written.{Written}
 use Rattle.listings.specs.Lines.{line_of_end, least_line, no_least_line, plate_line, profile_line, refused_line, tally_line, weight_line, word_line}
 use Rattle.listings.specs.Writing.{Writes, WritesAs, WritesEnd, WritesLeast, WritesLine, WritesNoLeast, WritesOf, WritesPlate, WritesProfile, WritesRefused}
 use Rattle.listings.specs.Writing.{WritesTally, WritesWeight, WritesWord, entries_of, line_room}
@@ -35,12 +32,6 @@ use Rattle.plates.specs.Refusals.{Passes, number}
 use Rattle.plates.specs.Replying.{refused_with}
 use Rattle.trellises.proofs.BranchDetermined.{branch-determined}
 use Rattle.trellises.specs.Branching.{Branches, branch_conditions}
-use Rattle.trellises.specs.declared.Next.{Next}
-use Rattle.plates.specs.declared.Verdict.TheVariants as P
-use Rattle.trellises.specs.declared.Next.TheVariants as N
-use Rattle.coding.specs.declared.Encoded.TheVariants as E
-use Rattle.coding.specs.declared.ReadBack.TheVariants as R
-use Rattle.decoding.specs.declared.Decoded.TheVariants as D
 
 -- the number of a condition's refusal
 pub its-number : {Holds : Type 0} {refusal : Refusal} (q : Refusal) → Holds × (q ≡ refusal) → number q ≡ number refusal
@@ -59,14 +50,14 @@ module _ (n : ℕ) (kind : Kind) (rows : List ℕ) (mask : ℕ) where
 
   module _ (r : Prepared) (p : Prepares n kind rows mask r) where
     -- refused exactly under them
-    pub prepare-refuses-exactly : RefusesExactly P.Refused (prepare_conditions n kind rows mask) r.verdict
+    pub prepare-refuses-exactly : RefusesExactly Err (prepare_conditions n kind rows mask) r.verdict
     prepare-refuses-exactly q = (
       (λ e. (subst (PreparesAs (prepare_conditions n kind rows mask) (InCode kind n rows) n mask r.plate) e p.reply).0),
       λ h. ap (λ (x : Prepared). x.verdict) (prepare-determined n kind rows mask r (refused_with q) p (record { reply = (h, refl) })),
     )
 
     -- a refused preparing has the zero plate beside it
-    pub prepare-refused-zero : (q : Refusal) → r.verdict ≡ P.Refused q → r.plate ≡ zero_plate
+    pub prepare-refused-zero : (q : Refusal) → r.verdict ≡ Err q → r.plate ≡ zero_plate
     prepare-refused-zero q e = (subst (PreparesAs (prepare_conditions n kind rows mask) (InCode kind n rows) n mask r.plate) e p.reply).1
 
 -- ---- branch: 5, 12
@@ -77,9 +68,9 @@ module _ (plate : Plate) (depth state bit : ℕ) where
   branch-numbers = (its-number, (its-number, tt))
 
   -- refused exactly under them
-  pub branch-refuses-exactly : (r : Next) → Branches plate depth state bit r → RefusesExactly N.Refused (branch_conditions plate depth state bit) r
+  pub branch-refuses-exactly : (r : Result (Option ℕ) Refusal) → Branches plate depth state bit r → RefusesExactly Err (branch_conditions plate depth state bit) r
   branch-refuses-exactly r p q =
-      ((λ e. subst (Branches plate depth state bit) e p), λ h. branch-determined plate depth state bit r (N.Refused q) p h)
+      ((λ e. subst (Branches plate depth state bit) e p), λ h. branch-determined plate depth state bit r (Err q) p h)
 
 -- ---- encode: 5, 13
 
@@ -89,8 +80,8 @@ module _ (plate : Plate) (information : ℕ) where
   encode-numbers = (its-number, (its-number, tt))
 
   -- refused exactly under them
-  pub encode-refuses-exactly : (r : Encoded) → Encodes plate information r → RefusesExactly E.Refused (encode_conditions plate information) r
-  encode-refuses-exactly r p q = ((λ e. subst (Encodes plate information) e p), λ h. encode-determined plate information r (E.Refused q) p h)
+  pub encode-refuses-exactly : (r : Result ℕ Refusal) → Encodes plate information r → RefusesExactly Err (encode_conditions plate information) r
+  encode-refuses-exactly r p q = ((λ e. subst (Encodes plate information) e p), λ h. encode-determined plate information r (Err q) p h)
 
 -- ---- read back: 5, 14
 
@@ -100,8 +91,8 @@ module _ (plate : Plate) (word : ℕ) where
   read-back-numbers = (its-number, (its-number, tt))
 
   -- refused exactly under them
-  pub read-back-refuses-exactly : (r : ReadBack) → ReadsBack plate word r → RefusesExactly R.Refused (read_conditions plate word) r
-  read-back-refuses-exactly r p q = ((λ e. subst (ReadsBack plate word) e p), λ h. read-back-determined plate word r (R.Refused q) p h)
+  pub read-back-refuses-exactly : (r : Result ℕ Refusal) → ReadsBack plate word r → RefusesExactly Err (read_conditions plate word) r
+  read-back-refuses-exactly r p q = ((λ e. subst (ReadsBack plate word) e p), λ h. read-back-determined plate word r (Err q) p h)
 
 -- ---- decode: 5 to 9
 
@@ -125,28 +116,28 @@ module _ (plate : Plate) (samples metrics : List ℤ) (decisions : List ℕ) whe
   )
 
   -- the two rooms after the call, and its reply
-  module _ (metrics' : List ℤ) (decisions' : List ℕ) (r : Decoded) (p : Decodes plate samples metrics decisions metrics' decisions' r) where
+  module _ (metrics' : List ℤ) (decisions' : List ℕ) (r : Result Answer Refusal) (p : Decodes plate samples metrics decisions metrics' decisions' r) where
     -- refused exactly under them
-    pub decode-refuses-exactly : RefusesExactly D.Refused (decode_conditions plate samples metrics decisions) r
+    pub decode-refuses-exactly : RefusesExactly Err (decode_conditions plate samples metrics decisions) r
     decode-refuses-exactly q = (
       (λ e. (subst (Decodes plate samples metrics decisions metrics' decisions') e p).0),
-      λ h. (decode-determined plate samples metrics decisions r (D.Refused q) metrics' metrics decisions' decisions p (h, refl, refl)).0,
+      λ h. (decode-determined plate samples metrics decisions r (Err q) metrics' metrics decisions' decisions p (h, refl, refl)).0,
     )
 
     -- where none of them holds the answer is found
-    pub decode-passed-found : Passes (decode_conditions plate samples metrics decisions) → (a : Answer) × (r ≡ D.Found a)
+    pub decode-passed-found : Passes (decode_conditions plate samples metrics decisions) → (a : Answer) × (r ≡ Ok a)
     decode-passed-found h = go r refl
       where
-        go : (s : Decoded) → r ≡ s → (a : Answer) × (r ≡ D.Found a)
-        go (D.Found a) e = (a, e)
-        go (D.Refused q) e = absurd (never_both (decode_conditions plate samples metrics decisions) h q ((decode-refuses-exactly q).0 e))
+        go : (s : Result Answer Refusal) → r ≡ s → (a : Answer) × (r ≡ Ok a)
+        go (Ok a) e = (a, e)
+        go (Err q) e = absurd (never_both (decode_conditions plate samples metrics decisions) h q ((decode-refuses-exactly q).0 e))
 
     -- a refused decode changes nothing lent
-    pub decode-refused-unchanged : (q : Refusal) → r ≡ D.Refused q → (metrics' ≡ metrics) × (decisions' ≡ decisions)
+    pub decode-refused-unchanged : (q : Refusal) → r ≡ Err q → (metrics' ≡ metrics) × (decisions' ≡ decisions)
     decode-refused-unchanged q e = let x = subst (Decodes plate samples metrics decisions metrics' decisions') e p in (x.1, x.2)
 
     -- one that succeeds zeroes the room it needs, and touches no more
-    pub decode-found-zeroes : (a : Answer) → r ≡ D.Found a
+    pub decode-found-zeroes : (a : Answer) → r ≡ Ok a
         → (metrics' ≡ replicate (metric_need plate) (pos 0) ++ drop (metric_need plate) metrics)
         × (decisions' ≡ replicate (decision_need plate) 0 ++ drop (decision_need plate) decisions)
     decode-found-zeroes a e =
@@ -171,14 +162,14 @@ pub line-single : (line room : List ℕ) → Single (line_room line room ∷ [])
 line-single line room = (once, tt)
 
 -- whatever the conditions
-write-refuses : (cs : List (Refusal → Type 0)) → Single cs → (line room : List ℕ) (r : Written) (room' : List ℕ) → Writes cs line room r room'
+write-refuses : (cs : List (Refusal → Type 0)) → Single cs → (line room : List ℕ) (r : Result ℕ Refusal) (room' : List ℕ) → Writes cs line room r room'
     → WriteRefuses cs room r room'
 write-refuses cs single line room r room' w = (
   (λ q. ((λ e. (subst (WritesAs cs line room room') e w.reply).0), λ h. (must-refuse cs single line room w q h).0)),
   λ q e. (subst (WritesAs cs line room room') e w.reply).1,
 )
 
-module _ (room : List ℕ) (r : Written) (room' : List ℕ) where
+module _ (room : List ℕ) (r : Result ℕ Refusal) (room' : List ℕ) where
   -- of a line that takes no plate
   of-line : (line : List ℕ) → WritesLine line room r room' → WriteRefuses (line_room line room ∷ []) room r room'
   of-line line = write-refuses _ (line-single line room) line room r room'

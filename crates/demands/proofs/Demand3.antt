@@ -1,6 +1,7 @@
 -- Demand 3: no layered graph for the same code in the same order has fewer states at any depth or fewer branches in any section. Decoding
 -- reports one addition for each branch, and for each state past the start one comparison fewer than the branches entering it, as counted
 -- by the steps themselves. "Code" is read as the words of the plate (document 02, A11).
+use Rattle.std.proofs.Common.{Ok}
 use lib.IntN.{ℤ}
 use lib.ListN.{length}
 use mathlib.Core.List.{List}
@@ -9,14 +10,12 @@ use Prim.Native.Nat.{◌+◌, ◌<◌, ℕ, ◌≤◌}
 use Rattle.decoding.proofs.SampleLimits.{samples-are-n}
 use Rattle.decoding.specs.Backward.{counted}
 use Rattle.decoding.specs.declared.Answer.{Answer}
-use Rattle.decoding.specs.declared.Decoded.TheVariants.{Found}
 use Rattle.decoding.specs.Decode.{Decodes}
 use Rattle.decoding.specs.Totals.{branch_total, doubled_total, entering_less_one, state_total}
 use Rattle.demands.proofs.StepCounts.{counted-in-steps, steps-additions, steps-additions-formula, steps-comparisons, steps-comparisons-formula}
 use Rattle.plates.specs.Code.{InCode, Masked}
 use Rattle.plates.specs.declared.Kind.{Kind}
 use Rattle.plates.specs.declared.Prepared.{Prepared}
-use Rattle.plates.specs.declared.Verdict.TheVariants.{Accepted}
 use Rattle.plates.specs.Prepare.{Prepares, rows_of}
 use Rattle.trellises.proofs.WordsTrellis.{matrix-smallest}
 use Rattle.trellises.specs.Branching.{trellis_of}
@@ -25,7 +24,7 @@ use Rattle.trellises.specs.SectionOf.{section_of}
 use Rattle.trellises.specs.Smallest.{Different, HasAll}
 
 -- A matrix as G or H and a mask, and what preparing them replies where it accepts. The words are those that the mask makes of the matrix's own code
-module _ (n : ℕ) (kind : Kind) (rows : List ℕ) (mask : ℕ) (r : Prepared) (p : Prepares n kind rows mask r) (e : r.verdict ≡ Accepted) where
+module _ (n : ℕ) (kind : Kind) (rows : List ℕ) (mask : ℕ) (r : Prepared) (p : Prepares n kind rows mask r) (e : r.verdict ≡ Ok tt) where
   -- ---- no graph is smaller
 
   -- any layered graph whose full paths spell these words
@@ -45,7 +44,7 @@ module _ (n : ℕ) (kind : Kind) (rows : List ℕ) (mask : ℕ) (r : Prepared) (
   -- ---- the counts that decoding reports
 
   module _ (samples metrics metrics' : List ℤ) (decisions decisions' : List ℕ) (a : Answer)
-      (d : Decodes r.plate samples metrics decisions metrics' decisions' (Found a)) where
+      (d : Decodes r.plate samples metrics decisions metrics' decisions' (Ok a)) where
     size : length samples ≡ r.plate.n
     size = samples-are-n r.plate samples d.0.1.0
 

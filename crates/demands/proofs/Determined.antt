@@ -1,4 +1,10 @@
 -- Determined: for each public function, two replies that meet its promise, with what each leaves in the rooms lent, are equal.
+use Rattle.std.proofs.Common.{Result, Option}
+use Rattle.decoding.specs.declared.apart.Selection.{Selection}
+use Rattle.decoding.specs.declared.Answer.{Answer}
+use Rattle.decoding.specs.declared.apart.Measure.{Measure}
+use Rattle.asking.specs.declared.Reason.{Reason}
+use Rattle.decoding.specs.declared.firmness.Flag.{Flag}
 use lib.IntN.{ℤ}
 use mathlib.Core.Bool.{Bool}
 use mathlib.Core.List.{List}
@@ -6,27 +12,19 @@ use mathlib.Core.Path.{sym, ◌∙◌, ◌≡◌}
 use Prim.Native.Nat.{ℕ}
 use Rattle.asking.proofs.WhyNotDetermined.{why-not-determined}
 use Rattle.asking.specs.Asking.{Asks}
-use Rattle.asking.specs.declared.Verdict.{Verdict}
 use Rattle.coding.proofs.CodingDetermined.{encode-determined, read-back-determined}
 use Rattle.coding.specs.Coding.{Encodes, ReadsBack}
-use Rattle.coding.specs.declared.Encoded.{Encoded}
-use Rattle.coding.specs.declared.ReadBack.{ReadBack}
 use Rattle.decoding.proofs.ApartDetermined.{metric-determined, word-determined}
 use Rattle.decoding.proofs.DecodeDetermined.{decode-determined}
 use Rattle.decoding.proofs.FirmnessDetermined.{firmness-determined}
 use Rattle.decoding.proofs.RestOfWords.{rest-determined}
 use Rattle.decoding.specs.Apart.{Chooses, Measures}
 use Rattle.decoding.specs.Cosets.{taken_off}
-use Rattle.decoding.specs.declared.apart.Chosen.{Chosen}
-use Rattle.decoding.specs.declared.apart.Measured.{Measured}
-use Rattle.decoding.specs.declared.Decoded.{Decoded}
-use Rattle.decoding.specs.declared.firmness.Flagged.{Flagged}
 use Rattle.decoding.specs.Decode.{Decodes}
 use Rattle.decoding.specs.Firmness.{TellsFirmness}
 use Rattle.listings.proofs.Determined.{write-end-determined, write-plate-determined, write-profile-determined, write-refused-determined, write-word-determined}
 use Rattle.listings.proofs.Determined.{write-least-determined, write-no-least-determined, write-tally-determined, write-weight-determined}
 use Rattle.listings.specs.declared.Tally.{Tally}
-use Rattle.listings.specs.declared.Written.{Written}
 use Rattle.listings.specs.Writing.{WritesEnd, WritesLeast, WritesNoLeast, WritesPlate, WritesProfile, WritesRefused, WritesTally, WritesWeight, WritesWord}
 use Rattle.plates.proofs.PrepareDetermined.{is-prepared-determined, prepare-determined}
 use Rattle.plates.specs.declared.Kind.{Kind}
@@ -37,7 +35,6 @@ use Rattle.plates.specs.Prepare.{Prepares, Tests}
 use Rattle.plates.specs.Refusals.{field, number, place}
 use Rattle.trellises.proofs.BranchDetermined.{branch-determined}
 use Rattle.trellises.specs.Branching.{Branches}
-use Rattle.trellises.specs.declared.Next.{Next}
 use Rattle.trellises.specs.declared.Section.{Section}
 use Rattle.trellises.specs.SectionOf.{held, section_of}
 use Rattle.words.proofs.Ends.{first-one-determined, last-one-determined}
@@ -88,7 +85,7 @@ is-prepared = is-prepared-determined
 -- ---- trellises
 
 -- a branch asked for
-pub branch : (plate : Plate) (depth state bit : ℕ) (r s : Next) → Branches plate depth state bit r → Branches plate depth state bit s → r ≡ s
+pub branch : (plate : Plate) (depth state bit : ℕ) (r s : Result (Option ℕ) Refusal) → Branches plate depth state bit r → Branches plate depth state bit s → r ≡ s
 branch = branch-determined
 
 -- a section of rows
@@ -98,32 +95,32 @@ section-of rows t r s x y = x ∙ sym y
 -- ---- coding
 
 -- encoding information
-pub encode : (plate : Plate) (information : ℕ) (r s : Encoded) → Encodes plate information r → Encodes plate information s → r ≡ s
+pub encode : (plate : Plate) (information : ℕ) (r s : Result ℕ Refusal) → Encodes plate information r → Encodes plate information s → r ≡ s
 encode = encode-determined
 
 -- reading a word back
-pub read_back : (plate : Plate) (word : ℕ) (r s : ReadBack) → ReadsBack plate word r → ReadsBack plate word s → r ≡ s
+pub read_back : (plate : Plate) (word : ℕ) (r s : Result ℕ Refusal) → ReadsBack plate word r → ReadsBack plate word s → r ≡ s
 read_back = read-back-determined
 
 -- ---- decoding
 
 -- decoding, with both rooms
-pub decode : (plate : Plate) (samples metrics : List ℤ) (decisions : List ℕ) (r s : Decoded) (m n : List ℤ) (d e : List ℕ)
+pub decode : (plate : Plate) (samples metrics : List ℤ) (decisions : List ℕ) (r s : Result Answer Refusal) (m n : List ℤ) (d e : List ℕ)
     → Decodes plate samples metrics decisions m d r → Decodes plate samples metrics decisions n e s → (r ≡ s) × (m ≡ n) × (d ≡ e)
 decode = decode-determined
 
 -- the metric without the word, with its room
-pub best-metric : (plate : Plate) (samples metrics : List ℤ) (r s : Measured) (m n : List ℤ)
+pub best-metric : (plate : Plate) (samples metrics : List ℤ) (r s : Result Measure Refusal) (m n : List ℤ)
     → Measures plate samples metrics m r → Measures plate samples metrics n s → (r ≡ s) × (m ≡ n)
 best-metric = metric-determined
 
 -- the word without its metric, with both rooms
-pub best-word : (plate : Plate) (samples metrics : List ℤ) (decisions : List ℕ) (r s : Chosen) (m n : List ℤ) (d e : List ℕ)
+pub best-word : (plate : Plate) (samples metrics : List ℤ) (decisions : List ℕ) (r s : Result Selection Refusal) (m n : List ℤ) (d e : List ℕ)
     → Chooses plate samples metrics decisions m d r → Chooses plate samples metrics decisions n e s → (r ≡ s) × (m ≡ n) × (d ≡ e)
 best-word = word-determined
 
 -- a position judged, with both rooms
-pub firmness : (plate : Plate) (samples : List ℤ) (position : ℕ) (metrics : List ℤ) (decisions : List ℕ) (r s : Flagged) (m n : List ℤ) (d e : List ℕ)
+pub firmness : (plate : Plate) (samples : List ℤ) (position : ℕ) (metrics : List ℤ) (decisions : List ℕ) (r s : Result Flag Refusal) (m n : List ℤ) (d e : List ℕ)
     → TellsFirmness plate samples position metrics decisions m d r → TellsFirmness plate samples position metrics decisions n e s → (r ≡ s) × (m ≡ n) × (d ≡ e)
 firmness = firmness-determined
 
@@ -132,13 +129,13 @@ pub rest_of : (rows : List ℕ) (word r s : ℕ) → r ≡ taken_off rows word �
 rest_of = rest-determined
 
 -- why a word was not chosen, with both rooms
-pub why-not : (plate : Plate) (samples : List ℤ) (w : ℕ) (metrics : List ℤ) (decisions : List ℕ) (r s : Verdict) (m n : List ℤ) (d e : List ℕ)
+pub why-not : (plate : Plate) (samples : List ℤ) (w : ℕ) (metrics : List ℤ) (decisions : List ℕ) (r s : Result Reason Refusal) (m n : List ℤ) (d e : List ℕ)
     → Asks plate samples w metrics decisions m d r → Asks plate samples w metrics decisions n e s → (r ≡ s) × (m ≡ n) × (d ≡ e)
 why-not = why-not-determined
 
 -- ---- listings
 
-module _ (room : List ℕ) (r s : Written) (a b : List ℕ) where
+module _ (room : List ℕ) (r s : Result ℕ Refusal) (a b : List ℕ) where
   -- the line plate
   pub write-plate : (plate : Plate) → WritesPlate plate room r a → WritesPlate plate room s b → (r ≡ s) × (a ≡ b)
   write-plate = write-plate-determined

@@ -1,6 +1,8 @@
 -- A5, worked on paper from its text: a sheet of six heard lines, and its listing byte for byte. Counters 65535, 0, 0, 40000, 3 and 3: the second
 -- answer opposes its sample, the third line repeats the second, the fourth is out of turn with a zero sample, the fifth leaves 1 and 2 missing, the last
 -- has no sample and is refused. The sum of metrics is 5 - 9 + 0 + 1.
+use Rattle.std.proofs.Common.{Result, Ok, Err}
+use Rattle.plates.specs.declared.Refusal.{Refusal}
 use lib.Count.{count_leading_zeros, ones, ones_in, count_trailing_zeros}
 use lib.IntN.{negsuc, pos, ℤ}
 use mathlib.Core.Bool.{true}
@@ -10,8 +12,6 @@ use mathlib.Core.Path.{refl, ◌≡◌}
 use native.Mathlib.Omega.{arith}
 use Prim.Native.Nat.{ℕ}
 use Rattle.decoding.specs.declared.Answer.{Answer}
-use Rattle.decoding.specs.declared.Decoded.{Decoded}
-use Rattle.decoding.specs.declared.Decoded.TheVariants.{Found, Refused}
 use Rattle.demands.proofs.BlocksChecked.{ready, tested, tested-best}
 use Rattle.demands.proofs.Checking.{Check, both, by}
 use Rattle.demands.proofs.PlatesChecked.{accepted}
@@ -20,7 +20,6 @@ use Rattle.listings.specs.Decimal.{decimal, signed_decimal}
 use Rattle.listings.specs.Lines.{line_of_end, less, plate_line, profile_line, refused_line, tally_line, word_line}
 use Rattle.plates.specs.declared.Kind.TheVariants.{G}
 use Rattle.plates.specs.declared.Refusal.TheVariants.{SampleCount}
-use Rattle.plates.specs.declared.Verdict.TheVariants.{Accepted}
 use Rattle.plates.specs.Prepare.{Prepares}
 use Rattle.reports.proofs.SameAnswers.{answers-listed}
 use Rattle.reports.specs.Answers.{Answers}
@@ -58,12 +57,12 @@ heard-read = refl
 abbrev zero_word : ℤ → Answer
 zero_word metric = answer 0 metric 1 0
 
-abbrev replies : List Decoded
+abbrev replies : List (Result Answer Refusal)
 replies =
-    Found (zero_word (pos 5)) ∷ Found (zero_word (negsuc 8)) ∷ Found (zero_word (pos 7))
-    ∷ Found (zero_word (pos 0)) ∷ Found (zero_word (pos 1)) ∷ Refused SampleCount ∷ []
+    Ok (zero_word (pos 5)) ∷ Ok (zero_word (negsuc 8)) ∷ Ok (zero_word (pos 7))
+    ∷ Ok (zero_word (pos 0)) ∷ Ok (zero_word (pos 1)) ∷ Err SampleCount ∷ []
 
-abbrev answered : (samples : List ℤ) (a : Answer) → Check (BlockAnswer zero_plate1 samples (Found a))
+abbrev answered : (samples : List ℤ) (a : Answer) → Check (BlockAnswer zero_plate1 samples (Ok a))
 answered samples a =
     by (λ p. (
       ((λ q c. c.0 p.0.count), ((λ q c. omega (arith, c.over, p.0.within c.position c.there)), tt)),
@@ -71,11 +70,11 @@ answered samples a =
     ))
     (both (ready zero_plate1 samples) (tested zero_plate1 samples a))
 
-abbrev checks : Check (Prepares 1 G [] 0 (record { verdict = Accepted; plate = zero_plate1 })
-    × (BlockAnswer zero_plate1 (pos 5 ∷ []) (Found (zero_word (pos 5)))
-    × (BlockAnswer zero_plate1 (negsuc 8 ∷ []) (Found (zero_word (negsuc 8)))
-    × (BlockAnswer zero_plate1 (pos 7 ∷ []) (Found (zero_word (pos 7)))
-    × (BlockAnswer zero_plate1 (pos 0 ∷ []) (Found (zero_word (pos 0))) × BlockAnswer zero_plate1 (pos 1 ∷ []) (Found (zero_word (pos 1))))))))
+abbrev checks : Check (Prepares 1 G [] 0 (record { verdict = Ok tt; plate = zero_plate1 })
+    × (BlockAnswer zero_plate1 (pos 5 ∷ []) (Ok (zero_word (pos 5)))
+    × (BlockAnswer zero_plate1 (negsuc 8 ∷ []) (Ok (zero_word (negsuc 8)))
+    × (BlockAnswer zero_plate1 (pos 7 ∷ []) (Ok (zero_word (pos 7)))
+    × (BlockAnswer zero_plate1 (pos 0 ∷ []) (Ok (zero_word (pos 0))) × BlockAnswer zero_plate1 (pos 1 ∷ []) (Ok (zero_word (pos 1))))))))
 checks =
     both (accepted 1 G [] 0 zero_plate1)
     (both (answered (pos 5 ∷ []) (zero_word (pos 5)))
@@ -83,7 +82,7 @@ checks =
     (both (answered (pos 7 ∷ []) (zero_word (pos 7)))
     (both (answered (pos 0 ∷ []) (zero_word (pos 0))) (answered (pos 1 ∷ []) (zero_word (pos 1)))))))
 
-heard-answers : Answers heard_text (record { verdict = Accepted; plate = zero_plate1 }) replies
+heard-answers : Answers heard_text (record { verdict = Ok tt; plate = zero_plate1 }) replies
 unfolding E.first E.last count_trailing_zeros count_leading_zeros with_row with_active ones ones_in
 heard-answers =
     let c = checks.law tt in record {
@@ -108,6 +107,6 @@ pub heard-sheet-worked : Lists heard_text heard_listing
 unfolding plate_line profile_line word_line refused_line tally_line line_of_end less decimal signed_decimal heard-answers
 heard-sheet-worked = record {
   lines = _;
-  reports = answers-listed heard_text (record { verdict = Accepted; plate = zero_plate1 }) replies heard-answers;
+  reports = answers-listed heard_text (record { verdict = Ok tt; plate = zero_plate1 }) replies heard-answers;
   bytes = refl;
 }

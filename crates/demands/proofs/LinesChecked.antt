@@ -1,4 +1,5 @@
 -- Tests of a written line, byte by byte.
+use Rattle.std.proofs.Common.{Result, Ok}
 use lib.ListN.{drop, length}
 use mathlib.Core.List.{◌++◌, List, [], ◌∷◌}
 use mathlib.Core.Path.{ap₂, subst, sym}
@@ -10,21 +11,19 @@ use Rattle.demands.specs.Examples.{Exactly, Writing}
 use Rattle.listings.proofs.Conditions.{fits-room}
 use Rattle.listings.proofs.Determined.{determined}
 use Rattle.listings.proofs.OfPlate.{plate-passed}
-use Rattle.listings.specs.declared.Written.{Written}
 use Rattle.listings.specs.Writing.{Writes, WritesLine, WritesOf, line_room}
 use Rattle.plates.proofs.Refusing.{Single}
 use Rattle.plates.specs.declared.Plate.{Plate}
 use Rattle.plates.specs.declared.Refusal.{Refusal}
 use Rattle.plates.specs.Prepare.{IsPrepared, not_prepared}
-use Rattle.listings.specs.declared.Written.TheVariants as W
 
 -- one reply and one room after it meet the promise
 written-exactly : (cs : List (Refusal → Type 0)) → Single cs → (line room : List ℕ)
-    → Writes cs line room (W.Bytes (length line)) (line ++ drop (length line) room)
-    → Exactly (λ (x : Written × List ℕ). Writes cs line room x.0 x.1) (W.Bytes (length line), line ++ drop (length line) room)
+    → Writes cs line room (Ok (length line)) (line ++ drop (length line) room)
+    → Exactly (λ (x : Result ℕ Refusal × List ℕ). Writes cs line room x.0 x.1) (Ok (length line), line ++ drop (length line) room)
 written-exactly cs single line room w r = (
-  (λ x. let e = determined cs single line room x w in ap₂ (λ (y : Written) (z : List ℕ). (y, z)) e.0 e.1),
-  λ e. subst (λ (x : Written × List ℕ). Writes cs line room x.0 x.1) (sym e) w,
+  (λ x. let e = determined cs single line room x w in ap₂ (λ (y : Result ℕ Refusal) (z : List ℕ). (y, z)) e.0 e.1),
+  λ e. subst (λ (x : Result ℕ Refusal × List ℕ). Writes cs line room x.0 x.1) (sym e) w,
 )
 
 -- a line that takes a plate, which is prepared

@@ -1,4 +1,5 @@
 -- Tests that a plate is sound, that it is the plate of a matrix, and that a matrix is refused.
+use Rattle.std.proofs.Common.{Ok}
 use lib.ListN.{drop, get_or, length}
 use lib.Seq.{get_or-drop}
 use mathlib.Core.List.{List}
@@ -15,7 +16,6 @@ use Rattle.plates.specs.Code.{InCode}
 use Rattle.plates.specs.declared.Kind.{Kind}
 use Rattle.plates.specs.declared.Plate.{Plate}
 use Rattle.plates.specs.declared.Refusal.{Refusal}
-use Rattle.plates.specs.declared.Verdict.TheVariants.{Accepted}
 use Rattle.plates.specs.Prepare.{IsPrepared, PlateOf, Prepares, Wide, prepare_conditions, rows_of}
 use Rattle.plates.specs.Profile.{live_at}
 use Rattle.plates.specs.Reduced.{Reduced}
@@ -153,18 +153,18 @@ module _ (kind : Kind) (rows : List ℕ) (plate : Plate) where
   -- a sound plate whose rows generate the code is what preparing replies
   pub accepted-with : IsPrepared plate → length rows ≤ 64 → ((j : ℕ) → j < length rows → get_or rows j 0 < 2 ^ plate.n)
       → ((w : ℕ) → InCode kind plate.n rows w ↔ IsSum (rows_of plate) w)
-      → Prepares plate.n kind rows plate.mask (record { verdict = Accepted; plate = plate })
+      → Prepares plate.n kind rows plate.mask (record { verdict = Ok tt; plate = plate })
   accepted-with p few low e =
       let a = plate-same (IsSum (rows_of plate)) (InCode kind plate.n rows) (λ w. Iff.symm (e w)) plate.n plate.mask plate p.same.reply.1 in
       record { reply = (passes p few low a, a) }
 
 -- the test of a matrix and a mask with their plate
 abbrev pub accepted : (n : ℕ) (kind : Kind) (rows : List ℕ) (mask : ℕ) (plate : Plate)
-    → Check (Prepares n kind rows mask (record { verdict = Accepted; plate = plate }))
+    → Check (Prepares n kind rows mask (record { verdict = Ok tt; plate = plate }))
 accepted n kind rows mask plate =
     by (λ p.
-    subst (λ (x : ℕ). Prepares x kind rows mask (record { verdict = Accepted; plate = plate })) p.0.0
-    (subst (λ (x : ℕ). Prepares plate.n kind rows x (record { verdict = Accepted; plate = plate })) p.0.1
+    subst (λ (x : ℕ). Prepares x kind rows mask (record { verdict = Ok tt; plate = plate })) p.0.0
+    (subst (λ (x : ℕ). Prepares plate.n kind rows x (record { verdict = Ok tt; plate = plate })) p.0.1
     (accepted-with kind rows plate p.1.0 p.1.1.0 p.1.1.1.0 p.1.1.1.1)))
     (both (both (equal plate.n n) (equal plate.mask mask))
     (both (is_prepared plate)

@@ -1,4 +1,5 @@
 -- Tests of how firm a position is, and of why a word was not chosen: by each word of the plate.
+use Rattle.std.proofs.Common.{Ok}
 use lib.IntN.{◌-ℤ◌, pos, ℤ}
 use lib.Signed.{◌≤ℤ◌}
 use mathlib.Core.List.{List}
@@ -10,12 +11,10 @@ use Rattle.asking.proofs.WhyNotDetermined.{why-not-determined}
 use Rattle.asking.specs.Asking.{Asks, Continued, Explains, NoCodewordAt}
 use Rattle.asking.specs.declared.Reason.{Reason}
 use Rattle.asking.specs.declared.Reason.TheVariants.{Chosen, NoCodeword, ScoresLess, TiesAndLoses}
-use Rattle.asking.specs.declared.Verdict.TheVariants.{Explained}
 use Rattle.decoding.proofs.FirmnessDetermined.{firmness-determined}
 use Rattle.decoding.specs.Backward.{counted}
 use Rattle.decoding.specs.declared.Answer.{Answer}
 use Rattle.decoding.specs.declared.firmness.Flag.{Flag}
-use Rattle.decoding.specs.declared.firmness.Flagged.TheVariants.{Found}
 use Rattle.decoding.specs.declared.firmness.Reading.{Reading}
 use Rattle.decoding.specs.declared.firmness.Reading.TheVariants.{Fixed, Open}
 use Rattle.decoding.specs.Firmness.{BestAmong, FlagOf, TellsFirmness, Margin, Means, is_fixed, value}
@@ -69,10 +68,10 @@ module _ (plate : Plate) (samples : List ℤ) (position : ℕ) where
   flagged flag = by (λ p. record { position_is = p.0; reading = p.1 }) (both (equal flag.position position) (reading flag.reading))
 
   -- the position is judged so, and not otherwise
-  abbrev pub judged : (flag : Flag) → Check (InRooms plate (TellsFirmness plate samples position) (Found flag))
+  abbrev pub judged : (flag : Flag) → Check (InRooms plate (TellsFirmness plate samples position) (Ok flag))
   judged flag =
       by (λ p.
-      in-rooms plate (TellsFirmness plate samples position) (Found flag) (firmness-determined plate samples position) (λ metrics decisions m d. (
+      in-rooms plate (TellsFirmness plate samples position) (Ok flag) (firmness-determined plate samples position) (λ metrics decisions m d. (
         firmness-passes plate samples position metrics decisions p.0.given p.0.count p.0.within p.1.0 m d,
         p.1.1,
         record { metrics_zero = refl; decisions_zero = refl },
@@ -123,10 +122,10 @@ module _ (plate : Plate) (samples : List ℤ) (w : ℕ) where
   answer_at v = record { word = v; metric = metric_of samples v; counts = counted (section_of (rows_of plate)) samples 0 }
 
   -- some answer is the best, and the reason holds against it: the word is explained so, and not otherwise
-  abbrev pub explained : (reason : Reason) → Check (InRooms plate (Asks plate samples w) (Explained reason))
+  abbrev pub explained : (reason : Reason) → Check (InRooms plate (Asks plate samples w) (Ok reason))
   explained reason =
       by (λ p.
-      in-rooms plate (Asks plate samples w) (Explained reason) (why-not-determined plate samples w) (λ metrics decisions m d. (
+      in-rooms plate (Asks plate samples w) (Ok reason) (why-not-determined plate samples w) (λ metrics decisions m d. (
         decode-passes plate samples metrics decisions p.0.given p.0.count p.0.within m d,
         record {
           answer = answer_at p.1.0;

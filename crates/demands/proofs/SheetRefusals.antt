@@ -1,5 +1,7 @@
 -- Demand 1 for a sheet: an input is refused exactly under its conditions in the paper's order, with the first that holds, and a refused input
 -- changes nothing lent. A sheet cannot give number 3, nor 23.
+use Rattle.std.proofs.Common.{Result, Ok, Err}
+use Rattle.sheets.specs.declared.Sheet.{Sheet}
 use lib.ListN.{length}
 use mathlib.Core.Bool.{Bool, true}
 use mathlib.Core.List.{List, [], ◌∷◌, ◌++◌}
@@ -18,8 +20,6 @@ use Rattle.plates.specs.declared.Plate.{Plate}
 use Rattle.plates.specs.declared.Prepared.{Prepared}
 use Rattle.plates.specs.declared.Refusal.{Refusal}
 use Rattle.plates.specs.declared.Refusal.TheVariants.{Length}
-use Rattle.plates.specs.declared.Verdict.{Verdict}
-use Rattle.plates.specs.declared.Verdict.TheVariants as J
 use Rattle.plates.specs.Prepare.{Prepares, RowOver, Wide, mask_beyond, prepare_conditions}
 use Rattle.plates.specs.Refusals.{Passes, Refuses, number}
 use Rattle.reports.specs.declared.Report.{Report}
@@ -31,8 +31,6 @@ use Rattle.reports.specs.Steps.{Opens, OpensAs, report_by}
 use Rattle.sheets.proofs.Ranges.{InRange, accepted, sheet-in-range}
 use Rattle.sheets.proofs.Replies.{sheet-not}
 use Rattle.sheets.specs.declared.Order.{Order}
-use Rattle.sheets.specs.declared.SheetReply.{SheetReply}
-use Rattle.sheets.specs.declared.SheetReply.TheVariants as R
 use Rattle.sheets.specs.Sheet.{Contents, Reading, ReadsSheet, reading, refused, says, sheet_reply, start_of}
 
 -- ---- the numbers, in order
@@ -104,12 +102,12 @@ module _ (s : List ℕ) (c : Contents) (e : reading s ≡ says c) where
 
   -- so the sheet's matrix is refused exactly where its plate is too wide, which is the last condition
   module _ (r : Prepared) (p : Prepares c.n c.kind c.rows c.mask r) where
-    wide_of : (q : Refusal) → r.verdict ≡ J.Refused q → sheet_wide s q
+    wide_of : (q : Refusal) → r.verdict ≡ Err q → sheet_wide s q
     wide_of q h =
         subst (λ (d : Contents). Wide (InCode d.kind d.n d.rows) d.n q) (sym (accepted s c e).1)
         (wide-only q ((prepare-refuses-exactly c.n c.kind c.rows c.mask r p q).0 h))
 
-    of-wide : (q : Refusal) → sheet_wide s q → r.verdict ≡ J.Refused q
+    of-wide : (q : Refusal) → sheet_wide s q → r.verdict ≡ Err q
     of-wide q h =
         (prepare-refuses-exactly c.n c.kind c.rows c.mask r p q).1
         (wide-refuses q (subst (λ (d : Contents). Wide (InCode d.kind d.n d.rows) d.n q) (accepted s c e).1 h))
@@ -118,7 +116,7 @@ module _ (s : List ℕ) (c : Contents) (e : reading s ≡ says c) where
     the_one q (inl x) = x
     the_one q (inr x) = absurd x.1
 
-    exactly : RefusesExactly J.Refused (input_conditions s) r.verdict
+    exactly : RefusesExactly Err (input_conditions s) r.verdict
     exactly q = (
       (λ h. passes_then (sheet_conditions s) (sheet_wide s ∷ []) q (read-passes s c e) (inl (wide_of q h))),
       λ h. of-wide q (the_one q (only_then (sheet_conditions s) (sheet_wide s ∷ []) q (read-passes s c e) h)),
@@ -126,17 +124,17 @@ module _ (s : List ℕ) (c : Contents) (e : reading s ≡ says c) where
 
 -- ---- reading a sheet
 
-module _ (s table : List ℕ) (r : SheetReply) (table' : List ℕ) (p : ReadsSheet s table r table') where
+module _ (s table : List ℕ) (r : Result Sheet Refusal) (table' : List ℕ) (p : ReadsSheet s table r table') where
   -- refused exactly under 15; form of the cover; 1; the first other bad line; 2
-  pub read-sheet-refuses-exactly : RefusesExactly R.Refused (sheet_conditions s) r
+  pub read-sheet-refuses-exactly : RefusesExactly Err (sheet_conditions s) r
   read-sheet-refuses-exactly q = ((λ e. refused-first s q (sheet-not p q e).is), λ h. p.reply ∙ by (reading s) refl h)
     where
-      by : (found : Reading) → reading s ≡ found → Refuses (sheet_conditions s) q → sheet_reply s found ≡ R.Refused q
+      by : (found : Reading) → reading s ≡ found → Refuses (sheet_conditions s) q → sheet_reply s found ≡ Err q
       by (says c) e h = absurd (never_both (sheet_conditions s) (read-passes s c e) q h)
-      by (refused o) e h = ap R.Refused (refuses-once (sheet_conditions s) (sheet-single s) o q (refused-first s o e) h)
+      by (refused o) e h = ap Err (refuses-once (sheet_conditions s) (sheet-single s) o q (refused-first s o e) h)
 
   -- and then the table is as it was
-  pub read-sheet-refused-unchanged : (q : Refusal) → r ≡ R.Refused q → table' ≡ table
+  pub read-sheet-refused-unchanged : (q : Refusal) → r ≡ Err q → table' ≡ table
   read-sheet-refused-unchanged q e = (sheet-not p q e).rows
 
 -- ---- the whole input
@@ -144,7 +142,7 @@ module _ (s table : List ℕ) (r : SheetReply) (table' : List ℕ) (p : ReadsShe
 -- what is refused of an input: the sheet, or its matrix
 abbrev RefusedAs : Reading → Refusal → Type 0
 RefusedAs (refused p) q = p ≡ q
-RefusedAs (says c) q = (r : Prepared) → Prepares c.n c.kind c.rows c.mask r → r.verdict ≡ J.Refused q
+RefusedAs (says c) q = (r : Prepared) → Prepares c.n c.kind c.rows c.mask r → r.verdict ≡ Err q
 
 module _ (s : List ℕ) where
   refused_as : (q : Refusal) → Refuses (input_conditions s) q → (found : Reading) → reading s ≡ found → RefusedAs found q
@@ -152,12 +150,12 @@ module _ (s : List ℕ) where
   refused_as q h (says c) e = λ r p. (exactly s c e r p q).1 h
 
   -- the stage of a report that was just opened
-  stage-refused : (v : Verdict) (report : Report) (plate : Plate) (order : Order) (at : ℕ) (heard : Bool) (blocks : ℕ)
-      → report ≡ report_by v plate order at heard blocks → (q : Refusal) → (report.stage ≡ S.Refused q) ↔ (v ≡ J.Refused q)
-  stage-refused (J.Refused p) report plate order at heard blocks x q =
+  stage-refused : (v : Result (Unit {0}) Refusal) (report : Report) (plate : Plate) (order : Order) (at : ℕ) (heard : Bool) (blocks : ℕ)
+      → report ≡ report_by v plate order at heard blocks → (q : Refusal) → (report.stage ≡ S.Refused q) ↔ (v ≡ Err q)
+  stage-refused (Err p) report plate order at heard blocks x q =
       let y : report.stage ≡ S.Refused p = ap (λ (r : Report). r.stage) x in
-      ((λ h. let z : p ≡ q = cc in ap J.Refused z), λ h. let z : p ≡ q = cc in y ∙ ap S.Refused z)
-  stage-refused J.Accepted report plate order at heard blocks x q =
+      ((λ h. let z : p ≡ q = cc in ap Err z), λ h. let z : p ≡ q = cc in y ∙ ap S.Refused z)
+  stage-refused (Ok _) report plate order at heard blocks x q =
       let y : report.stage ≡ S.PlateLine = ap (λ (r : Report). r.stage) x in
       ((λ h. let z : ◌≡◌ {A = ℕ} 0 1 = cc in absurd (omega arith)), λ h. let z : ◌≡◌ {A = ℕ} 0 1 = cc in absurd (omega arith))
 
@@ -180,16 +178,16 @@ module _ (s : List ℕ) where
   pub input-passed-listed : (report : Report) → Opens s report → Passes (input_conditions s) → report.stage ≡ S.PlateLine
   input-passed-listed report o h = by (reading s) refl o.is
     where
-      accepts : (v : Verdict) → RefusesExactly J.Refused (input_conditions s) v → v ≡ J.Accepted
-      accepts J.Accepted x = refl
-      accepts (J.Refused q) x = absurd (never_both (input_conditions s) h q ((x q).0 refl))
+      accepts : (v : Result (Unit {0}) Refusal) → RefusesExactly Err (input_conditions s) v → v ≡ Ok tt
+      accepts (Ok _) x = refl
+      accepts (Err q) x = absurd (never_both (input_conditions s) h q ((x q).0 refl))
 
       by : (found : Reading) → reading s ≡ found → OpensAs s found report → report.stage ≡ S.PlateLine
       by (refused p) e x = absurd (never_both (input_conditions s) h p (refuses-more (sheet_conditions s) (sheet_wide s ∷ []) p (refused-first s p e)))
       by (says c) e x =
           let v = accepts x.prepared.verdict (exactly s c e x.prepared x.prepares) in
           ap (λ (r : Report). r.stage) x.is
-          ∙ ap (λ (w : Verdict). (report_by w x.prepared.plate c.order (start_of s c) c.heard (length c.blocks)).stage) v
+          ∙ ap (λ (w : Result (Unit {0}) Refusal). (report_by w x.prepared.plate c.order (start_of s c) c.heard (length c.blocks)).stage) v
 
   -- where it is refused it prints one line, its refusal, and nothing more
   pub input-refused-prints : (q : Refusal) → Refuses (input_conditions s) q → (lines : List (List ℕ)) → Reports s lines → lines ≡ line_of_refusal q ∷ []
@@ -197,7 +195,7 @@ module _ (s : List ℕ) where
     where
       by : (found : Reading) → RefusedAs found q → ReportsAs found lines → lines ≡ line_of_refusal q ∷ []
       by (refused p) e x = x ∙ ap (λ (o : Refusal). line_of_refusal o ∷ []) e
-      by (says c) e x = subst (λ (v : Verdict). PreparedReports v x.prepared.plate c lines) (e x.prepared x.prepares) x.is
+      by (says c) e x = subst (λ (v : Result (Unit {0}) Refusal). PreparedReports v x.prepared.plate c lines) (e x.prepared x.prepares) x.is
 
   -- and leaves the working rooms as they were
   pub input-refused-unchanged : (q : Refusal) → Refuses (input_conditions s) q → (before after : Rooms) → ListingLeaves s before after → after ≡ before
@@ -205,7 +203,7 @@ module _ (s : List ℕ) where
     where
       by : (found : Reading) → RefusedAs found q → LeavesAs found before after → after ≡ before
       by (refused p) e x = x
-      by (says c) e x = subst (λ (v : Verdict). PreparedLeaves v x.prepared.plate c.blocks before after) (e x.prepared x.prepares) x.is
+      by (says c) e x = subst (λ (v : Result (Unit {0}) Refusal). PreparedLeaves v x.prepared.plate c.blocks before after) (e x.prepared x.prepares) x.is
 
   -- ---- number 3 cannot come from a sheet
 

@@ -1,4 +1,6 @@
 -- Tests of a sheet: what it says, and its whole listing.
+use Rattle.std.proofs.Common.{Result, Ok}
+use Rattle.plates.specs.declared.Refusal.{Refusal}
 use lib.IntN.{ℤ}
 use mathlib.Core.Bool.{Bool, false, true}
 use mathlib.Core.List.{List, [], map, ◌∷◌}
@@ -6,7 +8,6 @@ use mathlib.Core.Path.{ap, ap₂, refl, subst, sym, ◌∙◌, ◌≡◌}
 use native.Mathlib.Omega.{arith}
 use Prim.Native.Nat.{ℕ}
 use Rattle.decoding.specs.declared.Answer.{Answer}
-use Rattle.decoding.specs.declared.Decoded.TheVariants.{Found}
 use Rattle.demands.proofs.BlocksChecked.{Ready, TestedAnswer, ready, tested, tested-best}
 use Rattle.demands.proofs.Checking.{Check, both, by, equal, list}
 use Rattle.demands.proofs.PlatesChecked.{accepted}
@@ -22,8 +23,6 @@ use Rattle.reports.specs.Report.{BlockAnswer, BlockAnswers, Lists, joined}
 use Rattle.sheets.specs.declared.Order.{Order}
 use Rattle.sheets.specs.declared.Order.TheVariants.{First, Last}
 use Rattle.sheets.specs.declared.Sheet.{Sheet}
-use Rattle.sheets.specs.declared.SheetReply.{SheetReply}
-use Rattle.sheets.specs.declared.SheetReply.TheVariants.{Read}
 use Rattle.sheets.specs.Room.{laid}
 use Rattle.sheets.specs.Sheet.{Contents, Reading, ReadsSheet, reading, refused, says, sheet_at, sheet_reply, start_of, table_after}
 
@@ -75,38 +74,38 @@ same_sheet a b =
 module _ (input : List ℕ) (s : Sheet) (rows : List ℕ) where
   -- a reading that says so
   abbrev pub SaysSo : Reading → Type 0
-  SaysSo r = (sheet_reply input r ≡ Read s) × ((table : List ℕ) → table_after table r ≡ laid rows table)
+  SaysSo r = (sheet_reply input r ≡ Ok s) × ((table : List ℕ) → table_after table r ≡ laid rows table)
 
   -- its test
   abbrev pub says_so : (r : Reading) → Check (SaysSo r)
   says_so (refused q) = never
   says_so (says c) =
-      by (λ p. (ap Read p.0, λ table. ap (λ (x : List ℕ). laid x table) p.1)) (both (same_sheet (sheet_at (start_of input c) c) s) (list c.rows rows))
+      by (λ p. (ap Ok p.0, λ table. ap (λ (x : List ℕ). laid x table) p.1)) (both (same_sheet (sheet_at (start_of input c) c) s) (list c.rows rows))
 
   -- a sheet is read so, and not otherwise
   pub read-so : SaysSo (reading input)
-      → (table : List ℕ) → Exactly (λ (x : SheetReply × List ℕ). ReadsSheet input table x.0 x.1) (Read s, laid rows table)
+      → (table : List ℕ) → Exactly (λ (x : Result Sheet Refusal × List ℕ). ReadsSheet input table x.0 x.1) (Ok s, laid rows table)
   read-so p table r = (
-    (λ x. ap₂ (λ (y : SheetReply) (z : List ℕ). (y, z)) (x.reply ∙ p.0) (x.rows ∙ p.1 table)),
+    (λ x. ap₂ (λ (y : Result Sheet Refusal) (z : List ℕ). (y, z)) (x.reply ∙ p.0) (x.rows ∙ p.1 table)),
     λ e.
-        subst (λ (x : SheetReply × List ℕ). ReadsSheet input table x.0 x.1) (sym e) (record { reply = sym p.0; rows = sym (p.1 table) }),
+        subst (λ (x : Result Sheet Refusal × List ℕ). ReadsSheet input table x.0 x.1) (sym e) (record { reply = sym p.0; rows = sym (p.1 table) }),
   )
 
-  abbrev pub sheet_read : Check ((table : List ℕ) → Exactly (λ (x : SheetReply × List ℕ). ReadsSheet input table x.0 x.1) (Read s, laid rows table))
+  abbrev pub sheet_read : Check ((table : List ℕ) → Exactly (λ (x : Result Sheet Refusal × List ℕ). ReadsSheet input table x.0 x.1) (Ok s, laid rows table))
   sheet_read = by read-so (says_so (reading input))
 
 -- ---- its listing
 
 module _ (plate : Plate) where
   -- the answer for a block
-  pub block-answered : (samples : List ℤ) (a : Answer) → Ready plate samples → TestedAnswer plate samples a → BlockAnswer plate samples (Found a)
+  pub block-answered : (samples : List ℤ) (a : Answer) → Ready plate samples → TestedAnswer plate samples a → BlockAnswer plate samples (Ok a)
   block-answered samples a r p = (
     ((λ q c. c.0 r.count), ((λ q c. omega (arith, c.over, r.within c.position c.there)), tt)),
     tested-best plate samples a r p,
   )
 
   -- those for some blocks
-  abbrev pub blocks_answered : (blocks : List (List ℤ)) (answers : List Answer) → Check (BlockAnswers plate blocks (map Found answers))
+  abbrev pub blocks_answered : (blocks : List (List ℤ)) (answers : List Answer) → Check (BlockAnswers plate blocks (map Ok answers))
   blocks_answered [] [] = record { test = true; law = λ t. tt }
   blocks_answered [] (a ∷ answers) = never
   blocks_answered (samples ∷ blocks) [] = never
@@ -119,8 +118,8 @@ module _ (input : List ℕ) (plate : Plate) (answers : List Answer) (listing : L
     pub sheet : Contents
     pub reads : r ≡ says sheet
     pub prepares : Prepares sheet.n sheet.kind sheet.rows sheet.mask (accepted_with plate)
-    pub blocks : BlockAnswers plate sheet.blocks (map Found answers)
-    pub lines : listing ≡ joined (listing_lines sheet.order plate sheet (map Found answers))
+    pub blocks : BlockAnswers plate sheet.blocks (map Ok answers)
+    pub lines : listing ≡ joined (listing_lines sheet.order plate sheet (map Ok answers))
 
   -- all of it, computed
   abbrev pub tested_listing : (r : Reading) → Check (TestedListing r)
@@ -128,19 +127,19 @@ module _ (input : List ℕ) (plate : Plate) (answers : List Answer) (listing : L
   tested_listing (says c) =
       by (λ p. record { sheet = c; reads = refl; prepares = p.0; blocks = p.1.0; lines = p.1.1 })
       (both (accepted c.n c.kind c.rows c.mask plate)
-      (both (blocks_answered plate c.blocks answers) (list listing (joined (listing_lines c.order plate c (map Found answers))))))
+      (both (blocks_answered plate c.blocks answers) (list listing (joined (listing_lines c.order plate c (map Ok answers))))))
 
   -- these are the answers
-  pub answers-tested : TestedListing (reading input) → Answers input (accepted_with plate) (map Found answers)
+  pub answers-tested : TestedListing (reading input) → Answers input (accepted_with plate) (map Ok answers)
   answers-tested p = record { sheet = p.sheet; reads = p.reads; prepares = p.prepares; accepted = refl; blocks = p.blocks }
 
   -- and this is the listing
   pub listing-tested : TestedListing (reading input) → Lists input listing
   unfolding answers-tested
-  listing-tested p = record { lines = _; reports = answers-listed input (accepted_with plate) (map Found answers) (answers-tested p); bytes = p.lines }
+  listing-tested p = record { lines = _; reports = answers-listed input (accepted_with plate) (map Ok answers) (answers-tested p); bytes = p.lines }
 
   -- and nothing else
-  pub listed-so : TestedListing (reading input) → Answers input (accepted_with plate) (map Found answers) × Exactly (Lists input) listing
+  pub listed-so : TestedListing (reading input) → Answers input (accepted_with plate) (map Ok answers) × Exactly (Lists input) listing
   listed-so p = (
     answers-tested p,
     λ r. (
@@ -149,5 +148,5 @@ module _ (input : List ℕ) (plate : Plate) (answers : List Answer) (listing : L
     ),
   )
 
-  abbrev pub sheet_listed : Check (Answers input (accepted_with plate) (map Found answers) × Exactly (Lists input) listing)
+  abbrev pub sheet_listed : Check (Answers input (accepted_with plate) (map Ok answers) × Exactly (Lists input) listing)
   sheet_listed = by listed-so (tested_listing (reading input))

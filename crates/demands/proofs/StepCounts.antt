@@ -1,4 +1,5 @@
 -- The counts that a call reports, over the trellis of a matrix that preparing accepts: they are what the steps counted, and the paper's formulas.
+use Rattle.std.proofs.Common.{Ok}
 use lib.IntN.{ℤ}
 use lib.ListN.{length}
 use mathlib.Core.List.{List}
@@ -10,13 +11,12 @@ use Rattle.decoding.specs.declared.Counts.{Counts}
 use Rattle.decoding.specs.Totals.{branch_total, doubled_total, entering_less_one, state_total}
 use Rattle.plates.specs.declared.Kind.{Kind}
 use Rattle.plates.specs.declared.Prepared.{Prepared}
-use Rattle.plates.specs.declared.Verdict.TheVariants.{Accepted}
 use Rattle.plates.specs.Prepare.{IsPrepared, Prepares, rows_of}
 use Rattle.trellises.proofs.AcceptedIsPrepared.{accepted-length, accepted-prepared}
 use Rattle.trellises.specs.Branching.{trellis_of}
 use Rattle.trellises.specs.SectionOf.{section_of}
 
-module _ (n : ℕ) (kind : Kind) (rows : List ℕ) (mask : ℕ) (r : Prepared) (p : Prepares n kind rows mask r) (e : r.verdict ≡ Accepted)
+module _ (n : ℕ) (kind : Kind) (rows : List ℕ) (mask : ℕ) (r : Prepared) (p : Prepares n kind rows mask r) (e : r.verdict ≡ Ok tt)
     (samples : List ℤ) (size : length samples ≡ r.plate.n) (k : Counts) (added : k.additions ≡ branch_total (trellis_of r.plate) r.plate.n)
     (compared : k.comparisons ≡ entering_less_one (trellis_of r.plate) r.plate.n) where
   given : IsPrepared r.plate

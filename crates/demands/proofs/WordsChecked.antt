@@ -1,4 +1,6 @@
 -- Tests of the replies of branch, encode and read back.
+use Rattle.std.proofs.Common.{Result, Ok, Err, Option, Some, None}
+use Rattle.plates.specs.declared.Refusal.{Refusal}
 use lib.ListN.{length}
 use mathlib.Core.Logic.{inl, inr, ◌⊎◌}
 use mathlib.Core.Path.{refl, subst}
@@ -6,8 +8,6 @@ use native.Mathlib.Omega.{arith}
 use Prim.Native.Nat.{◌<◌, ◌^◌, ℕ, ◌≤◌}
 use Rattle.coding.proofs.PlateWords.{made-is-word}
 use Rattle.coding.specs.Coding.{Encodes, ReadsBack, word_of}
-use Rattle.coding.specs.declared.Encoded.{Encoded}
-use Rattle.coding.specs.declared.ReadBack.{ReadBack}
 use Rattle.demands.proofs.Checking.{Check, at_most, both, by, each, either, equal, less, some, unequal}
 use Rattle.demands.proofs.CodeWords.{plate_words}
 use Rattle.demands.proofs.PlatesChecked.{is_prepared}
@@ -18,11 +18,7 @@ use Rattle.plates.specs.Prepare.{IsPrepared, IsWord, rows_of}
 use Rattle.plates.specs.Profile.{live_at}
 use Rattle.plates.specs.Refusals.{Passes}
 use Rattle.trellises.specs.Branching.{Branches, branch_conditions, trellis_of}
-use Rattle.trellises.specs.declared.Next.{Next}
 use Rattle.trellises.specs.Graph.{Has, branch_at}
-use Rattle.coding.specs.declared.Encoded.TheVariants as E
-use Rattle.coding.specs.declared.ReadBack.TheVariants as R
-use Rattle.trellises.specs.declared.Next.TheVariants as N
 
 -- ---- branch
 
@@ -60,10 +56,10 @@ module _ (plate : Plate) (depth state bit : ℕ) where
       either (unequal (branch_at (trellis_of plate) depth i).from state) (unequal (branch_at (trellis_of plate) depth i).out bit)))
 
   -- the reply to a branch asked for
-  abbrev pub answered : (r : Next) → Check (Branches plate depth state bit r)
-  answered (N.State next) = by (λ p. (asked-passes p.0, p.1)) (both asked (leading next))
-  answered N.NoBranch = by (λ p. (asked-passes p.0, p.1)) (both asked none_leading)
-  answered (N.Refused q) =
+  abbrev pub answered : (r : Result (Option ℕ) Refusal) → Check (Branches plate depth state bit r)
+  answered (Ok (Some next)) = by (λ p. (asked-passes p.0, p.1)) (both asked (leading next))
+  answered (Ok None) = by (λ p. (asked-passes p.0, p.1)) (both asked none_leading)
+  answered (Err q) =
       by (λ p. inr ((λ x c. c.0 p.0), inl (p.1.0, p.1.1)))
       (both (is_prepared plate)
       (both (either (at_most plate.n depth) (either (at_most (2 ^ live_at (rows_of plate) depth) state) (less 1 bit))) (refusal q NoSuchBranch)))
@@ -71,20 +67,20 @@ module _ (plate : Plate) (depth state bit : ℕ) where
 -- ---- encode
 
 -- the word, or refusal 13
-abbrev pub encoded : (plate : Plate) (information : ℕ) (r : Encoded) → Check (Encodes plate information r)
-encoded plate information (E.Word word) =
+abbrev pub encoded : (plate : Plate) (information : ℕ) (r : Result ℕ Refusal) → Check (Encodes plate information r)
+encoded plate information (Ok word) =
     by (λ p. (((λ q c. c.0 p.0), ((λ q c. omega (arith, c.0, p.1.0)), tt)), p.1.1))
     (both (is_prepared plate) (both (less information (2 ^ plate.k)) (equal word (word_of plate information))))
-encoded plate information (E.Refused q) =
+encoded plate information (Err q) =
     by (λ p. inr ((λ x c. c.0 p.0), inl p.1)) (both (is_prepared plate) (both (at_most (2 ^ plate.k) information) (refusal q InformationBeyond)))
 
 -- ---- read back
 
 -- the information, or refusal 14
-abbrev pub read_back : (plate : Plate) (word : ℕ) (r : ReadBack) → Check (ReadsBack plate word r)
-read_back plate word (R.Information information) =
+abbrev pub read_back : (plate : Plate) (word : ℕ) (r : Result ℕ Refusal) → Check (ReadsBack plate word r)
+read_back plate word (Ok information) =
     by (λ p. (((λ q c. c.0 p.0), ((λ q c. c.0 (subst (IsWord plate) p.1.1 (made-is-word plate information))), tt)), p.1.0, p.1.1))
     (both (is_prepared plate) (both (less information (2 ^ plate.k)) (equal (word_of plate information) word)))
-read_back plate word (R.Refused q) =
+read_back plate word (Err q) =
     by (λ p. inr ((λ x c. c.0 p.0), inl ((λ g. p.1.0 word g refl), p.1.1)))
     (both (is_prepared plate) (both (plate_words plate (λ w. unequal w word)) (refusal q NoCodeword)))

@@ -1,4 +1,10 @@
 -- A zero mask gives all earlier replies (document 02, A11): the promise of each call is the one that it was before plates had masks.
+use Rattle.std.proofs.Common.{Result, Ok, Err, Option, Some, None}
+use Rattle.decoding.specs.declared.Answer.{Answer}
+use Rattle.asking.specs.declared.Reason.{Reason}
+use Rattle.decoding.specs.declared.firmness.Flag.{Flag}
+use Rattle.decoding.specs.declared.apart.Selection.{Selection}
+use Rattle.decoding.specs.declared.apart.Measure.{Measure}
 use lib.IntN.{ℤ}
 use lib.Pow.{pow_pos}
 use mathlib.Core.List.{List, [], ◌∷◌}
@@ -8,18 +14,11 @@ use native.Mathlib.Omega.{arith}
 use Prim.Native.Nat.{ℕ}
 use Rattle.asking.proofs.AskingUnmasked.{why-not-unmasked}
 use Rattle.asking.specs.Asking.{Asks}
-use Rattle.asking.specs.declared.Verdict.{Verdict}
 use Rattle.coding.proofs.ZeroMask.{zero-mask-encodes, zero-mask-reads-back}
 use Rattle.coding.specs.Coding.{Encodes, ReadsBack}
-use Rattle.coding.specs.declared.Encoded.{Encoded}
-use Rattle.coding.specs.declared.ReadBack.{ReadBack}
 use Rattle.coding.specs.Unmasked.{EncodesCodeword, ReadsCodeword}
 use Rattle.decoding.proofs.MaskedDecoding.{decode-unmasked, firmness-unmasked, metric-unmasked, word-unmasked}
 use Rattle.decoding.specs.Apart.{Chooses, Measures}
-use Rattle.decoding.specs.declared.apart.Chosen.{Chosen}
-use Rattle.decoding.specs.declared.apart.Measured.{Measured}
-use Rattle.decoding.specs.declared.Decoded.{Decoded}
-use Rattle.decoding.specs.declared.firmness.Flagged.{Flagged}
 use Rattle.decoding.specs.Decode.{Decodes}
 use Rattle.decoding.specs.Firmness.{TellsFirmness}
 use Rattle.demands.specs.Unmasked.{AsksCodeword, BranchesIn, ChoosesCodeword, DecodesCodeword, JudgesCodeword, MeasuresCodeword}
@@ -30,21 +29,12 @@ use Rattle.plates.specs.declared.Kind.TheVariants.{G}
 use Rattle.plates.specs.declared.Plate.{Plate}
 use Rattle.plates.specs.declared.Prepared.{Prepared}
 use Rattle.plates.specs.declared.Refusal.{Refusal}
-use Rattle.plates.specs.declared.Verdict.TheVariants.{Accepted, Refused}
 use Rattle.plates.specs.Prepare.{IsPrepared, Prepares, PreparesAs, prepare_conditions, rows_of}
 use Rattle.plates.specs.Refusals.{Passes, Refuses}
 use Rattle.trellises.specs.Branching.{Branches, code_trellis, trellis_of}
-use Rattle.trellises.specs.declared.Next.{Next}
 use Rattle.trellises.specs.Graph.{Branch, Graph}
 use Rattle.trellises.specs.Masking.{masked, turned_all}
 use Rattle.words.proofs.Word.{bit-zero}
-use Rattle.asking.specs.declared.Verdict.TheVariants as X
-use Rattle.decoding.specs.declared.apart.Chosen.TheVariants as C
-use Rattle.decoding.specs.declared.apart.Measured.TheVariants as M
-use Rattle.decoding.specs.declared.Decoded.TheVariants as D
-use Rattle.decoding.specs.declared.firmness.Flagged.TheVariants as J
-use Rattle.plates.specs.declared.Verdict as P
-use Rattle.trellises.specs.declared.Next.TheVariants as N
 
 -- ---- prepare
 
@@ -63,11 +53,11 @@ module _ (n : ℕ) (kind : Kind) (rows : List ℕ) where
   with-23 q (inr (a, inr (b, inl c))) = inr (a, inr (b, inl c))
   with-23 q (inr (a, inr (b, inr (c, d)))) = inr (a, inr (b, inr (c, inr ((λ x m. omega (arith, m.0, pow_pos n)), d))))
 
-  reply-unmasked : (v : P.Verdict) (plate : Plate)
+  reply-unmasked : (v : Result (Unit {0}) Refusal) (plate : Plate)
       → PreparesAs (prepare_conditions n kind rows 0) (InCode kind n rows) n 0 plate v
       ↔ PreparesAs (unmasked_conditions n kind rows) (InCode kind n rows) n 0 plate v
-  reply-unmasked (Refused q) plate = ((λ x. (without-23 q x.0, x.1)), λ x. (with-23 q x.0, x.1))
-  reply-unmasked Accepted plate = ((λ x. (short x.0, x.1)), λ x. (long x.0, x.1))
+  reply-unmasked (Err q) plate = ((λ x. (without-23 q x.0, x.1)), λ x. (with-23 q x.0, x.1))
+  reply-unmasked (Ok _) plate = ((λ x. (short x.0, x.1)), λ x. (long x.0, x.1))
     where
       short : Passes (prepare_conditions n kind rows 0) → Passes (unmasked_conditions n kind rows)
       short (a, (b, (c, (m, d)))) = (a, (b, (c, d)))
@@ -95,7 +85,7 @@ module _ (plate : Plate) (none : plate.mask ≡ 0) where
   )
     where
       own : Prepared
-      own = record { verdict = Accepted; plate = plate }
+      own = record { verdict = Ok tt; plate = plate }
 
   -- ---- branch
 
@@ -110,53 +100,53 @@ module _ (plate : Plate) (none : plate.mask ≡ 0) where
       ∙ ap (λ (f : ℕ → List Branch). record { states = (code_trellis plate).states; branches = f })
       (fun_ext (λ t. ap (λ (d : ℕ). turned_all d ((code_trellis plate).branches t)) (bit-zero t) ∙ turned_none ((code_trellis plate).branches t)))
 
-  in_code : (depth state bit : ℕ) (r : Next) → BranchesIn (trellis_of plate) plate depth state bit r ↔ BranchesIn (code_trellis plate) plate depth state bit r
+  in_code : (depth state bit : ℕ) (r : Result (Option ℕ) Refusal) → BranchesIn (trellis_of plate) plate depth state bit r ↔ BranchesIn (code_trellis plate) plate depth state bit r
   in_code depth state bit r = (
     subst (λ (g : Graph). BranchesIn g plate depth state bit r) trellis-zero-mask,
     subst (λ (g : Graph). BranchesIn g plate depth state bit r) (sym trellis-zero-mask),
   )
 
-  pub branch-zero-mask : (depth state bit : ℕ) (r : Next) → Branches plate depth state bit r ↔ BranchesIn (code_trellis plate) plate depth state bit r
-  branch-zero-mask depth state bit (N.State next) = in_code depth state bit (N.State next)
-  branch-zero-mask depth state bit N.NoBranch = in_code depth state bit N.NoBranch
-  branch-zero-mask depth state bit (N.Refused q) = in_code depth state bit (N.Refused q)
+  pub branch-zero-mask : (depth state bit : ℕ) (r : Result (Option ℕ) Refusal) → Branches plate depth state bit r ↔ BranchesIn (code_trellis plate) plate depth state bit r
+  branch-zero-mask depth state bit (Ok (Some next)) = in_code depth state bit (Ok (Some next))
+  branch-zero-mask depth state bit (Ok None) = in_code depth state bit (Ok None)
+  branch-zero-mask depth state bit (Err q) = in_code depth state bit (Err q)
 
   -- ---- encode and read back
 
-  pub encode-zero-mask : (information : ℕ) (r : Encoded) → Encodes plate information r ↔ EncodesCodeword plate information r
+  pub encode-zero-mask : (information : ℕ) (r : Result ℕ Refusal) → Encodes plate information r ↔ EncodesCodeword plate information r
   encode-zero-mask = zero-mask-encodes plate none
 
-  pub read-back-zero-mask : (word : ℕ) (r : ReadBack) → ReadsBack plate word r ↔ ReadsCodeword plate word r
+  pub read-back-zero-mask : (word : ℕ) (r : Result ℕ Refusal) → ReadsBack plate word r ↔ ReadsCodeword plate word r
   read-back-zero-mask = zero-mask-reads-back plate none
 
   -- ---- decode, metric, word, firmness, why not: over the codewords
 
-  pub decode-zero-mask : (samples metrics : List ℤ) (decisions : List ℕ) (metrics' : List ℤ) (decisions' : List ℕ) (r : Decoded)
+  pub decode-zero-mask : (samples metrics : List ℤ) (decisions : List ℕ) (metrics' : List ℤ) (decisions' : List ℕ) (r : Result Answer Refusal)
       → Decodes plate samples metrics decisions metrics' decisions' r ↔ DecodesCodeword plate samples metrics decisions metrics' decisions' r
-  decode-zero-mask samples metrics decisions metrics' decisions' (D.Found a) =
+  decode-zero-mask samples metrics decisions metrics' decisions' (Ok a) =
       let e = decode-unmasked plate none samples a in ((λ x. (x.0, e.0 x.1, x.2)), λ x. (x.0, e.1 x.1, x.2))
-  decode-zero-mask samples metrics decisions metrics' decisions' (D.Refused q) = ((λ x. x), λ x. x)
+  decode-zero-mask samples metrics decisions metrics' decisions' (Err q) = ((λ x. x), λ x. x)
 
-  pub metric-zero-mask : (samples metrics metrics' : List ℤ) (r : Measured)
+  pub metric-zero-mask : (samples metrics metrics' : List ℤ) (r : Result Measure Refusal)
       → Measures plate samples metrics metrics' r ↔ MeasuresCodeword plate samples metrics metrics' r
-  metric-zero-mask samples metrics metrics' (M.Found m) =
+  metric-zero-mask samples metrics metrics' (Ok m) =
       let e = metric-unmasked plate none samples m in ((λ x. (x.0, e.0 x.1, x.2)), λ x. (x.0, e.1 x.1, x.2))
-  metric-zero-mask samples metrics metrics' (M.Refused q) = ((λ x. x), λ x. x)
+  metric-zero-mask samples metrics metrics' (Err q) = ((λ x. x), λ x. x)
 
-  pub word-zero-mask : (samples metrics : List ℤ) (decisions : List ℕ) (metrics' : List ℤ) (decisions' : List ℕ) (r : Chosen)
+  pub word-zero-mask : (samples metrics : List ℤ) (decisions : List ℕ) (metrics' : List ℤ) (decisions' : List ℕ) (r : Result Selection Refusal)
       → Chooses plate samples metrics decisions metrics' decisions' r ↔ ChoosesCodeword plate samples metrics decisions metrics' decisions' r
-  word-zero-mask samples metrics decisions metrics' decisions' (C.Found c) =
+  word-zero-mask samples metrics decisions metrics' decisions' (Ok c) =
       let e = word-unmasked plate none samples c in ((λ x. (x.0, e.0 x.1, x.2)), λ x. (x.0, e.1 x.1, x.2))
-  word-zero-mask samples metrics decisions metrics' decisions' (C.Refused q) = ((λ x. x), λ x. x)
+  word-zero-mask samples metrics decisions metrics' decisions' (Err q) = ((λ x. x), λ x. x)
 
-  pub firmness-zero-mask : (samples : List ℤ) (position : ℕ) (metrics : List ℤ) (decisions : List ℕ) (metrics' : List ℤ) (decisions' : List ℕ) (r : Flagged)
+  pub firmness-zero-mask : (samples : List ℤ) (position : ℕ) (metrics : List ℤ) (decisions : List ℕ) (metrics' : List ℤ) (decisions' : List ℕ) (r : Result Flag Refusal)
       → TellsFirmness plate samples position metrics decisions metrics' decisions' r ↔ JudgesCodeword plate samples position metrics decisions metrics' decisions' r
-  firmness-zero-mask samples position metrics decisions metrics' decisions' (J.Found flag) =
+  firmness-zero-mask samples position metrics decisions metrics' decisions' (Ok flag) =
       let e = firmness-unmasked plate none samples position flag in ((λ x. (x.0, e.0 x.1, x.2)), λ x. (x.0, e.1 x.1, x.2))
-  firmness-zero-mask samples position metrics decisions metrics' decisions' (J.Refused q) = ((λ x. x), λ x. x)
+  firmness-zero-mask samples position metrics decisions metrics' decisions' (Err q) = ((λ x. x), λ x. x)
 
-  pub why-not-zero-mask : (samples : List ℤ) (w : ℕ) (metrics : List ℤ) (decisions : List ℕ) (metrics' : List ℤ) (decisions' : List ℕ) (r : Verdict)
+  pub why-not-zero-mask : (samples : List ℤ) (w : ℕ) (metrics : List ℤ) (decisions : List ℕ) (metrics' : List ℤ) (decisions' : List ℕ) (r : Result Reason Refusal)
       → Asks plate samples w metrics decisions metrics' decisions' r ↔ AsksCodeword plate samples w metrics decisions metrics' decisions' r
-  why-not-zero-mask samples w metrics decisions metrics' decisions' (X.Explained reason) =
+  why-not-zero-mask samples w metrics decisions metrics' decisions' (Ok reason) =
       let e = why-not-unmasked plate none samples w reason in ((λ x. (x.0, e.0 x.1, x.2)), λ x. (x.0, e.1 x.1, x.2))
-  why-not-zero-mask samples w metrics decisions metrics' decisions' (X.Refused q) = ((λ x. x), λ x. x)
+  why-not-zero-mask samples w metrics decisions metrics' decisions' (Err q) = ((λ x. x), λ x. x)

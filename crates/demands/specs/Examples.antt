@@ -1,23 +1,18 @@
 -- The examples that the paper marks P, and those of its sheet with a mask (document 02, A11), as one table: each entry names a call, its
 -- inputs and the reply. One statement says of every entry that a reply meets the promise of its call exactly if it is the one in the table.
 -- Words stand as their characters, position 0 at the left, and lines as their text.
-use Rattle.std.specs.Prelude.{neg_ℤ, pos, ℤ, drop, length, replicate, false, ◌++◌, List, [], map, ◌∷◌, ◌↔◌, ◌≡◌, ◌-◌, ℕ, ◌≤◌}
+use Rattle.std.specs.Prelude.{neg_ℤ, pos, ℤ, drop, length, replicate, false, ◌++◌, List, [], map, ◌∷◌, ◌↔◌, ◌≡◌, ◌-◌, ℕ, ◌≤◌, Result, Ok, Err, Option, Some, None}
 use Rattle.asking.specs.Asking.{Asks}
 use Rattle.asking.specs.declared.Reason.{Reason}
 use Rattle.asking.specs.declared.Reason.TheVariants.{Chosen, ScoresLess, TiesAndLoses}
-use Rattle.asking.specs.declared.Verdict.TheVariants.{Explained}
 use Rattle.coding.specs.Coding.{Encodes, ReadsBack}
-use Rattle.coding.specs.declared.Encoded.{Encoded}
-use Rattle.coding.specs.declared.ReadBack.{ReadBack}
 use Rattle.decoding.specs.declared.Answer.{Answer}
-use Rattle.decoding.specs.declared.Decoded.TheVariants.{Found}
 use Rattle.decoding.specs.declared.firmness.Flag.{Flag}
 use Rattle.decoding.specs.declared.firmness.Reading.TheVariants.{Open}
 use Rattle.decoding.specs.Decode.{Decodes, decision_need, metric_need}
 use Rattle.decoding.specs.Firmness.{TellsFirmness}
 use Rattle.words.specs.Letters.{bytes, word}
 use Rattle.demands.specs.Masks.{with_mask}
-use Rattle.listings.specs.declared.Written.{Written}
 use Rattle.listings.specs.Writing.{WritesEnd, WritesPlate, WritesProfile, WritesWord}
 use Rattle.plates.specs.declared.Kind.{Kind}
 use Rattle.plates.specs.declared.Kind.TheVariants.{G, H}
@@ -25,25 +20,16 @@ use Rattle.plates.specs.declared.Plate.{Plate}
 use Rattle.plates.specs.declared.Prepared.{Prepared}
 use Rattle.plates.specs.declared.Refusal.{Refusal}
 use Rattle.plates.specs.declared.Refusal.TheVariants.{InformationBeyond, Length, MaskBeyond, NoCodeword, NoSuchBranch, RowBeyond}
-use Rattle.plates.specs.declared.Verdict.TheVariants.{Accepted}
 use Rattle.plates.specs.Prepare.{Prepares}
 use Rattle.plates.specs.Replying.{refused_with}
 use Rattle.reports.specs.Answers.{Answers}
 use Rattle.reports.specs.Report.{Lists}
 use Rattle.sheets.specs.declared.Order.TheVariants.{First}
 use Rattle.sheets.specs.declared.Sheet.{Sheet}
-use Rattle.sheets.specs.declared.SheetReply.{SheetReply}
-use Rattle.sheets.specs.declared.SheetReply.TheVariants.{Read}
 use Rattle.sheets.specs.Room.{laid}
 use Rattle.sheets.specs.Sheet.{ReadsSheet}
 use Rattle.trellises.specs.Branching.{Branches}
-use Rattle.trellises.specs.declared.Next.{Next}
 use Rattle.asking.specs.declared.Reason.TheVariants as Y
-use Rattle.coding.specs.declared.Encoded.TheVariants as E
-use Rattle.coding.specs.declared.ReadBack.TheVariants as R
-use Rattle.decoding.specs.declared.firmness.Flagged.TheVariants as J
-use Rattle.trellises.specs.declared.Next.TheVariants as N
-use Rattle.listings.specs.declared.Written.TheVariants as W
 
 -- ---- entries
 
@@ -54,11 +40,11 @@ pub data Example : Type 0 where
   -- prepare refuses: n, kind, rows and mask; the refusal
   refuses : ℕ → Kind → List ℕ → ℕ → Refusal → Example
   -- branch: a plate, depth, state and bit; the reply
-  asks : Plate → ℕ → ℕ → ℕ → Next → Example
+  asks : Plate → ℕ → ℕ → ℕ → Result (Option ℕ) Refusal → Example
   -- encode: a plate and information; the reply
-  encodes : Plate → ℕ → Encoded → Example
+  encodes : Plate → ℕ → Result ℕ Refusal → Example
   -- read back: a plate and a word; the reply
-  reads : Plate → ℕ → ReadBack → Example
+  reads : Plate → ℕ → Result ℕ Refusal → Example
   -- decode, with rooms that are long enough: a plate and samples; the word, its metric and the counts
   decodes : Plate → List ℤ → Answer → Example
   -- firmness, with such rooms: a plate, samples and a position; the flag
@@ -82,9 +68,9 @@ abbrev pub Exactly : {A : Type 0} → (A → Type 0) → A → Type 0
 Exactly {A} Promise reply = (r : A) → Promise r ↔ (r ≡ reply)
 
 -- a line is written into any room that is long enough: its length is returned, and the bytes after it are unchanged
-abbrev pub Writing : (List ℕ → Written → List ℕ → Type 0) → List ℕ → Type 0
+abbrev pub Writing : (List ℕ → Result ℕ Refusal → List ℕ → Type 0) → List ℕ → Type 0
 Writing Promise line = (room : List ℕ) → length line ≤ length room
-    → Exactly (λ (x : Written × List ℕ). Promise room x.0 x.1) (W.Bytes (length line), line ++ drop (length line) room)
+    → Exactly (λ (x : Result ℕ Refusal × List ℕ). Promise room x.0 x.1) (Ok (length line), line ++ drop (length line) room)
 
 -- a call that is lent the two working rooms, with any that are long enough: its reply, and the needed room is zero after it
 abbrev pub InRooms : {R : Type 0} → Plate → (List ℤ → List ℕ → List ℤ → List ℕ → R → Type 0) → R → Type 0
@@ -94,7 +80,7 @@ InRooms {R} plate Promise reply = (metrics : List ℤ) (decisions : List ℕ) �
 
 -- preparing accepts, with this plate
 abbrev pub accepted_with : Plate → Prepared
-accepted_with plate = record { verdict = Accepted; plate = plate }
+accepted_with plate = record { verdict = Ok tt; plate = plate }
 
 -- what an entry says
 abbrev pub Right : Example → Type 0
@@ -103,16 +89,16 @@ Right (refuses n kind rows mask q) = Exactly (Prepares n kind rows mask) (refuse
 Right (asks plate depth state bit reply) = Exactly (Branches plate depth state bit) reply
 Right (encodes plate information reply) = Exactly (Encodes plate information) reply
 Right (reads plate word reply) = Exactly (ReadsBack plate word) reply
-Right (decodes plate samples a) = InRooms plate (Decodes plate samples) (Found a)
-Right (judges plate samples position flag) = InRooms plate (TellsFirmness plate samples position) (J.Found flag)
-Right (explains plate samples w reason) = InRooms plate (Asks plate samples w) (Explained reason)
+Right (decodes plate samples a) = InRooms plate (Decodes plate samples) (Ok a)
+Right (judges plate samples position flag) = InRooms plate (TellsFirmness plate samples position) (Ok flag)
+Right (explains plate samples w reason) = InRooms plate (Asks plate samples w) (Ok reason)
 Right (plate-line plate line) = Writing (WritesPlate plate) line
 Right (profile-line plate line) = Writing (WritesProfile plate) line
 Right (word-line plate a line) = Writing (WritesWord plate a.word a.metric a.counts.additions a.counts.comparisons) line
 Right (end_line blocks line) = Writing (WritesEnd blocks) line
 Right (reads-sheet input s rows) =
-    (table : List ℕ) → Exactly (λ (x : SheetReply × List ℕ). ReadsSheet input table x.0 x.1) (Read s, laid rows table)
-Right (lists input plate answers listing) = Answers input (accepted_with plate) (map Found answers) × Exactly (Lists input) listing
+    (table : List ℕ) → Exactly (λ (x : Result Sheet Refusal × List ℕ). ReadsSheet input table x.0 x.1) (Ok s, laid rows table)
+Right (lists input plate answers listing) = Answers input (accepted_with plate) (map Ok answers) × Exactly (Lists input) listing
 
 -- every entry is right
 abbrev pub AllRight : List Example → Type 0
@@ -224,21 +210,21 @@ sheet =
 -- its branches
 abbrev pub branches : List Example
 branches =
-    asks sheet_plate 4 1 0 (N.State 5)
-    ∷ asks sheet_plate 4 1 1 (N.State 1)
-    ∷ asks sheet_plate 3 1 1 (N.State 0)
-    ∷ asks sheet_plate 3 1 0 N.NoBranch
-    ∷ asks sheet_plate 3 6 0 (N.State 3)
-    ∷ asks sheet_plate 4 4 0 (N.Refused NoSuchBranch)
-    ∷ asks sheet_plate 4 4 1 (N.Refused NoSuchBranch)
+    asks sheet_plate 4 1 0 (Ok (Some 5))
+    ∷ asks sheet_plate 4 1 1 (Ok (Some 1))
+    ∷ asks sheet_plate 3 1 1 (Ok (Some 0))
+    ∷ asks sheet_plate 3 1 0 (Ok None)
+    ∷ asks sheet_plate 3 6 0 (Ok (Some 3))
+    ∷ asks sheet_plate 4 4 0 (Err NoSuchBranch)
+    ∷ asks sheet_plate 4 4 1 (Err NoSuchBranch)
     ∷ []
 
 -- information 9 encodes to 11111111, 16 is refusal 13, and 11010010 read back is 14
 abbrev pub words : List Example
 words =
-    encodes sheet_plate 9 (E.Word (word "11111111"))
-    ∷ encodes sheet_plate 16 (E.Refused InformationBeyond)
-    ∷ reads sheet_plate (word "11010010") (R.Refused NoCodeword)
+    encodes sheet_plate 9 (Ok (word "11111111"))
+    ∷ encodes sheet_plate 16 (Err InformationBeyond)
+    ∷ reads sheet_plate (word "11010010") (Err NoCodeword)
     ∷ []
 
 -- n=8, a row of 256: refusal 3, place 0; n=0 and n=65: 1
@@ -287,21 +273,21 @@ masked_sheet =
 -- its branches at depths 0 and 7, where the mask has ones, have the other bit than without it; one at depth 4 has the same
 abbrev pub masked_branches : List Example
 masked_branches =
-    asks masked_plate 0 0 0 (N.State 1)
-    ∷ asks masked_plate 0 0 1 (N.State 0)
-    ∷ asks masked_plate 7 0 1 (N.State 0)
-    ∷ asks masked_plate 7 0 0 N.NoBranch
-    ∷ asks masked_plate 7 1 0 (N.State 0)
-    ∷ asks masked_plate 7 1 1 N.NoBranch
-    ∷ asks masked_plate 4 1 0 (N.State 5)
+    asks masked_plate 0 0 0 (Ok (Some 1))
+    ∷ asks masked_plate 0 0 1 (Ok (Some 0))
+    ∷ asks masked_plate 7 0 1 (Ok (Some 0))
+    ∷ asks masked_plate 7 0 0 (Ok None)
+    ∷ asks masked_plate 7 1 0 (Ok (Some 0))
+    ∷ asks masked_plate 7 1 1 (Ok None)
+    ∷ asks masked_plate 4 1 0 (Ok (Some 5))
     ∷ []
 
 -- information 9 encodes to a word that is read back as 9; the word of the plate without the mask read back is 14
 abbrev pub masked_words : List Example
 masked_words =
-    encodes masked_plate 9 (E.Word (word "01111110"))
-    ∷ reads masked_plate (word "01111110") (R.Information 9)
-    ∷ reads masked_plate (word "11111111") (R.Refused NoCodeword)
+    encodes masked_plate 9 (Ok (word "01111110"))
+    ∷ reads masked_plate (word "01111110") (Ok 9)
+    ∷ reads masked_plate (word "11111111") (Err NoCodeword)
     ∷ []
 
 -- no word of the plate begins so at position 3; the word chosen, and the same with a one at position 8 besides; one that scores less by 4; of the

@@ -1,7 +1,5 @@
 -- What demand 1 says of a call: it refuses exactly under its conditions, and these have the paper's numbers in order.
-use Rattle.std.specs.Prelude.{List, [], ◌∷◌, ◌↔◌, ◌≡◌, ℕ}
-use Rattle.listings.specs.declared.Written.{Written}
-use Rattle.listings.specs.declared.Written.TheVariants.{Refused}
+use Rattle.std.specs.Prelude.{List, [], ◌∷◌, ◌↔◌, ◌≡◌, ℕ, Result, Err}
 use Rattle.plates.specs.declared.Refusal.{Refusal}
 use Rattle.plates.specs.Refusals.{Refuses, number}
 
@@ -17,5 +15,5 @@ Numbered (c ∷ cs) [] = ⊥
 Numbered (c ∷ cs) (i ∷ is) = ((q : Refusal) → c q → number q ≡ i) × Numbered cs is
 
 -- what is said of a call that writes: refused exactly under the conditions, and then the room is as it was
-abbrev pub WriteRefuses : List (Refusal → Type 0) → List ℕ → Written → List ℕ → Type 0
-WriteRefuses conditions room r room' = RefusesExactly Refused conditions r × ((q : Refusal) → r ≡ Refused q → room' ≡ room)
+abbrev pub WriteRefuses : List (Refusal → Type 0) → List ℕ → Result ℕ Refusal → List ℕ → Type 0
+WriteRefuses conditions room r room' = RefusesExactly Err conditions r × ((q : Refusal) → r ≡ Err q → room' ≡ room)

@@ -1,7 +1,7 @@
 -- What the theorems of some requests say, where that is more than a line.
-use Rattle.std.specs.Prelude.{ℤ, length, ◌++◌, List, [], ◌∷◌, ◌≡◌, ◌+◌, ℕ}
+use Rattle.plates.specs.declared.Refusal.{Refusal}
+use Rattle.std.specs.Prelude.{ℤ, length, ◌++◌, List, [], ◌∷◌, ◌≡◌, ◌+◌, ℕ, Result}
 use Rattle.decoding.specs.declared.Answer.{Answer}
-use Rattle.decoding.specs.declared.Decoded.{Decoded}
 use Rattle.decoding.specs.Metric.{metric_of}
 use Rattle.listings.specs.Lines.{line_of_end, tally_line}
 use Rattle.plates.specs.declared.Plate.{Plate}
@@ -24,7 +24,7 @@ pub record AsGood (plate : Plate) (samples : List ℤ) (a : Answer) (position b 
 
 -- what a listing of heard lines ends with: the tally of its lines, and the number that `end` prints
 pub record TallyTold (sheet : Contents) (plate : Plate) (lines : List (List ℕ)) : Type 0 where
-  pub replies : List Decoded
+  pub replies : List (Result Answer Refusal)
   pub answered : BlockAnswers plate sheet.blocks replies
   pub before : List (List ℕ)
   pub are : let heards = heards_of sheet.counters sheet.blocks replies in
