@@ -1,26 +1,24 @@
 -- Lines handed over in turn.
+use Rattle.std.proofs.Common.{Ok, Result}
 use lib.IntN.{ℤ}
 use lib.ListN.{drop, get_or, length, length-append, take}
 use lib.Seq.{ext_get_or, get_or-append_seam, length-take-le, split_at}
-use mathlib.Core.Bool.{Bool, cond, false, true}
 use mathlib.Core.List.{List, [], ◌∷◌, ◌++◌, append_assoc}
 use mathlib.Core.Path.{◌≡◌, ap, refl, subst, sym, ◌∙◌}
 use native.Mathlib.Omega.{arith}
 use Prim.Native.Nat.{◌+◌, ◌-◌, ◌<◌, ◌^◌, suc, ℕ}
+use Rattle.plates.specs.declared.Refusal.{Refusal}
 use Rattle.programs.specs.declared.listing.Turn.{Turn}
-use Rattle.programs.specs.declared.writer.Handed.{Handed}
+use Rattle.programs.specs.declared.listing.Turn.TheVariants.{Line, Whole}
 use Rattle.programs.specs.declared.writer.Sent.{Sent}
-use Rattle.programs.specs.Printing.{AllLines, Before, Given, Going, Hands, InPlace, IsLine, OneMore, Prints}
+use Rattle.programs.specs.Printing.{AllLines, Before, Given, Hands, InPlace, IsLine, OneMore, Prints, PrintsAs}
 use Rattle.reports.proofs.LinesInTurn.{lines-in-turn, turns-before, turns-determined}
-use Rattle.reports.specs.declared.Outcome.TheVariants as O
 use Rattle.reports.specs.declared.Report.{Report}
 use Rattle.reports.specs.declared.Step.{Step}
 use Rattle.reports.specs.Report.{Reports}
 use Rattle.reports.specs.Steps.{Lent, Opens, Steps, lends}
 use Rattle.reports.specs.Turns.{Enough, Turns}
-
-pub no_truth : {A : Type 0} → false ≡ true → A
-no_truth e = let z : ◌≡◌ {A = ℕ} 0 1 = cc in absurd (omega arith)
+use Rattle.std.specs.Prelude.{IfSome, None, Option, Some}
 
 -- one line more at the end
 snoc : (input : List ℕ) (lines : List (List ℕ)) (line : List ℕ) (first now last : Report) → Turns input first lines now → Turns input now (line ∷ []) last
@@ -87,19 +85,11 @@ all_lines input lines report g n r = record {
 
 -- ---- before the first line
 
-pub none_yet : {input : List ℕ} {report : Report} {count : ℕ} → count ≡ 0 → Opens input report → Before input count report
-none_yet {input} {report} e o = record { lines = []; counted = sym e; given = record { first = report; opens = o; turns = refl } }
-
--- rooms of the same lengths are still enough
-pub enough-still : {metrics metrics' : List ℤ} {decisions decisions' room room' : List ℕ} → Enough (lends metrics decisions room) → length metrics' ≡ length metrics
-    → length decisions' ≡ length decisions → length room' ≡ length room → Enough (lends metrics' decisions' room')
-enough-still e m d r = record { room = omega (arith, e.room, r); metrics = omega (arith, e.metrics, m); decisions = omega (arith, e.decisions, d) }
-
 -- ---- one call of `next_line`
 
 module _ {report : Report} {input : List ℕ} {lent left : Lent} {step : Step} {count : ℕ} (rooms : Enough lent) (b : Before input count report)
     (s : Steps report input lent step left) where
-  given-more : {size : ℕ} → step.outcome ≡ O.Line size → Given input (b.lines ++ take size left.room ∷ []) step.next
+  given-more : {size : ℕ} → step.outcome ≡ Ok (Some size) → Given input (b.lines ++ take size left.room ∷ []) step.next
   given-more {size} e = record {
     first = b.given.first;
     opens = b.given.opens;
@@ -117,11 +107,11 @@ module _ {report : Report} {input : List ℕ} {lent left : Lent} {step : Step} {
   }
 
   -- the line that it gave is the next
-  pub is-line : {size : ℕ} → step.outcome ≡ O.Line size → IsLine input count (take size left.room)
+  pub is-line : {size : ℕ} → step.outcome ≡ Ok (Some size) → IsLine input count (take size left.room)
   is-line e = record { lines = b.lines; counted = b.counted; next = step.next; given = given-more e }
 
   -- and its report stands after one line more
-  pub one-line-more : {size : ℕ} → step.outcome ≡ O.Line size → Before input (count + 1) step.next
+  pub one-line-more : {size : ℕ} → step.outcome ≡ Ok (Some size) → Before input (count + 1) step.next
   one-line-more {size} e = record {
     lines = b.lines ++ take size left.room ∷ [];
     counted = omega (arith, length-append b.lines (take size left.room ∷ []), b.counted);
@@ -129,62 +119,29 @@ module _ {report : Report} {input : List ℕ} {lent left : Lent} {step : Step} {
   }
 
   -- where nothing was left, all were handed over
-  pub none_left : (sent : Sent) → sent.lines ≡ count → step.outcome ≡ O.Nothing
-      → Prints input sent (record { goes_on = false; whole = true; sent = sent; next = step.next })
+  pub none_left : (sent : Sent) → sent.lines ≡ count → step.outcome ≡ Ok None
+      → Prints input sent (Some Whole)
   none_left sent k e = record {
-    one_more = λ h. no_truth h;
-    going = record {
-      more = λ h. no_truth h;
-      all = λ h. all_lines input b.lines report b.given (b.counted ∙ sym k)
-          (lines-in-turn input b.given.first b.given.opens b.lines report b.given.turns lent left step rooms s e);
-    };
+    is = all_lines input b.lines report b.given (b.counted ∙ sym k)
+        (lines-in-turn input b.given.first b.given.opens b.lines report b.given.turns lent left step rooms s e);
   }
 
--- a turn that ends without its line says nothing
-pub cut_short : {input : List ℕ} {sent : Sent} {next : Report} → Prints input sent (record { goes_on = false; whole = false; sent = sent; next = next })
-cut_short = record { one_more = λ h. no_truth h; going = record { more = λ h. no_truth h; all = λ h. no_truth h } }
+-- what a step came to, by what its reply holds
+pub outcome-of : {r : Result (Option ℕ) Refusal} {a b : Option ℕ} → r ≡ Ok a → a ≡ b → r ≡ Ok b
+outcome-of e f = e ∙ ap (λ (x : Option ℕ). Ok x) f
 
--- a line that was handed over
-pub handed-over : {input : List ℕ} {sent : Sent} {r : Handed} {next : Report} → Before input (sent.lines + 1) next → Hands sent r
-    → Prints input sent (record { goes_on = r.taken; whole = false; sent = r.sent; next = next })
-handed-over {input} {sent} {r} {next} b h = record {
-  one_more = h.one_more;
-  going = record {
-    more = λ e. subst (λ (k : ℕ). Before input k next) (sym (h.one_more e).is) b;
-    all = λ e. no_truth e;
-  };
-}
+-- a turn that ends without its line says nothing
+pub cut_short : {input : List ℕ} {sent : Sent} → Prints input sent None
+cut_short = record { is = tt }
 
 -- ---- the writer
 
-pub not_taken : {sent : Sent} → Hands sent (record { taken = false; sent = sent })
-not_taken = record { one_more = λ h. no_truth h }
+pub one-more : {sent after : Sent} {r : Option Sent} → Hands sent r → r ≡ Some after → OneMore sent after
+one-more {sent} h e = subst (λ (o : Option Sent). IfSome o (OneMore sent)) e h.one_more
 
-pub one-taken : {sent : Sent} → sent.lines < 18446744073709551615 → Hands sent (record { taken = true; sent = record { lines = sent.lines + 1 } })
-one-taken l = record { one_more = λ h. record { is = refl; below = l } }
-
--- ---- turn after turn
-
--- at first nothing is handed over
-pub going-first : {input : List ℕ} {report : Report} {sent : Sent} → sent.lines ≡ 0 → Opens input report → Going input report sent true false
-going-first e o = record { more = λ h. none_yet e o; all = λ h. no_truth h }
-
-pub going_before : {input : List ℕ} {report : Report} {sent : Sent} {goes-on whole : Bool} → Going input report sent goes-on whole → goes-on ≡ true
-    → Before input sent.lines report
-going_before g h = g.more h
-
--- how many turns may still come
-abbrev pub turns_left : Bool → ℕ → ℕ
-turns_left goes-on lines = cond goes-on (suc (2 ^ 64 - lines)) 0
-
-fewer-by : (sent after : Sent) (goes-on : Bool) → (goes-on ≡ true → OneMore sent after) → turns_left goes-on after.lines < suc (2 ^ 64 - sent.lines)
-fewer-by sent after true m = let h = m refl in omega (arith, h.is, h.below)
-fewer-by sent after false m = omega arith
-
-pub turns-fewer : {input : List ℕ} {sent : Sent} {r : Turn} {goes-on : Bool} → goes-on ≡ true → Prints input sent r
-    → turns_left r.goes_on r.sent.lines < turns_left goes-on sent.lines
-turns-fewer {input} {sent} {r} h p =
-    subst (λ (b : Bool). turns_left r.goes_on r.sent.lines < turns_left b sent.lines) (sym h) (fewer-by sent r.sent r.goes_on p.one_more)
-
-pub going_on : {input : List ℕ} {sent : Sent} {r : Turn} → Prints input sent r → Going input r.next r.sent r.goes_on r.whole
-going_on p = p.going
+-- a line that was handed over
+pub handed-over : {input : List ℕ} {sent after : Sent} {r : Option Sent} {next : Report} → Before input (sent.lines + 1) next → Hands sent r → r ≡ Some after
+    → Prints input sent (Some (Line after next))
+handed-over {input} {next = next} b h e =
+    let o = one-more h e in
+    record { is = (o, subst (λ (k : ℕ). Before input k next) (sym o.is) b) }

@@ -1,7 +1,8 @@
 -- How a run ends, by what was printed and the stage at which its report began.
+use Rattle.std.proofs.Common.{Result, Ok, Err}
 use lib.IntN.{pos, ℤ}
 use lib.ListN.{length}
-use mathlib.Core.Bool.{Bool, true}
+use mathlib.Core.Bool.{Bool}
 use mathlib.Core.List.{List, [], ◌∷◌}
 use mathlib.Core.Path.{◌≡◌, ap, refl, subst, sym, ◌∙◌}
 use mir.Syntax.{w32}
@@ -9,15 +10,15 @@ use mir.Val.{of_z, to_z}
 use native.Mathlib.Omega.{arith}
 use Prim.Native.Nat.{ℕ}
 use Rattle.plates.specs.declared.Refusal.{Refusal}
-use Rattle.plates.specs.declared.Verdict.{Verdict}
-use Rattle.plates.specs.declared.Verdict.TheVariants as J
 use Rattle.programs.specs.declared.endings.Ending.{Ending}
 use Rattle.programs.specs.declared.endings.Ending.TheVariants.{Listed, Refused, Unwritten}
-use Rattle.programs.specs.declared.listing.Printed.{Printed}
+use Rattle.programs.specs.declared.listing.Turn.{Turn}
+use Rattle.programs.specs.declared.listing.Turn.TheVariants.{Whole}
+use Rattle.std.specs.Prelude.{IfSome, Option, Some}
 use Rattle.programs.specs.declared.writer.Sent.{Sent}
 use Rattle.programs.specs.Ending.{Ends, EndsAs, IsStatus, PrintsAll, ending_of, status_of}
 use Rattle.programs.specs.Input.{StandsFor}
-use Rattle.programs.specs.Printing.{AllLines, Going}
+use Rattle.programs.specs.Printing.{AllLines, Prints, PrintsAs}
 use Rattle.programs.proofs.Inputs.{reads_same}
 use Rattle.reports.proofs.ReportDetermined.{report-determined}
 use Rattle.reports.specs.declared.Report.{Report}
@@ -56,12 +57,12 @@ module _ (read whole : List ℕ) (same : reading whole ≡ reading read) (sent :
       (all-over, omega (arith, e, a.counted), over r)
 
   sheet-ends : (c : Contents) → reading read ≡ says c → (report : Report)
-      (x : OpensSheet c.n c.kind c.rows c.mask c.order (start_of read c) c.heard (length c.blocks) report) (v : Verdict)
+      (x : OpensSheet c.n c.kind c.rows c.mask c.order (start_of read c) c.heard (length c.blocks) report) (v : Result (Unit {0}) Refusal)
       → x.prepared.verdict ≡ v
       → EndsAs read whole (ending_of (report_by v x.prepared.plate c.order (start_of read c) c.heard (length c.blocks)).stage sent)
-  sheet-ends c e report x (J.Refused q) f =
+  sheet-ends c e report x (Err q) f =
       refused-ends q (record { is = subst (λ (y : Reading). ReportsAs y (line_of_refusal q ∷ [])) (sym e) (record { prepared = x.prepared; prepares = x.prepares; is = rw f refl }) })
-  sheet-ends c e report x J.Accepted f =
+  sheet-ends c e report x (Ok _) f =
       (all-over, record { sheet = c; reads = same ∙ e; prepared = x.prepared; prepares = x.prepares; accepted = f })
 
   opened-ends : (found : Reading) → reading read ≡ found → (report : Report) → OpensAs read found report → EndsAs read whole (ending_of report.stage sent)
@@ -71,16 +72,14 @@ module _ (read whole : List ℕ) (same : reading whole ≡ reading read) (sent :
   opened-ends (says c) e report x =
       subst (λ (r : Report). EndsAs read whole (ending_of r.stage sent)) (sym x.is) (sheet-ends c e report x x.prepared.verdict refl)
 
-pub printed-all : {input : List ℕ} {report : Report} {sent : Sent} {goes_on whole : Bool} → Going input report sent goes_on whole
-    → PrintsAll input (record { whole = whole; sent = sent })
-printed-all g = record { all = g.all }
-
 -- what printing said and the first stage tell the ending
-pub all-taken : {ended : Bool} {read : List ℕ} {report : Report} {r : Printed} {e : Ending} → StandsFor ended read → Opens read report → PrintsAll read r
-    → r.whole ≡ true → e ≡ ending_of report.stage r.sent → Ends ended read e
-all-taken {ended} {read} {report} {r} {e} s o p h k = record {
-  is = λ whole w. subst (EndsAs read whole) (sym k) (opened-ends read whole (reads_same s w) r.sent (p.all h) (reading read) refl report o.is);
-}
+pub all-taken : {ended : Bool} {read : List ℕ} {report : Report} {r : Option Sent} {sent : Sent} {e : Ending} → StandsFor ended read → Opens read report
+    → PrintsAll read r → r ≡ Some sent → e ≡ ending_of report.stage sent → Ends ended read e
+all-taken {ended} {read} {report} {r} {sent} {e} s o p h k =
+    let all : AllLines read read sent.lines = subst (λ (x : Option Sent). IfSome x (λ (y : Sent). AllLines read read y.lines)) h p.all in
+    record {
+      is = λ whole w. subst (EndsAs read whole) (sym k) (opened-ends read whole (reads_same s w) sent all (reading read) refl report o.is);
+    }
 
 pub not-all-taken : {ended : Bool} {read : List ℕ} → Ends ended read Unwritten
 not-all-taken = record { is = λ whole w. tt }

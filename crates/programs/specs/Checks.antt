@@ -1,6 +1,5 @@
 -- What the verbs alist and from-alist print, and how they end.
-use Rattle.std.specs.Prelude.{List, ◌≡◌, ℕ}
-use Rattle.listings.specs.declared.Written.{Written}
+use Rattle.std.specs.Prelude.{List, ◌≡◌, ℕ, Result}
 use Rattle.outlines.specs.AlistText.{LacksAlist, PrintsAlist, PrintsFromAlist, WritesAlistOf, WritesFromAlist, matrix_in, not_given}
 use Rattle.plates.specs.declared.Refusal.{Refusal}
 use Rattle.programs.specs.declared.endings.Ending.{Ending}
@@ -17,11 +16,11 @@ pub record IsChecks (what : Checks) (input text : List ℕ) : Type 0 where
   pub is : IsChecksAs what input text
 
 -- the promise of the call that writes it
-abbrev pub WritesChecksAs : Checks → List ℕ → List ℕ → Written → List ℕ → Type 0
+abbrev pub WritesChecksAs : Checks → List ℕ → List ℕ → Result ℕ Refusal → List ℕ → Type 0
 WritesChecksAs Alist = WritesAlistOf
 WritesChecksAs FromAlist = WritesFromAlist
 
-pub record WritesChecks (what : Checks) (input room : List ℕ) (r : Written) (room' : List ℕ) : Type 0 where
+pub record WritesChecks (what : Checks) (input room : List ℕ) (r : Result ℕ Refusal) (room' : List ℕ) : Type 0 where
   pub is : WritesChecksAs what input room r room'
 
 -- why there is no such text

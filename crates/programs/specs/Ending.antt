@@ -1,11 +1,9 @@
 -- How a run ends: what was handed over, and the exit status.
-use Rattle.std.specs.Prelude.{pos, ℤ, Bool, true, List, [], ◌∷◌, ◌≡◌, ℕ}
+use Rattle.std.specs.Prelude.{IfSome, Option, pos, ℤ, Bool, List, [], ◌∷◌, ◌≡◌, ℕ, Ok}
 use Rattle.plates.specs.declared.Prepared.{Prepared}
-use Rattle.plates.specs.declared.Verdict.TheVariants as J
 use Rattle.plates.specs.Prepare.{Prepares}
 use Rattle.programs.specs.declared.endings.Ending.{Ending}
 use Rattle.programs.specs.declared.endings.Ending.TheVariants.{Listed, Refused, Unwritten}
-use Rattle.programs.specs.declared.listing.Printed.{Printed}
 use Rattle.programs.specs.declared.writer.Sent.{Sent}
 use Rattle.programs.specs.Input.{Whole}
 use Rattle.programs.specs.Printing.{AllLines}
@@ -35,8 +33,8 @@ ending_of S.EndLine sent = Listed sent
 ending_of S.Done sent = Listed sent
 
 -- what printing says: all lines of what was read were taken, or not
-pub record PrintsAll (read : List ℕ) (r : Printed) : Type 0 where
-  pub all : r.whole ≡ true → AllLines read read r.sent.lines
+pub record PrintsAll (read : List ℕ) (r : Option Sent) : Type 0 where
+  pub all : IfSome r (λ sent. AllLines read read sent.lines)
 
 -- a sheet that is not refused: it is read, and its matrix is accepted with its mask
 pub record Accepts (whole : List ℕ) : Type 0 where
@@ -44,7 +42,7 @@ pub record Accepts (whole : List ℕ) : Type 0 where
   pub reads : reading whole ≡ says sheet
   pub prepared : Prepared
   pub prepares : Prepares sheet.n sheet.kind sheet.rows sheet.mask prepared
-  pub accepted : prepared.verdict ≡ J.Accepted
+  pub accepted : prepared.verdict ≡ Ok tt
 
 -- the lines that were taken of what was read are all lines of the whole input's listing, or its one line where the sheet is refused
 abbrev pub EndsAs : List ℕ → List ℕ → Ending → Type 0

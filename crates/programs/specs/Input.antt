@@ -6,9 +6,9 @@ use Rattle.programs.specs.declared.streams.Got.{Got}
 abbrev pub IsPrefixLen : ℕ → List ℕ → Type 0
 IsPrefixLen n xs = (n ≤ length xs) × (n ≡ length (take n xs))
 
--- reading that stopped neither at the end of the input nor because a read failed filled the room
+-- reading that did not stop at the end of the input filled the room
 pub record Stopped (got : Got) (room : List ℕ) : Type 0 where
-  pub full : got.failed ≡ false → got.ended ≡ false → got.size ≡ length room
+  pub full : got.ended ≡ false → got.size ≡ length room
 
 -- what was read is all of the input, or is already longer than a sheet may be
 pub record StandsFor (ended : Bool) (read : List ℕ) : Type 0 where

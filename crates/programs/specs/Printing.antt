@@ -1,7 +1,7 @@
 -- What trellis hands to its writer, line by line.
-use Rattle.std.specs.Prelude.{get_or, length, Bool, true, List, [], ◌∷◌, ◌++◌, ◌≡◌, ◌+◌, ◌<◌, ℕ}
+use Rattle.std.specs.Prelude.{IfSome, Option, get_or, length, List, [], ◌∷◌, ◌++◌, ◌≡◌, ◌+◌, ◌<◌, ℕ}
 use Rattle.programs.specs.declared.listing.Turn.{Turn}
-use Rattle.programs.specs.declared.writer.Handed.{Handed}
+use Rattle.programs.specs.declared.listing.Turn.TheVariants.{Line, Whole}
 use Rattle.programs.specs.declared.writer.Sent.{Sent}
 use Rattle.reports.specs.declared.Report.{Report}
 use Rattle.reports.specs.Report.{Reports}
@@ -45,15 +45,13 @@ pub record OneMore (sent after : Sent) : Type 0 where
   pub below : sent.lines < 18446744073709551615
 
 -- the writer counts a line exactly where it was taken
-pub record Hands (sent : Sent) (r : Handed) : Type 0 where
-  pub one_more : r.taken ≡ true → OneMore sent r.sent
+pub record Hands (sent : Sent) (r : Option Sent) : Type 0 where
+  pub one_more : IfSome r (OneMore sent)
 
--- between two turns: where they go on, as many lines were given as were taken; where none was left, all were
-pub record Going (input : List ℕ) (report : Report) (sent : Sent) (goes_on whole : Bool) : Type 0 where
-  pub more : goes_on ≡ true → Before input sent.lines report
-  pub all : whole ≡ true → AllLines input input sent.lines
+-- what one turn does: where a line was taken, as many lines were given as were taken; where none was left, all were
+abbrev pub PrintsAs : List ℕ → Sent → Turn → Type 0
+PrintsAs input sent (Line after next) = OneMore sent after × Before input after.lines next
+PrintsAs input sent Whole = AllLines input input sent.lines
 
--- what one turn does
-pub record Prints (input : List ℕ) (sent : Sent) (r : Turn) : Type 0 where
-  pub one_more : r.goes_on ≡ true → OneMore sent r.sent
-  pub going : Going input r.next r.sent r.goes_on r.whole
+pub record Prints (input : List ℕ) (sent : Sent) (r : Option Turn) : Type 0 where
+  pub is : IfSome r (PrintsAs input sent)

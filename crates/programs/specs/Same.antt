@@ -1,5 +1,5 @@
 -- What the verb same prints, and how it ends.
-use Rattle.std.specs.Prelude.{pos, ℤ, Bool, false, true, List, ◌≡◌, ℕ}
+use Rattle.std.specs.Prelude.{pos, ℤ, Bool, false, true, List, ◌≡◌, ℕ, Ok, Err}
 use Rattle.outlines.specs.Comparing.{PrintsTold}
 use Rattle.outlines.specs.declared.comparing.Told.{Told}
 use Rattle.outlines.specs.declared.comparing.Told.TheVariants.{First, Lengths, Mirrored, Same, Second}
@@ -8,7 +8,6 @@ use Rattle.outlines.specs.declared.opening.Which.TheVariants.{Own}
 use Rattle.outlines.specs.Opening.{Opened}
 use Rattle.plates.specs.declared.Prepared.{Prepared}
 use Rattle.plates.specs.declared.Refusal.{Refusal}
-use Rattle.plates.specs.declared.Verdict.TheVariants as J
 use Rattle.programs.specs.declared.comparing.Outcome.{Outcome}
 use Rattle.programs.specs.declared.comparing.Outcome.TheVariants as O
 use Rattle.programs.specs.Ending.{status_of}
@@ -32,17 +31,18 @@ pub record IsTold (same : Bool) (first second text : List ℕ) : Type 0 where
 pub record PlateRefused (which : Which) (input : List ℕ) (q : Refusal) : Type 0 where
   pub prepared : Prepared
   pub opened : Opened which input prepared
-  pub refused : prepared.verdict ≡ J.Refused q
+  pub refused : prepared.verdict ≡ Err q
 
 -- an input that is not refused
 pub record IsAccepted (input : List ℕ) : Type 0 where
   pub prepared : Prepared
   pub opened : Opened Own input prepared
-  pub accepted : prepared.verdict ≡ J.Accepted
+  pub accepted : prepared.verdict ≡ Ok tt
 
 -- the line was taken at once; or that of the first input's refusal, else of the second's, as a refusal's is; or not all was taken
 abbrev pub SaysSameAs : List ℕ → List ℕ → Outcome → Type 0
-SaysSameAs first second (O.Told same sent) = (sent.lines ≡ 1) × ((text : List ℕ) × IsTold same first second text)
+SaysSameAs first second (O.Same sent) = (sent.lines ≡ 1) × ((text : List ℕ) × IsTold true first second text)
+SaysSameAs first second (O.Different sent) = (sent.lines ≡ 1) × ((text : List ℕ) × IsTold false first second text)
 SaysSameAs first second (O.First ending) = (q : Refusal) × PlateRefused Own first q × RefusedEnding q ending
 SaysSameAs first second (O.Second ending) = (q : Refusal) × IsAccepted first × PlateRefused Own second q × RefusedEnding q ending
 SaysSameAs first second O.Unwritten = Unit {0}
@@ -50,14 +50,10 @@ SaysSameAs first second O.Unwritten = Unit {0}
 pub record SaysSame (first second : List ℕ) (r : Outcome) : Type 0 where
   pub is : SaysSameAs first second r
 
--- 0 for same, 1 for what is not
-abbrev pub told_status : Bool → ℤ
-told_status true = pos 0
-told_status false = pos 1
-
--- 1 for a refused input, 2 where not all was taken
+-- 0 for same, 1 for what is not and for a refused input, 2 where not all was taken
 abbrev pub outcome_status : Outcome → ℤ
-outcome_status (O.Told same sent) = told_status same
+outcome_status (O.Same sent) = pos 0
+outcome_status (O.Different sent) = pos 1
 outcome_status (O.First ending) = status_of ending
 outcome_status (O.Second ending) = status_of ending
 outcome_status O.Unwritten = pos 2

@@ -1,6 +1,5 @@
 -- What the verbs of yendrufal print that hand over one text, and how they end.
-use Rattle.std.specs.Prelude.{List, ◌≡◌, ℕ}
-use Rattle.listings.specs.declared.Written.{Written}
+use Rattle.std.specs.Prelude.{List, ◌≡◌, ℕ, Result, Err}
 use Rattle.outlines.specs.declared.opening.Which.{Which}
 use Rattle.outlines.specs.declared.opening.Which.TheVariants as W
 use Rattle.outlines.specs.Opening.{Opened}
@@ -8,7 +7,6 @@ use Rattle.outlines.specs.Outline.{WritesPlateSheet}
 use Rattle.outlines.specs.Words.{PrintsSheet}
 use Rattle.plates.specs.declared.Prepared.{Prepared}
 use Rattle.plates.specs.declared.Refusal.{Refusal}
-use Rattle.plates.specs.declared.Verdict.TheVariants as J
 use Rattle.programs.specs.declared.endings.Ending.{Ending}
 use Rattle.programs.specs.declared.endings.Ending.TheVariants.{Listed, Refused, Unwritten}
 use Rattle.programs.specs.declared.writer.Text.{Text}
@@ -24,14 +22,14 @@ pub record IsText (what : Text) (input text : List ℕ) : Type 0 where
   pub is : PrintsSheet (which_of what) input text
 
 -- the promise of the call that writes it
-pub record WritesText (what : Text) (input room : List ℕ) (r : Written) (room' : List ℕ) : Type 0 where
+pub record WritesText (what : Text) (input room : List ℕ) (r : Result ℕ Refusal) (room' : List ℕ) : Type 0 where
   pub is : WritesPlateSheet (which_of what) input room r room'
 
 -- the input or its matrix is refused
 pub record IsRefused (what : Text) (input : List ℕ) (q : Refusal) : Type 0 where
   pub prepared : Prepared
   pub opened : Opened (which_of what) input prepared
-  pub refused : prepared.verdict ≡ J.Refused q
+  pub refused : prepared.verdict ≡ Err q
 
 -- all of the text was taken at once; or the line of the input's refusal was; or not all was taken
 abbrev pub SaysAs : Text → List ℕ → Ending → Type 0

@@ -1,13 +1,11 @@
 -- What is printed of the weights of an input's plate, and how such a run ends.
-use Rattle.std.specs.Prelude.{List, [], ◌∷◌, ◌≡◌, ℕ}
+use Rattle.std.specs.Prelude.{List, [], ◌∷◌, ◌≡◌, ℕ, Result, Ok, Err}
 use Rattle.outlines.specs.declared.opening.Which.TheVariants.{Own}
 use Rattle.outlines.specs.Opening.{Opened}
 use Rattle.outlines.specs.WeightLines.{PrintsWeights, short_working}
 use Rattle.plates.specs.declared.Plate.{Plate}
 use Rattle.plates.specs.declared.Prepared.{Prepared}
 use Rattle.plates.specs.declared.Refusal.{Refusal}
-use Rattle.plates.specs.declared.Verdict.{Verdict}
-use Rattle.plates.specs.declared.Verdict.TheVariants as J
 use Rattle.plates.specs.Refusals.{Refuses}
 use Rattle.programs.specs.declared.endings.Ending.{Ending}
 use Rattle.programs.specs.declared.endings.Ending.TheVariants.{Listed, Refused, Unwritten}
@@ -23,9 +21,9 @@ pub record Weighed (input : List ℕ) (r : Ending) : Type 0 where
   pub is : WeighedAs input r
 
 -- the input or its matrix is refused; or its plate is, of which k is 64, or whose weights need more working room than so many numbers
-abbrev pub PlateRefused : Verdict → ℕ → Plate → Refusal → Type 0
-PlateRefused (J.Refused p) lent plate q = q ≡ p
-PlateRefused J.Accepted lent plate q = Refuses (whole_space plate ∷ short_working plate lent ∷ []) q
+abbrev pub PlateRefused : Result (Unit {0}) Refusal → ℕ → Plate → Refusal → Type 0
+PlateRefused (Err p) lent plate q = q ≡ p
+PlateRefused (Ok _) lent plate q = Refuses (whole_space plate ∷ short_working plate lent ∷ []) q
 
 pub record WeighingRefused (lent : ℕ) (input : List ℕ) (q : Refusal) : Type 0 where
   pub prepared : Prepared

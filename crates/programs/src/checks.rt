@@ -5,11 +5,11 @@ ghost use Rattle.programs.specs.Checks.{IsChecks, SaysChecks, WritesChecks};
 use crate::endings::Ending;
 use crate::writer::{Checks, Output};
 use crate::{refusing, writer};
-use listings::Written;
+use plates::Refusal;
 use std::io::Write;
 
 // The text of an input into the room.
-fn write_checks(what: Checks, input: &[u8], room: &mut [u8]) -> Written
+fn write_checks(what: Checks, input: &[u8], room: &mut [u8]) -> Result<usize, Refusal>
     ensures { WritesChecks what input.now room.old result room.new }
 {
     match what {
@@ -29,12 +29,10 @@ fn hand_over<W: Write>(
     requires { IsChecks what input.now (take size room.now) }
     ensures { SaysChecks what input.now result }
 {
-    let handed = writer::hand_checks(output, writer::none(), what, input, room, size);
-    let sent = handed.sent;
-    if handed.taken {
-        return Ending::Listed(sent);
+    match writer::hand_checks(output, writer::none(), what, input, room, size) {
+        Some(sent) => Ending::Listed(sent),
+        None => Ending::Unwritten,
     }
-    Ending::Unwritten
 }
 
 // Prints the text of an input, or the line of its refusal. The room is enough for every text.
@@ -44,7 +42,7 @@ pub fn print_checks<W: Write>(output: &mut Output<W>, what: Checks, input: &[u8]
     let mut room = [0; 32768];
     let written = write_checks(what, input, &mut room);
     match written {
-        Written::Bytes(size) => hand_over(output, what, input, &room, size),
-        Written::Refused(refusal) => refusing::print_refused(output, refusal),
+        Ok(size) => hand_over(output, what, input, &room, size),
+        Err(refusal) => refusing::print_refused(output, refusal),
     }
 }

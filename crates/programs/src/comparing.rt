@@ -1,22 +1,24 @@
 // The verb same: two inputs, and one line about their words.
-ghost use Rattle.std.specs.Prelude.{take, ◌≡◌};
+ghost use Rattle.std.specs.Prelude.{take, IfOk, ◌≡◌};
 ghost use Rattle.programs.specs.Ending.{IsStatus};
 ghost use Rattle.programs.specs.Input.{IsPrefixLen};
-ghost use Rattle.programs.specs.Same.{IsTold, SaysSame, outcome_status, told_status};
+ghost use Rattle.programs.specs.Same.{IsTold, SaysSame, outcome_status};
 
 use crate::endings::Ending;
 use crate::streams::Got;
 use crate::writer::{Output, Sent};
 use crate::{endings, refusing, streams, verbs, writer};
-use outlines::Compared;
+use outlines::{Compared, Uncompared};
 use std::env::Env;
+use std::io;
 use std::io::{Error, ErrorKind, Read, Write};
 use std::rt::Files;
 
 // How a run ends: with the line, which says same or does not; as the first or the second input's refusal does; or standard output did not take all.
 #[derive(Clone, Copy)]
 pub enum Outcome {
-    Told(bool, Sent),
+    Same(Sent),
+    Different(Sent),
     First(Ending),
     Second(Ending),
     Unwritten,
@@ -35,11 +37,13 @@ fn hand_over<W: Write>(
     ensures { SaysSame first.now second.now result }
 {
     let handed = writer::hand_told(output, writer::none(), same, first, second, room, size);
-    let sent = handed.sent;
-    if handed.taken {
-        return Outcome::Told(same, sent);
+    let Some(sent) = handed else {
+        return Outcome::Unwritten;
+    };
+    if same {
+        return Outcome::Same(sent);
     }
-    Outcome::Unwritten
+    Outcome::Different(sent)
 }
 
 // Prints what is told of two inputs, or the line of the first one's refusal, else of the second's. The room is enough for every line.
@@ -49,24 +53,16 @@ fn print_same<W: Write>(output: &mut Output<W>, first: &[u8], second: &[u8]) -> 
     let mut room = [0; 256];
     let compared = outlines::write_same(first, second, &mut room);
     match compared {
-        Compared::Same(size) => hand_over(output, true, first, second, &room, size),
-        Compared::Different(size) => hand_over(output, false, first, second, &room, size),
-        Compared::FirstRefused(refusal) => Outcome::First(refusing::print_refused(output, refusal)),
-        Compared::SecondRefused(refusal) => Outcome::Second(refusing::print_refused(
-            output, refusal,
-        )),
-        Compared::Refused(_) => Outcome::Unwritten,
+        Ok(Compared::Same(size)) => hand_over(output, true, first, second, &room, size),
+        Ok(Compared::Different(size)) => hand_over(output, false, first, second, &room, size),
+        Err(Uncompared::First(refusal)) => {
+            Outcome::First(refusing::print_refused(output, refusal))
+        }
+        Err(Uncompared::Second(refusal)) => {
+            Outcome::Second(refusing::print_refused(output, refusal))
+        }
+        Err(Uncompared::Room(_)) => Outcome::Unwritten,
     }
-}
-
-// The exit status of a line.
-fn told_status(same: bool) -> i32
-    ensures { result ≡ told_status same }
-{
-    if same {
-        return 0;
-    }
-    1
 }
 
 // The exit status of a run, once its words are said: which input is refused, and why. `fault` is why standard output did not take all, if it did not.
@@ -74,7 +70,8 @@ fn close<E: Write>(outcome: Outcome, errors: &mut E, fault: Option<Error>) -> i3
     ensures { result ≡ outcome_status outcome }
 {
     match outcome {
-        Outcome::Told(same, _) => told_status(same),
+        Outcome::Same(_) => 0,
+        Outcome::Different(_) => 1,
         Outcome::First(ending) => endings::close(
             ending,
             errors,
@@ -95,31 +92,29 @@ fn close<E: Write>(outcome: Outcome, errors: &mut E, fault: Option<Error>) -> i3
 
 // Reads the file of a name, or standard input where it is a minus. A file is closed again: where standard input was closed its number is 0, and a
 // minus for the other name must not find it there.
-fn read_named<F: Files, R: Read>(files: &F, from: &mut R, name: &[u8], room: &mut [u8]) -> Got
-    ensures { IsPrefixLen result.size room.new }
+fn read_named<F: Files, R: Read>(
+    files: &F,
+    from: &mut R,
+    name: &[u8],
+    room: &mut [u8],
+) -> io::Result<Got>
+    ensures { IfOk result (λ got. IsPrefixLen got.size room.new) }
 {
-    if verbs::same(name, b"-") {
+    if verbs::is_minus(name) {
         return streams::read_all(from, room);
     }
-    match verbs::open(files, name) {
-        Ok(mut file) => streams::read_all(&mut file, room),
-        Err(reason) => Got {
-            size: 0,
-            ended: false,
-            failed: true,
-            fault: Some(reason),
-        },
-    }
+    let mut file = verbs::open(files, name)?;
+    streams::read_all(&mut file, room)
 }
 
 // The exit status where a file cannot be read.
-fn name_fault<E: Write>(errors: &mut E, name: &[u8], reason: Option<Error>) -> i32
+fn name_fault<E: Write>(errors: &mut E, name: &[u8], reason: Error) -> i32
     ensures { IsStatus result }
 {
-    if verbs::same(name, b"-") {
-        return endings::fault(errors, b"yendrufal: standard input", reason);
+    if verbs::is_minus(name) {
+        return endings::fault(errors, b"yendrufal: standard input", Some(reason));
     }
-    endings::file_fault(errors, b"yendrufal: ", name, reason)
+    endings::file_fault(errors, b"yendrufal: ", name, Some(reason))
 }
 
 // Compares what was read with a file. It is read as far as one byte beyond the most that a sheet may have.
@@ -134,11 +129,10 @@ fn run_second<F: Files, R: Read, W: Write + Drop, E: Write>(
     ensures { IsStatus result }
 {
     let mut input = [0u8; 32769];
-    let got = read_named(files, from, name, &mut input);
-    if got.failed {
-        return name_fault(errors, name, got.fault);
-    }
-    let size = got.size;
+    let size = match read_named(files, from, name, &mut input) {
+        Ok(got) => got.size,
+        Err(reason) => return name_fault(errors, name, reason),
+    };
     let mut output = Output::new(to);
     let outcome = print_same(&mut output, first, &input[..size]);
     close(outcome, errors, output.fault())
@@ -156,20 +150,11 @@ fn run_first<F: Files, R: Read, W: Write + Drop, E: Write>(
     ensures { IsStatus result }
 {
     let mut input = [0u8; 32769];
-    let got = read_named(files, &mut *from, first, &mut input);
-    if got.failed {
-        return name_fault(errors, first, got.fault);
-    }
-    let size = got.size;
+    let size = match read_named(files, &mut *from, first, &mut input) {
+        Ok(got) => got.size,
+        Err(reason) => return name_fault(errors, first, reason),
+    };
     run_second(files, &input[..size], second, from, to, errors)
-}
-
-// Whether both names are a minus.
-fn both_minus(first: &[u8], second: &[u8]) -> bool {
-    if verbs::same(first, b"-") {
-        return verbs::same(second, b"-");
-    }
-    false
 }
 
 // The exit status where a file's name is too long.
@@ -194,7 +179,7 @@ fn run_with<F: Env + Files, R: Read, W: Write + Drop, E: Write>(
     match rt.arg(3, &mut name) {
         Ok(size) => {
             let second = &name[..size];
-            if both_minus(first, second) {
+            if verbs::is_minus(first) && verbs::is_minus(second) {
                 return verbs::usage(errors);
             }
             run_first(rt, first, second, from, to, errors)

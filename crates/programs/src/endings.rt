@@ -26,16 +26,16 @@ fn say_number<E: Write>(errors: &mut E, name: &[u8], number: u64) {
 }
 
 // The place of a refusal: a row, a depth, or a line and its field, and nothing for a refusal that has none.
-fn say_place<E: Write>(errors: &mut E, number: u64, place: u64, field: u64) {
-    match number {
-        3 => say_number(errors, b"row ", place),
-        4 => say_number(errors, b"depth ", place),
-        10 => say_number(errors, b"line ", place),
-        16 => say_alist_place(errors, place),
-        17 => say_field(errors, place, field),
-        18 => say_field(errors, place, field),
-        19 => say_field(errors, place, field),
-        20 => say_field(errors, place, field),
+fn say_place<E: Write>(errors: &mut E, refusal: Refusal) {
+    match refusal {
+        Refusal::RowBeyond(row) => say_number(errors, b"row ", row as u64),
+        Refusal::TooWide(depth) => say_number(errors, b"depth ", depth as u64),
+        Refusal::SheetLine(line) => say_number(errors, b"line ", line as u64),
+        Refusal::AlistFault(line) => say_alist_place(errors, line as u64),
+        Refusal::FirstField(line) => say_field(errors, line, 1),
+        Refusal::FieldCount(line, field) => say_field(errors, line, field),
+        Refusal::FieldValue(line, field) => say_field(errors, line, field),
+        Refusal::RowField(line, field) => say_field(errors, line, field),
         _ => return,
     }
     say(errors, b": ");
@@ -51,44 +51,41 @@ fn say_alist_place<E: Write>(errors: &mut E, line: u64) {
 }
 
 // A line and a field of it.
-fn say_field<E: Write>(errors: &mut E, line: u64, field: u64) {
-    say_number(errors, b"line ", line);
-    say_number(errors, b", field ", field);
+fn say_field<E: Write>(errors: &mut E, line: usize, field: usize) {
+    say_number(errors, b"line ", line as u64);
+    say_number(errors, b", field ", field as u64);
 }
 
 // A refusal in words. This is the one table of them; docs/REFUSALS.md has each with its conditions.
-fn say_words<E: Write>(errors: &mut E, number: u64) {
-    match number {
-        1 => say(errors, b"length is not 1 to 64"),
-        2 => say(errors, b"more than 64 rows"),
-        3 => say(errors, b"a row has a one beyond its length"),
-        4 => say(errors, b"plate too wide"),
-        8 => say(
+fn say_words<E: Write>(errors: &mut E, refusal: Refusal) {
+    match refusal {
+        Refusal::Length => say(errors, b"length is not 1 to 64"),
+        Refusal::TooManyRows => say(errors, b"more than 64 rows"),
+        Refusal::RowBeyond(_) => say(errors, b"a row has a one beyond its length"),
+        Refusal::TooWide(_) => say(errors, b"plate too wide"),
+        Refusal::MetricRoom => say(
             errors,
             b"working room too short: the plate is wider than the program has room for",
         ),
-        10 => say(errors, b"line missing or not ended"),
-        15 => say(errors, b"input over 32,768 bytes"),
-        16 => say(errors, b"alist fault"),
-        17 => say(errors, b"first field unknown or out of its turn"),
-        18 => say(errors, b"wrong number of fields"),
-        19 => say(errors, b"bad number, letter or order"),
-        20 => say(errors, b"row or mask of wrong length or character"),
-        22 => say(errors, b"k is 64"),
-        23 => say(errors, b"mask has a one beyond its length"),
+        Refusal::SheetLine(_) => say(errors, b"line missing or not ended"),
+        Refusal::InputTooLong => say(errors, b"input over 32,768 bytes"),
+        Refusal::AlistFault(_) => say(errors, b"alist fault"),
+        Refusal::FirstField(_) => say(errors, b"first field unknown or out of its turn"),
+        Refusal::FieldCount(_, _) => say(errors, b"wrong number of fields"),
+        Refusal::FieldValue(_, _) => say(errors, b"bad number, letter or order"),
+        Refusal::RowField(_, _) => say(errors, b"row or mask of wrong length or character"),
+        Refusal::WholeSpace => say(errors, b"k is 64"),
+        Refusal::MaskBeyond => say(errors, b"mask has a one beyond its length"),
         _ => say(errors, b"refused"),
     }
 }
 
 // A refusal in words, after the program's name and its place.
 fn say_refusal<E: Write>(errors: &mut E, name: &[u8], refusal: Refusal) {
-    let number = plates::refusal_number(refusal);
-    let place = plates::refusal_place(refusal) as u64;
-    let field = plates::refusal_field(refusal) as u64;
     say(errors, name);
-    say_place(errors, number, place, field);
-    say_words(errors, number);
-    say_number(errors, b" (refusal ", number);
+    say_place(errors, refusal);
+    say_words(errors, refusal);
+    say_number(errors, b" (refusal ", plates::refusal_number(refusal));
     say(errors, b")\n");
 }
 

@@ -36,10 +36,10 @@ pub fn trellis_main<A: Env, R: Read, W: Write + Drop, E: Write>(
         return endings::usage(errors, b"usage: trellis < SHEET\n");
     }
     let mut input = [0u8; 32769];
-    let got = streams::read_all(from, &mut input);
-    if got.failed {
-        return endings::fault(errors, b"trellis: standard input", got.fault);
-    }
+    let got = match streams::read_all(from, &mut input) {
+        Ok(got) => got,
+        Err(reason) => return endings::fault(errors, b"trellis: standard input", Some(reason)),
+    };
     let size = got.size;
     let mut output = Output::new(to);
     let ending = listing::print_listing(&mut output, &input[..size], got.ended);
@@ -65,10 +65,14 @@ pub fn plate_weights_main<A: Env, R: Read, W: Write + Drop, E: Write>(
         return endings::usage(errors, b"usage: plate_weights < SHEET\n");
     }
     let mut sheet = [0u8; 32769];
-    let got = streams::read_all(from, &mut sheet);
-    if got.failed {
-        return endings::fault(errors, b"plate_weights: standard input", got.fault);
-    }
+    let got = match streams::read_all(from, &mut sheet) {
+        Ok(got) => got,
+        Err(reason) => return endings::fault(
+            errors,
+            b"plate_weights: standard input",
+            Some(reason),
+        ),
+    };
     let size = got.size;
     let mut output = Output::new(to);
     let ending = weighing::print_input(&mut output, &sheet[..size]);

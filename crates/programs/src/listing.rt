@@ -9,23 +9,14 @@ ghost use Rattle.programs.specs.Printing.{Before, IsLine, Prints};
 use crate::endings::Ending;
 use crate::writer;
 use crate::writer::{Output, Sent};
-use reports::{Outcome, Report, Stage};
+use reports::{Report, Stage};
 use std::io::Write;
 
-// Whether a line was taken, whether none was left, the count after that, and the report.
+// What a turn did: a line was taken, with the count and the report after it; or none was left.
 #[derive(Clone, Copy)]
-struct Turn {
-    goes_on: bool,
-    whole: bool,
-    sent: Sent,
-    next: Report,
-}
-
-// Whether all lines were taken, and how many were.
-#[derive(Clone, Copy)]
-struct Printed {
-    whole: bool,
-    sent: Sent,
+enum Turn {
+    Line(Sent, Report),
+    Whole,
 }
 
 // Hands over the line at the start of the room.
@@ -36,22 +27,16 @@ fn hand_over<W: Write>(
     room: &[u8],
     size: usize,
     next: Report,
-) -> Turn
+) -> Option<Turn>
     requires line { IsLine input.now sent.lines (take size room.now) }
     requires before { Before input.now (sent.lines + 1) next }
     ensures { Prints input.now sent result }
 {
-    let handed = writer::hand_line(output, sent, input, room, size);
-    let after = handed.sent;
-    Turn {
-        goes_on: handed.taken,
-        whole: false,
-        sent: after,
-        next,
-    }
+    let after = writer::hand_line(output, sent, input, room, size)?;
+    Some(Turn::Line(after, next))
 }
 
-// Prints the next line. Nothing follows where none was left, or where it was not taken.
+// Prints the next line, unless it is not taken.
 fn print_line<W: Write>(
     output: &mut Output<W>,
     report: Report,
@@ -60,7 +45,7 @@ fn print_line<W: Write>(
     metrics: &mut [i32],
     decisions: &mut [u64],
     room: &mut [u8],
-) -> Turn
+) -> Option<Turn>
     requires enough { Enough (lends metrics.old decisions.old room.old) }
     requires before { Before input.now sent.lines report }
     ensures { Prints input.now sent result }
@@ -69,23 +54,13 @@ fn print_line<W: Write>(
     let outcome = step.outcome;
     let next = step.next;
     match outcome {
-        Outcome::Line(size) => hand_over(output, sent, input, room, size, next),
-        Outcome::Nothing => Turn {
-            goes_on: false,
-            whole: true,
-            sent,
-            next,
-        },
-        Outcome::Refused(_) => Turn {
-            goes_on: false,
-            whole: false,
-            sent,
-            next,
-        },
+        Ok(Some(size)) => hand_over(output, sent, input, room, size, next),
+        Ok(None) => Some(Turn::Whole),
+        Err(_) => None,
     }
 }
 
-// Prints all lines of a report that was just opened.
+// Prints all lines of a report that was just opened, and replies how many they are, unless one is not taken.
 fn print_lines<W: Write>(
     output: &mut Output<W>,
     first: Report,
@@ -93,31 +68,26 @@ fn print_lines<W: Write>(
     metrics: &mut [i32],
     decisions: &mut [u64],
     room: &mut [u8],
-) -> Printed
+) -> Option<Sent>
     requires enough { Enough (lends metrics.old decisions.old room.old) }
     requires opens { Opens input.now first }
     ensures { PrintsAll input.now result }
 {
     let mut report = first;
     let mut sent = writer::none();
-    let mut goes_on = true;
-    let mut whole = false;
-    while goes_on {
-        let turn = print_line(
-            &mut *output,
-            report,
-            sent,
-            input,
-            &mut *metrics,
-            &mut *decisions,
-            &mut *room,
-        );
-        report = turn.next;
-        sent = turn.sent;
-        goes_on = turn.goes_on;
-        whole = turn.whole;
+    while let Turn::Line(after, next) = print_line(
+        &mut *output,
+        report,
+        sent,
+        input,
+        &mut *metrics,
+        &mut *decisions,
+        &mut *room,
+    )? {
+        sent = after;
+        report = next;
     }
-    Printed { whole, sent }
+    Some(sent)
 }
 
 // How a run ends whose report begins at this stage, and of which all lines were taken.
@@ -126,11 +96,7 @@ fn ending_of(stage: Stage, sent: Sent) -> Ending
 {
     match stage {
         Stage::Refused(refusal) => Ending::Refused(refusal, sent),
-        Stage::PlateLine => Ending::Listed(sent),
-        Stage::ProfileLine => Ending::Listed(sent),
-        Stage::BlockLines => Ending::Listed(sent),
-        Stage::EndLine => Ending::Listed(sent),
-        Stage::Done => Ending::Listed(sent),
+        _ => Ending::Listed(sent),
     }
 }
 
@@ -144,17 +110,15 @@ pub fn print_listing<W: Write>(output: &mut Output<W>, input: &[u8], ended: bool
     let mut room = [0; 256];
     let report = reports::open(input);
     let stage = report.stage;
-    let printed = print_lines(
+    match print_lines(
         output,
         report,
         input,
         &mut metrics,
         &mut decisions,
         &mut room,
-    );
-    let sent = printed.sent;
-    if printed.whole {
-        return ending_of(stage, sent);
+    ) {
+        Some(sent) => ending_of(stage, sent),
+        None => Ending::Unwritten,
     }
-    Ending::Unwritten
 }

@@ -6,12 +6,11 @@ ghost use Rattle.reports.specs.Report.{line_of_refusal};
 use crate::endings::Ending;
 use crate::writer;
 use crate::writer::Output;
-use listings::Written;
 use plates::Refusal;
 use std::io::Write;
 
 // Makes the line of a refusal.
-pub fn make_refused(refusal: Refusal, room: &mut [u8]) -> Written
+pub fn make_refused(refusal: Refusal, room: &mut [u8]) -> Result<usize, Refusal>
     ensures { WritesLine (line_of_refusal refusal) room.old result room.new }
 {
     let number = plates::refusal_number(refusal);
@@ -26,13 +25,11 @@ pub fn print_refused<W: Write>(output: &mut Output<W>, refusal: Refusal) -> Endi
 {
     let mut room = [0; 256];
     let written = make_refused(refusal, &mut room);
-    let Written::Bytes(size) = written else {
+    let Ok(size) = written else {
         return Ending::Unwritten;
     };
-    let handed = writer::hand_refusal(output, writer::none(), refusal, &room, size);
-    let sent = handed.sent;
-    if handed.taken {
-        return Ending::Refused(refusal, sent);
+    match writer::hand_refusal(output, writer::none(), refusal, &room, size) {
+        Some(sent) => Ending::Refused(refusal, sent),
+        None => Ending::Unwritten,
     }
-    Ending::Unwritten
 }

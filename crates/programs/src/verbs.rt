@@ -11,7 +11,7 @@ use std::io::{Error, ErrorKind, Read, Write};
 use std::rt::Files;
 use std::{fs, io, str};
 
-// What is asked for, or that it is no verb.
+// What is asked for of one file.
 #[derive(Clone, Copy)]
 enum Verb {
     List,
@@ -20,45 +20,24 @@ enum Verb {
     Weights,
     Alist,
     FromAlist,
-    Unknown,
 }
 
-// Whether two texts are the same.
-pub fn same(text: &[u8], other: &[u8]) -> bool {
-    if text.len() != other.len() {
-        return false;
-    }
-    let mut i = 0;
-    while i < text.len() {
-        if text[i] != other[i] {
-            return false;
-        }
-        i += 1;
-    }
-    true
+// Whether a name is a minus, which stands for standard input.
+pub fn is_minus(name: &[u8]) -> bool {
+    matches!(name, b"-")
 }
 
-// The verb of a name.
-fn verb_of(name: &[u8]) -> Verb {
-    if same(name, b"list") {
-        return Verb::List;
+// The verb of a name, if it is one.
+fn verb_of(name: &[u8]) -> Option<Verb> {
+    match name {
+        b"list" => Some(Verb::List),
+        b"sheet" => Some(Verb::Sheet),
+        b"dual" => Some(Verb::Dual),
+        b"weights" => Some(Verb::Weights),
+        b"alist" => Some(Verb::Alist),
+        b"from-alist" => Some(Verb::FromAlist),
+        _ => None,
     }
-    if same(name, b"sheet") {
-        return Verb::Sheet;
-    }
-    if same(name, b"dual") {
-        return Verb::Dual;
-    }
-    if same(name, b"weights") {
-        return Verb::Weights;
-    }
-    if same(name, b"alist") {
-        return Verb::Alist;
-    }
-    if same(name, b"from-alist") {
-        return Verb::FromAlist;
-    }
-    Verb::Unknown
 }
 
 // Prints what a verb says of what was read, of which `ended` says whether it is all of the input.
@@ -72,7 +51,6 @@ fn print_verb<W: Write>(output: &mut Output<W>, verb: Verb, input: &[u8], ended:
         Verb::Weights => weighed::print_every(output, input),
         Verb::Alist => checks::print_checks(output, Checks::Alist, input),
         Verb::FromAlist => checks::print_checks(output, Checks::FromAlist, input),
-        Verb::Unknown => Ending::Unwritten,
     }
 }
 
@@ -87,10 +65,10 @@ fn run_on<R: Read, W: Write + Drop, E: Write>(
     ensures { IsStatus result }
 {
     let mut input = [0u8; 32769];
-    let got = streams::read_all(from, &mut input);
-    if got.failed {
-        return endings::file_fault(errors, b"yendrufal: ", name, got.fault);
-    }
+    let got = match streams::read_all(from, &mut input) {
+        Ok(got) => got,
+        Err(reason) => return endings::file_fault(errors, b"yendrufal: ", name, Some(reason)),
+    };
     let size = got.size;
     let mut output = Output::new(to);
     let ending = print_verb(&mut output, verb, &input[..size], got.ended);
@@ -122,7 +100,7 @@ fn run_file<F: Files, R: Read, W: Write + Drop, E: Write>(
 ) -> i32
     ensures { IsStatus result }
 {
-    if same(name, b"-") {
+    if is_minus(name) {
         return run_on(verb, from, b"standard input", to, errors);
     }
     match open(files, name) {
@@ -162,11 +140,11 @@ pub fn usage<E: Write>(errors: &mut E) -> i32
 }
 
 // The verb that the first argument names.
-fn verb_given<R: Env>(rt: &R) -> Verb {
+fn verb_given<R: Env>(rt: &R) -> Option<Verb> {
     let mut name = [0u8; 4096];
     match rt.arg(1, &mut name) {
         Ok(size) => verb_of(&name[..size]),
-        Err(_) => Verb::Unknown,
+        Err(_) => None,
     }
 }
 
@@ -174,7 +152,7 @@ fn verb_given<R: Env>(rt: &R) -> Verb {
 fn same_given<R: Env>(rt: &R) -> bool {
     let mut name = [0u8; 4096];
     match rt.arg(1, &mut name) {
-        Ok(size) => same(&name[..size], b"same"),
+        Ok(size) => matches!(&name[..size], b"same"),
         Err(_) => false,
     }
 }
@@ -203,11 +181,10 @@ fn run_one<F: Env + Files, R: Read, W: Write + Drop, E: Write>(
 ) -> i32
     ensures { IsStatus result }
 {
-    let verb = verb_given(rt);
-    if let Verb::Unknown = verb {
-        return usage(errors);
+    match verb_given(rt) {
+        Some(verb) => run_verb(rt, verb, from, to, errors),
+        None => usage(errors),
     }
-    run_verb(rt, verb, from, to, errors)
 }
 
 // Runs the verb that the first argument names.

@@ -6,7 +6,6 @@ ghost use Rattle.programs.specs.Weighing.{SaysWeights, Weighed, WeighingRefused}
 use crate::endings::Ending;
 use crate::writer::Output;
 use crate::{refusing, writer};
-use listings::Written;
 use plates::Refusal;
 use std::io::Write;
 
@@ -15,12 +14,10 @@ fn hand_over<W: Write>(output: &mut Output<W>, input: &[u8], room: &[u8], size: 
     requires { PrintsWeights input.now (take size room.now) }
     ensures { Weighed input.now result }
 {
-    let handed = writer::hand_weights(output, writer::none(), input, room, size);
-    let sent = handed.sent;
-    if handed.taken {
-        return Ending::Listed(sent);
+    match writer::hand_weights(output, writer::none(), input, room, size) {
+        Some(sent) => Ending::Listed(sent),
+        None => Ending::Unwritten,
     }
-    Ending::Unwritten
 }
 
 // Prints the weights with working room for every plate: it takes 4 MiB of stack.
@@ -31,8 +28,8 @@ fn print_wide<W: Write>(output: &mut Output<W>, input: &[u8]) -> Ending
     let mut room = [0; 2048];
     let written = outlines::write_weights(input, &mut working, &mut room);
     match written {
-        Written::Bytes(size) => hand_over(output, input, &room, size),
-        Written::Refused(refusal) => refusing::print_refused(output, refusal),
+        Ok(size) => hand_over(output, input, &room, size),
+        Err(refusal) => refusing::print_refused(output, refusal),
     }
 }
 
@@ -41,8 +38,7 @@ fn print_again<W: Write>(output: &mut Output<W>, input: &[u8], refusal: Refusal)
     requires { WeighingRefused 4160 input.now refusal }
     ensures { SaysWeights 532480 input.now result }
 {
-    let number = plates::refusal_number(refusal);
-    if number == 8 {
+    if plates::refusal_number(refusal) == 8 {
         return print_wide(output, input);
     }
     refusing::print_refused(output, refusal)
@@ -56,7 +52,7 @@ pub fn print_every<W: Write>(output: &mut Output<W>, input: &[u8]) -> Ending
     let mut room = [0; 2048];
     let written = outlines::write_weights(input, &mut working, &mut room);
     match written {
-        Written::Bytes(size) => hand_over(output, input, &room, size),
-        Written::Refused(refusal) => print_again(output, input, refusal),
+        Ok(size) => hand_over(output, input, &room, size),
+        Err(refusal) => print_again(output, input, refusal),
     }
 }

@@ -1,5 +1,5 @@
 // Lines handed to standard output. Nothing else writes there. A count of lines is made here alone, so that it counts lines that were taken.
-ghost use Rattle.std.specs.Prelude.{take, true, OnOk, ◌≡◌};
+ghost use Rattle.std.specs.Prelude.{take, true, OnOk, OnSome, ◌≡◌};
 ghost use Rattle.std.specs.Io.KnownBytes.{Appends};
 ghost use Rattle.outlines.specs.WeightLines.{PrintsWeights};
 ghost use Rattle.programs.specs.Checks.{IsChecks};
@@ -51,13 +51,6 @@ pub struct Sent {
     lines: u64,
 }
 
-// Whether a line was taken, and the count after it.
-#[derive(Clone, Copy)]
-pub struct Handed {
-    pub taken: bool,
-    pub sent: Sent,
-}
-
 // Before the first line.
 pub fn none() -> Sent
     ensures { result.lines ≡ 0 }
@@ -86,25 +79,17 @@ fn takes<W: Write>(output: &mut Output<W>, bytes: &[u8]) -> bool
     }
 }
 
-// Hands over the line at the start of the room, and counts it where it was taken.
-fn hand<W: Write>(output: &mut Output<W>, sent: Sent, room: &[u8], size: usize) -> Handed
+// Hands over the line at the start of the room. Where it was taken, the reply is the count after it.
+fn hand<W: Write>(output: &mut Output<W>, sent: Sent, room: &[u8], size: usize) -> Option<Sent>
     ensures counted { Hands sent result }
-    ensures written { result.taken ≡ true → Appends (W.contents output.old.to) (W.contents output.new.to) (take size room.now) }
+    ensures written { OnSome result (Appends (W.contents output.old.to) (W.contents output.new.to) (take size room.now)) }
 {
-    if u64::MAX <= sent.lines {
-        return Handed { taken: false, sent };
+    if u64::MAX <= sent.lines || room.len() < size || !takes(output, &room[..size]) {
+        return None;
     }
-    if room.len() < size {
-        return Handed { taken: false, sent };
-    }
-    if takes(output, &room[..size]) {
-        let lines = sent.lines + 1;
-        return Handed {
-            taken: true,
-            sent: Sent { lines },
-        };
-    }
-    Handed { taken: false, sent }
+    Some(Sent {
+        lines: sent.lines + 1,
+    })
 }
 
 // Hands over a line of a listing: it asks for the line that the input gives after as many as were taken.
@@ -114,10 +99,10 @@ pub fn hand_line<W: Write>(
     input: &[u8],
     room: &[u8],
     size: usize,
-) -> Handed
+) -> Option<Sent>
     requires { IsLine input.now sent.lines (take size room.now) }
     ensures counted { Hands sent result }
-    ensures written { result.taken ≡ true → Appends (W.contents output.old.to) (W.contents output.new.to) (take size room.now) }
+    ensures written { OnSome result (Appends (W.contents output.old.to) (W.contents output.new.to) (take size room.now)) }
 {
     hand(output, sent, room, size)
 }
@@ -128,9 +113,9 @@ pub fn hand_weighed<W: Write>(
     sent: Sent,
     room: &[u8],
     size: usize,
-) -> Handed
+) -> Option<Sent>
     ensures counted { Hands sent result }
-    ensures written { result.taken ≡ true → Appends (W.contents output.old.to) (W.contents output.new.to) (take size room.now) }
+    ensures written { OnSome result (Appends (W.contents output.old.to) (W.contents output.new.to) (take size room.now)) }
 {
     hand(output, sent, room, size)
 }
@@ -142,10 +127,10 @@ pub fn hand_weights<W: Write>(
     input: &[u8],
     room: &[u8],
     size: usize,
-) -> Handed
+) -> Option<Sent>
     requires { PrintsWeights input.now (take size room.now) }
     ensures counted { Hands sent result }
-    ensures written { result.taken ≡ true → Appends (W.contents output.old.to) (W.contents output.new.to) (take size room.now) }
+    ensures written { OnSome result (Appends (W.contents output.old.to) (W.contents output.new.to) (take size room.now)) }
 {
     hand(output, sent, room, size)
 }
@@ -158,10 +143,10 @@ pub fn hand_text<W: Write>(
     input: &[u8],
     room: &[u8],
     size: usize,
-) -> Handed
+) -> Option<Sent>
     requires { IsText what input.now (take size room.now) }
     ensures counted { Hands sent result }
-    ensures written { result.taken ≡ true → Appends (W.contents output.old.to) (W.contents output.new.to) (take size room.now) }
+    ensures written { OnSome result (Appends (W.contents output.old.to) (W.contents output.new.to) (take size room.now)) }
 {
     hand(output, sent, room, size)
 }
@@ -174,10 +159,10 @@ pub fn hand_checks<W: Write>(
     input: &[u8],
     room: &[u8],
     size: usize,
-) -> Handed
+) -> Option<Sent>
     requires { IsChecks what input.now (take size room.now) }
     ensures counted { Hands sent result }
-    ensures written { result.taken ≡ true → Appends (W.contents output.old.to) (W.contents output.new.to) (take size room.now) }
+    ensures written { OnSome result (Appends (W.contents output.old.to) (W.contents output.new.to) (take size room.now)) }
 {
     hand(output, sent, room, size)
 }
@@ -191,10 +176,10 @@ pub fn hand_told<W: Write>(
     second: &[u8],
     room: &[u8],
     size: usize,
-) -> Handed
+) -> Option<Sent>
     requires { IsTold same first.now second.now (take size room.now) }
     ensures counted { Hands sent result }
-    ensures written { result.taken ≡ true → Appends (W.contents output.old.to) (W.contents output.new.to) (take size room.now) }
+    ensures written { OnSome result (Appends (W.contents output.old.to) (W.contents output.new.to) (take size room.now)) }
 {
     hand(output, sent, room, size)
 }
@@ -206,10 +191,10 @@ pub fn hand_refusal<W: Write>(
     refusal: Refusal,
     room: &[u8],
     size: usize,
-) -> Handed
+) -> Option<Sent>
     requires { take size room.now ≡ line_of_refusal refusal }
     ensures counted { Hands sent result }
-    ensures written { result.taken ≡ true → Appends (W.contents output.old.to) (W.contents output.new.to) (take size room.now) }
+    ensures written { OnSome result (Appends (W.contents output.old.to) (W.contents output.new.to) (take size room.now)) }
 {
     hand(output, sent, room, size)
 }

@@ -2,8 +2,8 @@
 use Rattle.programs.proofs.ChecksSaid.{checks-taken, checks-untaken}
 use Rattle.programs.proofs.checks.hand_over.Goals as goal
 
-pub returns-then-handed : goal.returns-then-handed
-returns-then-handed g c = search checks-taken
+pub returns-in-Some : goal.returns-in-Some
+returns-in-Some g c = search checks-taken
 
-pub returns : goal.returns
-returns g c = search checks-untaken
+pub returns-in-None : goal.returns-in-None
+returns-in-None g c = search checks-untaken

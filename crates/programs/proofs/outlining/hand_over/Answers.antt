@@ -2,8 +2,8 @@
 use Rattle.programs.proofs.TextsSaid.{text-taken, text-untaken}
 use Rattle.programs.proofs.outlining.hand_over.Goals as goal
 
-pub returns-then-handed : goal.returns-then-handed
-returns-then-handed g c = search text-taken
+pub returns-in-Some : goal.returns-in-Some
+returns-in-Some g c = search text-taken
 
-pub returns : goal.returns
-returns g c = search text-untaken
+pub returns-in-None : goal.returns-in-None
+returns-in-None g c = search text-untaken

@@ -5,5 +5,5 @@ use Rattle.programs.proofs.outlining.print_text.Goals as goal
 pub hand_over-requires : goal.hand_over-requires
 hand_over-requires g c = search text-there
 
-pub returns-in-Refused : goal.returns-in-Refused
-returns-in-Refused g c = search refused-said
+pub returns-in-Err : goal.returns-in-Err
+returns-in-Err g c = search refused-said

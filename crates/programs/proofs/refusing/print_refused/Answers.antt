@@ -5,11 +5,11 @@ use Rattle.programs.proofs.refusing.print_refused.Goals as goal
 pub returns-in_default : goal.returns-in_default
 returns-in_default g c = search refusal-untaken
 
-pub hand_refusal-handed-requires : goal.hand_refusal-handed-requires
-hand_refusal-handed-requires g c = search line-there
+pub hand_refusal-requires : goal.hand_refusal-requires
+hand_refusal-requires g c = search line-there
 
-pub returns-then-handed : goal.returns-then-handed
-returns-then-handed g c = search refusal-taken
+pub returns-in-Some : goal.returns-in-Some
+returns-in-Some g c = search refusal-taken
 
-pub returns : goal.returns
-returns g c = search refusal-untaken
+pub returns-in-None : goal.returns-in-None
+returns-in-None g c = search refusal-untaken

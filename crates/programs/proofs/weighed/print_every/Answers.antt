@@ -8,5 +8,5 @@ hand_over-requires g c = search weights-there
 pub print_again-requires : goal.print_again-requires
 print_again-requires g c = search weights-refused
 
-pub returns-in-Bytes : goal.returns-in-Bytes
-returns-in-Bytes g c = search weights-said
+pub returns-in-Ok : goal.returns-in-Ok
+returns-in-Ok g c = search weights-said

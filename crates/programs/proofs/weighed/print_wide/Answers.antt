@@ -14,8 +14,8 @@ slice_bounds-hand_over-end g c = sym c.write_weights-written.auto.room
 pub hand_over-requires : goal.hand_over-requires
 hand_over-requires g c = search weights-there
 
-pub returns-in-Bytes : goal.returns-in-Bytes
-returns-in-Bytes g c = search weights-said
+pub returns-in-Ok : goal.returns-in-Ok
+returns-in-Ok g c = search weights-said
 
-pub returns-in-Refused : goal.returns-in-Refused
-returns-in-Refused g c = weights-refusal-said 532480 c.write_weights-written.ensures c.in-Refused.is c.print_refused.ensures
+pub returns-in-Err : goal.returns-in-Err
+returns-in-Err g c = weights-refusal-said 532480 c.write_weights-written.ensures c.in-Err.is c.print_refused.ensures
