@@ -1,11 +1,11 @@
 -- How the replies of a batch cross: the counts into their cells, a refusal into the cell of the place.
+use Rattle.std.proofs.Common.{Ok, Err}
 use lib.IntN.{ℤ}
 use lib.ListN.{length, set}
 use mathlib.Core.List.{List}
 use mathlib.Core.Logic.{inr}
 use mathlib.Core.Path.{ap, ap₂, sym, ◌∙◌, ◌≡◌}
 use Prim.Native.Nat.{ℕ}
-use Rattle.decoding.specs.declared.batch.Batch.TheVariants.{Found, Refused}
 use Rattle.decoding.specs.declared.Counts.{Counts}
 use Rattle.exports.specs.Batches.{BatchCells, BatchShape, BatchesTo, Batching, CallsDecodeBlocks, batch_cells, batched, batched_as}
 use Rattle.exports.specs.Calls.{Crossing, RefusedAt, done}
@@ -20,7 +20,7 @@ module _ (samples : List ℤ) (lent : BatchCells) (b : Batching) (plate : List �
   crossed e = record { by_shape = inr (shape, record { reply = b; promised = decodes; crosses = e }) }
 
   -- the counts are in their cells
-  pub batch-found : {counts : Counts} {counts' : List ℕ} → b.reply ≡ Found counts → counts' ≡ counts_put lent.counts counts
+  pub batch-found : {counts : Counts} {counts' : List ℕ} → b.reply ≡ Ok counts → counts' ≡ counts_put lent.counts counts
       → CallsDecodeBlocks plate samples lent done (batch_cells b.metrics b.decisions b.words b.scores counts' (set lent.at 0 0))
   batch-found e laid =
       crossed
@@ -28,7 +28,7 @@ module _ (samples : List ℤ) (lent : BatchCells) (b : Batching) (plate : List �
       ∙ sym (ap (batched_as lent b.words b.scores b.metrics b.decisions) e))
 
   -- the place is in its cell
-  pub batch-refused : {q : Refusal} {r : ℕ} {at' : List ℕ} → b.reply ≡ Refused q → RefusedAt q lent.at r at'
+  pub batch-refused : {q : Refusal} {r : ℕ} {at' : List ℕ} → b.reply ≡ Err q → RefusedAt q lent.at r at'
       → CallsDecodeBlocks plate samples lent r (batch_cells b.metrics b.decisions b.words b.scores lent.counts at')
   batch-refused e f =
       crossed

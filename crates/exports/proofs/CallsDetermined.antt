@@ -1,21 +1,23 @@
 -- Determined: two replies of a call of the interface, with all lent cells, that meet its promise are equal.
+use Rattle.std.proofs.Common.{Result}
+use Rattle.plates.specs.declared.Refusal.{Refusal}
+use Rattle.decoding.specs.declared.apart.Selection.{Selection}
+use Rattle.decoding.specs.declared.Counts.{Counts}
+use Rattle.decoding.specs.declared.Answer.{Answer}
+use Rattle.decoding.specs.declared.apart.Measure.{Measure}
+use Rattle.asking.specs.declared.Reason.{Reason}
+use Rattle.decoding.specs.declared.firmness.Flag.{Flag}
 use lib.IntN.{ℤ}
 use mathlib.Core.List.{List}
 use mathlib.Core.Logic.{inl, inr, ◌⊎◌}
 use mathlib.Core.Path.{ap, ap₂, sym, ◌∙◌, ◌≡◌}
 use Prim.Native.Nat.{ℕ}
 use Rattle.asking.proofs.WhyNotDetermined.{why-not-determined}
-use Rattle.asking.specs.declared.Verdict.{Verdict}
 use Rattle.coding.proofs.CodingDetermined.{encode-determined, read-back-determined}
 use Rattle.decoding.proofs.ApartDetermined.{metric-determined, word-determined}
 use Rattle.decoding.proofs.BatchDetermined.{blocks-determined}
 use Rattle.decoding.proofs.DecodeDetermined.{decode-determined}
 use Rattle.decoding.proofs.FirmnessDetermined.{firmness-determined}
-use Rattle.decoding.specs.declared.apart.Chosen.{Chosen}
-use Rattle.decoding.specs.declared.apart.Measured.{Measured}
-use Rattle.decoding.specs.declared.batch.Batch.{Batch}
-use Rattle.decoding.specs.declared.Decoded.{Decoded}
-use Rattle.decoding.specs.declared.firmness.Flagged.{Flagged}
 use Rattle.exports.specs.Batches.{BatchCells, BatchesTo, Batching, CallsDecodeBlocks}
 use Rattle.exports.specs.Calls.{Calls, Crossing, Replies, misshapen}
 use Rattle.exports.specs.Crossing.{DecodeCells, Decoding, Listing, ListingCells, Writing, listing_cells}
@@ -28,7 +30,6 @@ use Rattle.exports.specs.Sheeting.{CallsPlateOfSheet, SheetCells}
 use Rattle.exports.specs.Summaries.{CallsWriteLeast, CallsWriteNoLeast, CallsWriteTally, CallsWriteWeight}
 use Rattle.listings.proofs.Determined.{write-end-determined, write-least-determined, write-no-least-determined, write-plate-determined, write-profile-determined, write-refused-determined, write-tally-determined, write-weight-determined, write-word-determined}
 use Rattle.listings.specs.declared.Tally.{Tally}
-use Rattle.listings.specs.declared.Written.{Written}
 use Rattle.listings.specs.Writing.{WritesEnd, WritesLeast, WritesNoLeast, WritesPlate, WritesProfile, WritesRefused, WritesTally, WritesWeight, WritesWord}
 use Rattle.plates.proofs.PrepareDetermined.{prepare-determined}
 use Rattle.reports.proofs.ListingDetermined.{write-listing-determined}
@@ -82,7 +83,7 @@ decode-call-determined words samples lent a b r s = calls-determined one
     one : (x y : Decoding) → DecodesTo (plate_of words) samples lent x → DecodesTo (plate_of words) samples lent y → x ≡ y
     one x y p q =
         let same = decode-determined (plate_of words) samples lent.metrics lent.decisions x.reply y.reply x.metrics y.metrics x.decisions y.decisions p q in
-        ap₂ (λ (u : Decoded) (m : List ℤ). record { reply = u; metrics = m; decisions = x.decisions }) same.0 same.1
+        ap₂ (λ (u : Result Answer Refusal) (m : List ℤ). record { reply = u; metrics = m; decisions = x.decisions }) same.0 same.1
         ∙ ap (λ (d : List ℕ). record { reply = y.reply; metrics = y.metrics; decisions = d }) same.2
 
 pub metric-call-determined : (words : List ℕ) (samples : List ℤ) (lent a b : MetricCells) (r s : ℕ) → CallsMetric words samples lent r a → CallsMetric words samples lent s b
@@ -92,7 +93,7 @@ metric-call-determined words samples lent a b r s = calls-determined one
     one : (x y : Measuring) → MeasuresTo (plate_of words) samples lent x → MeasuresTo (plate_of words) samples lent y → x ≡ y
     one x y p q =
         let same = metric-determined (plate_of words) samples lent.metrics x.reply y.reply x.metrics y.metrics p q in
-        ap₂ (λ (u : Measured) (m : List ℤ). record { reply = u; metrics = m }) same.0 same.1
+        ap₂ (λ (u : Result Measure Refusal) (m : List ℤ). record { reply = u; metrics = m }) same.0 same.1
 
 pub word-call-determined : (words : List ℕ) (samples : List ℤ) (lent a b : WordCells) (r s : ℕ) → CallsWord words samples lent r a → CallsWord words samples lent s b
     → ◌≡◌ {A = Crossing WordCells} (record { code = r; cells = a }) (record { code = s; cells = b })
@@ -101,7 +102,7 @@ word-call-determined words samples lent a b r s = calls-determined one
     one : (x y : Choosing) → ChoosesTo (plate_of words) samples lent x → ChoosesTo (plate_of words) samples lent y → x ≡ y
     one x y p q =
         let same = word-determined (plate_of words) samples lent.metrics lent.decisions x.reply y.reply x.metrics y.metrics x.decisions y.decisions p q in
-        ap₂ (λ (u : Chosen) (m : List ℤ). record { reply = u; metrics = m; decisions = x.decisions }) same.0 same.1
+        ap₂ (λ (u : Result Selection Refusal) (m : List ℤ). record { reply = u; metrics = m; decisions = x.decisions }) same.0 same.1
         ∙ ap (λ (d : List ℕ). record { reply = y.reply; metrics = y.metrics; decisions = d }) same.2
 
 pub decode-blocks-call-determined : (words : List ℕ) (samples : List ℤ) (lent a b : BatchCells) (r s : ℕ) → CallsDecodeBlocks words samples lent r a
@@ -113,7 +114,7 @@ decode-blocks-call-determined words samples lent a b r s = calls-determined one
         let same =
         blocks-determined (plate_of words) samples lent.words lent.scores lent.metrics lent.decisions x.reply y.reply x.words y.words
         x.scores y.scores x.metrics y.metrics x.decisions y.decisions p q in
-        ap₂ (λ (u : Batch) (w : List ℕ). record { reply = u; words = w; scores = x.scores; metrics = x.metrics; decisions = x.decisions }) same.0 same.1
+        ap₂ (λ (u : Result Counts Refusal) (w : List ℕ). record { reply = u; words = w; scores = x.scores; metrics = x.metrics; decisions = x.decisions }) same.0 same.1
         ∙ ap₂ (λ (v m : List ℤ). record { reply = y.reply; words = y.words; scores = v; metrics = m; decisions = x.decisions }) same.2 same.3
         ∙ ap (λ (d : List ℕ). record { reply = y.reply; words = y.words; scores = y.scores; metrics = y.metrics; decisions = d }) same.4
 
@@ -124,18 +125,18 @@ firmness-call-determined words samples position lent a b r s = calls-determined 
     one : (x y : Judging) → JudgesTo (plate_of words) samples position lent x → JudgesTo (plate_of words) samples position lent y → x ≡ y
     one x y p q =
         let same = firmness-determined (plate_of words) samples position lent.metrics lent.decisions x.reply y.reply x.metrics y.metrics x.decisions y.decisions p q in
-        ap₂ (λ (u : Flagged) (m : List ℤ). record { reply = u; metrics = m; decisions = x.decisions }) same.0 same.1
+        ap₂ (λ (u : Result Flag Refusal) (m : List ℤ). record { reply = u; metrics = m; decisions = x.decisions }) same.0 same.1
         ∙ ap (λ (d : List ℕ). record { reply = y.reply; metrics = y.metrics; decisions = d }) same.2
 
 module _ (room cell : List ℕ) (r s : ℕ) (a b c d : List ℕ) where
   -- a line: the reply and the room after it are determined by the call below
-  write-call-determined : (shape : Type 0) (writes : List ℕ → Written → List ℕ → Type 0)
-      → ((x y : Written) (e f : List ℕ) → writes room x e → writes room y f → (x ≡ y) × (e ≡ f))
+  write-call-determined : (shape : Type 0) (writes : List ℕ → Result ℕ Refusal → List ℕ → Type 0)
+      → ((x y : Result ℕ Refusal) (e f : List ℕ) → writes room x e → writes room y f → (x ≡ y) × (e ≡ f))
       → CallsWrite shape writes room cell r a b → CallsWrite shape writes room cell s c d
       → SameRuns r s a b c d
   write-call-determined shape writes one =
       calls-determined
-      (λ (x y : Writing) p q. ap₂ (λ (u : Written) (l : List ℕ). record { reply = u; room = l }) (one x.reply y.reply x.room y.room p q).0 (one x.reply y.reply x.room y.room p q).1)
+      (λ (x y : Writing) p q. ap₂ (λ (u : Result ℕ Refusal) (l : List ℕ). record { reply = u; room = l }) (one x.reply y.reply x.room y.room p q).0 (one x.reply y.reply x.room y.room p q).1)
 
   pub write-plate-call-determined : (words : List ℕ) → CallsWritePlate words room cell r a b → CallsWritePlate words room cell s c d
       → SameRuns r s a b c d
@@ -181,7 +182,7 @@ why-not-call-determined words samples word lent a b r s = calls-determined one
     one : (x y : Explaining) → AsksTo (plate_of words) samples word lent x → AsksTo (plate_of words) samples word lent y → x ≡ y
     one x y p q =
         let same = why-not-determined (plate_of words) samples word lent.metrics lent.decisions x.reply y.reply x.metrics y.metrics x.decisions y.decisions p q in
-        ap₂ (λ (u : Verdict) (m : List ℤ). record { reply = u; metrics = m; decisions = x.decisions }) same.0 same.1
+        ap₂ (λ (u : Result Reason Refusal) (m : List ℤ). record { reply = u; metrics = m; decisions = x.decisions }) same.0 same.1
         ∙ ap (λ (d : List ℕ). record { reply = y.reply; metrics = y.metrics; decisions = d }) same.2
 
 pub listing-call-determined : (sheet : List ℕ) (working : Rooms) (listing cell : List ℕ) (r s : ℕ) (a b : Rooms) (c d e f : List ℕ)
@@ -192,7 +193,7 @@ listing-call-determined sheet working listing cell r s a b c d e f = calls-deter
     one : (x y : Listing) → WritesListing sheet working listing x.working x.listing x.reply → WritesListing sheet working listing y.working y.listing y.reply → x ≡ y
     one x y p q =
         let same = write-listing-determined sheet working listing x.reply y.reply x.working y.working x.listing y.listing p q in
-        ap₂ (λ (u : Written) (w : Rooms). record { reply = u; working = w; listing = x.listing }) same.0 same.1
+        ap₂ (λ (u : Result ℕ Refusal) (w : Rooms). record { reply = u; working = w; listing = x.listing }) same.0 same.1
         ∙ ap (λ (l : List ℕ). record { reply = y.reply; working = y.working; listing = l }) same.2
 
 pub plate-of-sheet-call-determined : (sheet : List ℕ) (lent a b : SheetCells) (r s : ℕ) → CallsPlateOfSheet sheet lent r a → CallsPlateOfSheet sheet lent s b

@@ -16,18 +16,6 @@ pasted-on run run' table at i v h l same e = rw (e, same, add-one) (paste-suc ru
 pub pasted-end : (run run' table : List ℕ) (at i k : ℕ) → i ≤ k → k ≤ i → run' ≡ paste run at table i → run' ≡ paste run at table k
 pasted-end run run' table at i k h l e = let same : i ≡ k = omega arith in subst (λ (m : ℕ). run' ≡ paste run at table m) same e
 
--- the same from the start of a run
-pub laid_on : (run run' table : List ℕ) (i v : ℕ) → i < length table → length table ≤ length run → v ≡ get_or table i 0 → run' ≡ paste run 0 table i
-    → set run' i v ≡ paste run 0 table (i + 1)
-laid_on run run' table i v h l same e = let z : 0 + i ≡ i = omega arith in rw z at (pasted-on run run' table 0 i v h (omega arith) same e)
-
--- a whole table at the start of a run
-pub pasted-whole : (run run' table : List ℕ) → run' ≡ paste run 0 table (length table) → run' ≡ table ++ drop (length table) run
-pasted-whole run run' table e =
-    let whole : take (length table) table ≡ table = take_all (length table) table (omega arith) in
-    let at : 0 + length table ≡ length table = omega arith in
-    e ∙ rw (whole, at)
-
 -- by the size of the table
 pub laid-sized : (run : List ℕ) {run' : List ℕ} (table : List ℕ) {size : ℕ} → length table ≡ size → run' ≡ table ++ drop (length table) run
     → run' ≡ table ++ drop size run

@@ -1,4 +1,5 @@
 -- How the replies of decode cross: an answer into its cells, a refusal into the cell of the place.
+use Rattle.std.proofs.Common.{Ok, Err}
 use lib.IntN.{ℤ}
 use lib.ListN.{length, set}
 use mathlib.Core.List.{List}
@@ -11,7 +12,6 @@ use Rattle.exports.specs.Crossing.{AnswerPut, DecodeCells, Decoding, decoded, de
 use Rattle.exports.specs.Flat.{plate_of}
 use Rattle.exports.specs.Promises.{CallsDecode, DecodeShape, DecodesTo, decode_cells}
 use Rattle.plates.specs.declared.Refusal.{Refusal}
-use Rattle.decoding.specs.declared.Decoded.TheVariants as D
 
 module _ (samples : List ℤ) (lent : DecodeCells) (d : Decoding) (words : List ℕ)
     (shape : DecodeShape (length words) (length lent.word) (length lent.metric) (length lent.counts) (length lent.at))
@@ -21,7 +21,7 @@ module _ (samples : List ℤ) (lent : DecodeCells) (d : Decoding) (words : List 
   crossed e = record { by_shape = inr (shape, record { reply = d; promised = decodes; crosses = e }) }
 
   -- the answer is in its cells
-  pub decode-found : {a : Answer} {word' counts' : List ℕ} {metric' : List ℤ} → d.reply ≡ D.Found a
+  pub decode-found : {a : Answer} {word' counts' : List ℕ} {metric' : List ℤ} → d.reply ≡ Ok a
       → AnswerPut a lent.word lent.metric lent.counts word' metric' counts'
       → CallsDecode words samples lent done (decode_cells d.metrics d.decisions word' metric' counts' (set lent.at 0 0))
   decode-found {a} {word'} {counts'} e laid =
@@ -31,7 +31,7 @@ module _ (samples : List ℤ) (lent : DecodeCells) (d : Decoding) (words : List 
       ∙ sym (ap (decoded_as lent d.metrics d.decisions) e))
 
   -- the place is in its cell
-  pub decode-refused : {q : Refusal} {r : ℕ} {at' : List ℕ} → d.reply ≡ D.Refused q → RefusedAt q lent.at r at'
+  pub decode-refused : {q : Refusal} {r : ℕ} {at' : List ℕ} → d.reply ≡ Err q → RefusedAt q lent.at r at'
       → CallsDecode words samples lent r (decode_cells d.metrics d.decisions lent.word lent.metric lent.counts at')
   decode-refused e f =
       crossed

@@ -1,4 +1,5 @@
 -- How the replies of firmness cross: a reading into its cells, a refusal into the cell of the place.
+use Rattle.std.proofs.Common.{Ok, Err}
 use lib.IntN.{pos, ℤ}
 use lib.ListN.{length, set}
 use mathlib.Core.List.{List}
@@ -7,7 +8,6 @@ use mathlib.Core.Path.{ap, ap₂, subst, sym, ◌∙◌, ◌≡◌}
 use native.Mathlib.Omega.{arith}
 use Prim.Native.Nat.{ℕ}
 use Rattle.decoding.specs.declared.firmness.Flag.{Flag}
-use Rattle.decoding.specs.declared.firmness.Flagged.TheVariants.{Found, Refused}
 use Rattle.decoding.specs.declared.firmness.Reading.{Reading}
 use Rattle.decoding.specs.declared.firmness.Reading.TheVariants.{Fixed, Open}
 use Rattle.decoding.specs.Firmness.{TellsFirmness, Means, is_fixed, value}
@@ -33,7 +33,7 @@ fixed-fits plate samples position (Fixed b) h =
 fixed-fits plate samples position (Open margin) h = tt
 
 -- the reading of a flag that is found fits its cells
-pub reading-fits : (plate : Plate) (samples : List ℤ) (position : ℕ) (lent : FirmnessCells) (j : Judging) → JudgesTo plate samples position lent j → (flag : Flag) → j.reply ≡ Found flag
+pub reading-fits : (plate : Plate) (samples : List ℤ) (position : ℕ) (lent : FirmnessCells) (j : Judging) → JudgesTo plate samples position lent j → (flag : Flag) → j.reply ≡ Ok flag
     → FixedFits flag.reading
 reading-fits plate samples position lent j p flag e =
     fixed-fits plate samples position flag.reading (subst (TellsFirmness plate samples position lent.metrics lent.decisions j.metrics j.decisions) e p).1.reading
@@ -46,8 +46,8 @@ module _ (samples : List ℤ) (position : ℕ) (lent : FirmnessCells) (j : Judgi
   crossed e = record { by_shape = inr (shape, record { reply = j; promised = judges; crosses = e }) }
 
   -- the reading is in its cells
-  pub firmness-found : {flag : Flag} {fixed' : List ℕ} {values' : List ℤ} → j.reply ≡ Found flag
-      → ReadingPut flag.reading lent.fixed lent.value fixed' values'
+  pub firmness-found : {flag : Flag} {fixed' : List ℕ} {values' : List ℤ} → j.reply ≡ Ok flag
+      → ReadingPut flag.reading 0 lent.fixed lent.value fixed' values'
       → CallsFirmness words samples position lent done (firmness_cells j.metrics j.decisions fixed' values' (set lent.at 0 0))
   firmness-found e laid =
       crossed
@@ -55,7 +55,7 @@ module _ (samples : List ℤ) (position : ℕ) (lent : FirmnessCells) (j : Judgi
       ∙ sym (ap (judged_as lent j.metrics j.decisions) e))
 
   -- the place is in its cell
-  pub firmness-refused : {q : Refusal} {r : ℕ} {at' : List ℕ} → j.reply ≡ Refused q → RefusedAt q lent.at r at'
+  pub firmness-refused : {q : Refusal} {r : ℕ} {at' : List ℕ} → j.reply ≡ Err q → RefusedAt q lent.at r at'
       → CallsFirmness words samples position lent r (firmness_cells j.metrics j.decisions lent.fixed lent.value at')
   firmness-refused e f =
       crossed

@@ -1,4 +1,7 @@
 -- How the replies of the two alist calls cross: a text's length or a matrix into their cells, a refusal into the cell of the place.
+use Rattle.std.proofs.Common.{Result, Ok, Err}
+use Rattle.alists.specs.Made.{matrix_of}
+use Rattle.alists.specs.declared.Matrix.{Matrix}
 use lib.ListN.{drop, length, length-append, length-replicate, replicate, set}
 use mathlib.Core.List.{◌++◌, List}
 use mathlib.Core.Logic.{inr}
@@ -7,7 +10,6 @@ use native.Mathlib.Omega.{arith}
 use Prim.Native.Nat.{◌-◌, ℕ}
 use Rattle.alists.proofs.OnlyAccepted.{only-accepted}
 use Rattle.alists.specs.Calls.{Answers, Reads}
-use Rattle.alists.specs.declared.Alist.{Alist}
 use Rattle.alists.specs.Reading.{Reading, fault_in, matrix, reading}
 use Rattle.exports.proofs.CellsCopied.{laid-sized}
 use Rattle.exports.specs.Calls.{Crossing, RefusedAt, done}
@@ -15,8 +17,6 @@ use Rattle.exports.specs.Crossing.{Writing}
 use Rattle.exports.specs.Matrices.{AlistCells, AlistShape, CallsWriteAlist, WritesTo, alist_as, alist_cells, alist_written}
 use Rattle.exports.specs.Matrices.{CallsReadAlist, MatrixCells, MatrixReading, MatrixShape, ReadsTo, matrix_as, matrix_cells, matrix_read}
 use Rattle.plates.specs.declared.Refusal.{Refusal}
-use Rattle.alists.specs.declared.Alist.TheVariants as A
-use Rattle.listings.specs.declared.Written.TheVariants as W
 
 module _ (n : ℕ) (rows : List ℕ) (lent : AlistCells) (w : Writing) (shape : AlistShape (length lent.written) (length lent.at))
     (writes : WritesTo n rows lent w) where
@@ -25,12 +25,12 @@ module _ (n : ℕ) (rows : List ℕ) (lent : AlistCells) (w : Writing) (shape : 
   alist-crossed e = record { by_shape = inr (shape, record { reply = w; promised = writes; crosses = e }) }
 
   -- the bytes are in their cell
-  pub alist-written : {size : ℕ} → w.reply ≡ W.Bytes size
+  pub alist-written : {size : ℕ} → w.reply ≡ Ok size
       → CallsWriteAlist n rows lent done (alist_cells w.room (set lent.written 0 size) (set lent.at 0 0))
   alist-written e = alist-crossed (sym (ap (alist_as lent w.room) e))
 
   -- the place is in its cell
-  pub alist-not-written : {q : Refusal} {r : ℕ} {at' : List ℕ} → w.reply ≡ W.Refused q → RefusedAt q lent.at r at'
+  pub alist-not-written : {q : Refusal} {r : ℕ} {at' : List ℕ} → w.reply ≡ Err q → RefusedAt q lent.at r at'
       → CallsWriteAlist n rows lent r (alist_cells w.room lent.written at')
   alist-not-written e f =
       alist-crossed
@@ -38,7 +38,7 @@ module _ (n : ℕ) (rows : List ℕ) (lent : AlistCells) (w : Writing) (shape : 
       ∙ sym (ap (alist_as lent w.room) e))
 
 -- a table of 64 that is read into still has 64
-pub table-length : (text : List ℕ) {r : Alist} {table' : List ℕ} → Reads text (replicate 64 0) r table' → length table' ≡ 64
+pub table-length : (text : List ℕ) {r : Result Matrix Refusal} {table' : List ℕ} → Reads text (replicate 64 0) r table' → length table' ≡ 64
 table-length text {r} {table'} x = go (reading text) refl x
   where
     go : (q : Reading) → reading text ≡ q → Answers q (replicate 64 0) r table' → length table' ≡ 64
@@ -54,7 +54,7 @@ module _ (text : List ℕ) (lent : MatrixCells) (x : MatrixReading) (shape : Mat
   matrix-crossed e = record { by_shape = inr (shape, record { reply = x; promised = reads; crosses = e }) }
 
   -- the sizes and the table are in their cells
-  pub matrix-read : {n count : ℕ} {rows' : List ℕ} → x.reply ≡ A.Matrix n count → rows' ≡ x.table ++ drop (length x.table) lent.rows
+  pub matrix-read : {n count : ℕ} {rows' : List ℕ} → x.reply ≡ Ok (matrix_of n count) → rows' ≡ x.table ++ drop (length x.table) lent.rows
       → CallsReadAlist text lent done (matrix_cells (set (set lent.sizes 0 n) 1 count) rows' (set lent.at 0 0))
   matrix-read {n} {count} e laid =
       matrix-crossed
@@ -63,7 +63,7 @@ module _ (text : List ℕ) (lent : MatrixCells) (x : MatrixReading) (shape : Mat
       ∙ sym (ap (matrix_as lent x.table) e))
 
   -- the place is in its cell
-  pub matrix-not-read : {q : Refusal} {r : ℕ} {at' : List ℕ} → x.reply ≡ A.Refused q → RefusedAt q lent.at r at'
+  pub matrix-not-read : {q : Refusal} {r : ℕ} {at' : List ℕ} → x.reply ≡ Err q → RefusedAt q lent.at r at'
       → CallsReadAlist text lent r (matrix_cells lent.sizes lent.rows at')
   matrix-not-read e f =
       matrix-crossed

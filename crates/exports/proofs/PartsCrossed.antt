@@ -1,4 +1,5 @@
 -- How the replies of the metric call and of the word call cross: what was found into its cells, a refusal into the cell of the place.
+use Rattle.std.proofs.Common.{Ok, Err}
 use lib.IntN.{ℤ}
 use lib.ListN.{length, set}
 use mathlib.Core.List.{List}
@@ -11,8 +12,6 @@ use Rattle.exports.specs.Calls.{Crossing, RefusedAt, done}
 use Rattle.exports.specs.Flat.{plate_of}
 use Rattle.exports.specs.Parting.{CallsMetric, CallsWord, Choosing, ChoosesTo, MeasurePut, Measuring, MeasuresTo, MetricCells, PartShape, SelectionPut, WordCells, chosen, chosen_as, measured, measured_as, metric_cells, word_cells}
 use Rattle.plates.specs.declared.Refusal.{Refusal}
-use Rattle.decoding.specs.declared.apart.Chosen.TheVariants as C
-use Rattle.decoding.specs.declared.apart.Measured.TheVariants as M
 
 module _ (samples : List ℤ) (lent : MetricCells) (m : Measuring) (words : List ℕ)
     (shape : PartShape (length words) (length lent.metric) (length lent.counts) (length lent.at))
@@ -22,7 +21,7 @@ module _ (samples : List ℤ) (lent : MetricCells) (m : Measuring) (words : List
   metric-crossed e = record { by_shape = inr (shape, record { reply = m; promised = measures; crosses = e }) }
 
   -- the measure is in its cells
-  pub metric-found : {a : Measure} {metric' : List ℤ} {counts' : List ℕ} → m.reply ≡ M.Found a → MeasurePut a lent.metric lent.counts metric' counts'
+  pub metric-found : {a : Measure} {metric' : List ℤ} {counts' : List ℕ} → m.reply ≡ Ok a → MeasurePut a lent.metric lent.counts metric' counts'
       → CallsMetric words samples lent done (metric_cells m.metrics metric' counts' (set lent.at 0 0))
   metric-found e laid =
       metric-crossed
@@ -30,7 +29,7 @@ module _ (samples : List ℤ) (lent : MetricCells) (m : Measuring) (words : List
       ∙ sym (ap (measured_as lent m.metrics) e))
 
   -- the place is in its cell
-  pub metric-refused : {q : Refusal} {r : ℕ} {at' : List ℕ} → m.reply ≡ M.Refused q → RefusedAt q lent.at r at'
+  pub metric-refused : {q : Refusal} {r : ℕ} {at' : List ℕ} → m.reply ≡ Err q → RefusedAt q lent.at r at'
       → CallsMetric words samples lent r (metric_cells m.metrics lent.metric lent.counts at')
   metric-refused e f =
       metric-crossed
@@ -45,7 +44,7 @@ module _ (samples : List ℤ) (lent : WordCells) (c : Choosing) (words : List �
   word-crossed e = record { by_shape = inr (shape, record { reply = c; promised = chooses; crosses = e }) }
 
   -- the selection is in its cells
-  pub word-found : {a : Selection} {word' counts' : List ℕ} → c.reply ≡ C.Found a → SelectionPut a lent.word lent.counts word' counts'
+  pub word-found : {a : Selection} {word' counts' : List ℕ} → c.reply ≡ Ok a → SelectionPut a lent.word lent.counts word' counts'
       → CallsWord words samples lent done (word_cells c.metrics c.decisions word' counts' (set lent.at 0 0))
   word-found e laid =
       word-crossed
@@ -53,7 +52,7 @@ module _ (samples : List ℤ) (lent : WordCells) (c : Choosing) (words : List �
       ∙ sym (ap (chosen_as lent c.metrics c.decisions) e))
 
   -- the place is in its cell
-  pub word-refused : {q : Refusal} {r : ℕ} {at' : List ℕ} → c.reply ≡ C.Refused q → RefusedAt q lent.at r at'
+  pub word-refused : {q : Refusal} {r : ℕ} {at' : List ℕ} → c.reply ≡ Err q → RefusedAt q lent.at r at'
       → CallsWord words samples lent r (word_cells c.metrics c.decisions lent.word lent.counts at')
   word-refused e f =
       word-crossed

@@ -1,4 +1,5 @@
 -- All positions of a block, one after the other: what is refused is refused at the first, and each is as firmness tells it; the call is determined.
+use Rattle.std.proofs.Common.{Result, Ok, Err}
 use lib.IntN.{pos, ℤ}
 use lib.ListN.{drop, get_or, length, length-append, length-replicate, length-set, replicate, set}
 use lib.Seq.{drop_at, ext_get_or, get_or-set_other, get_or-set_same}
@@ -12,14 +13,11 @@ use Rattle.decoding.proofs.DecodeDetermined.{single}
 use Rattle.decoding.proofs.FirmnessDetermined.{firmness-determined}
 use Rattle.decoding.specs.Decode.{Zeroed, decision_need, decode_conditions, metric_need}
 use Rattle.decoding.specs.declared.firmness.Flag.{Flag}
-use Rattle.decoding.specs.declared.firmness.Flagged.{Flagged}
 use Rattle.decoding.specs.Firmness.{TellsFirmness, firmness_conditions, value}
 use Rattle.exports.proofs.CallsDetermined.{calls-determined}
 use Rattle.exports.specs.Calls.{Crossing, RefusedAt, done}
-use Rattle.exports.specs.declared.reading.Firm.{Firm}
-use Rattle.exports.specs.declared.reading.Firm.TheVariants.{Refused, Told}
 use Rattle.exports.specs.Flat.{plate_of}
-use Rattle.exports.specs.Judging.{ReadingPutAt, fixed_cell}
+use Rattle.exports.specs.Judging.{ReadingPut, fixed_cell}
 use Rattle.exports.specs.Reading.{CallsFirmnessAll, FirmRooms, PositionCells, PositionShape, Reading, TellsEach, firm_rooms, position_cells, read_as}
 use Rattle.exports.specs.Reading.{EachFirm, FirmAt, PositionPut, PutsPosition, ReadTo}
 use Rattle.plates.proofs.Refusing.{never_both, refuses-once}
@@ -29,15 +27,14 @@ use Rattle.plates.specs.declared.Refusal.{Refusal}
 use Rattle.plates.specs.declared.Refusal.TheVariants.{NotPrepared}
 use Rattle.plates.specs.Prepare.{IsPrepared}
 use Rattle.plates.specs.Refusals.{Passes, Refuses}
-use Rattle.decoding.specs.declared.firmness.Flagged.TheVariants as F
 
 -- ---- one position, by the reply of firmness
 
 module _ (plate : Plate) (samples : List ℤ) (i : ℕ) where
   -- its flag is in its cells
-  pub position-put : (lent lent' : FirmRooms) (reply : Flagged)
-      → TellsFirmness plate samples i lent.metrics lent.decisions lent'.metrics lent'.decisions reply → {flag : Flag} → reply ≡ F.Found flag
-      → ReadingPutAt flag.reading i lent.fixed lent.values lent'.fixed lent'.values → PositionPut plate samples i lent lent'
+  pub position-put : (lent lent' : FirmRooms) (reply : Result Flag Refusal)
+      → TellsFirmness plate samples i lent.metrics lent.decisions lent'.metrics lent'.decisions reply → {flag : Flag} → reply ≡ Ok flag
+      → ReadingPut flag.reading i lent.fixed lent.values lent'.fixed lent'.values → PositionPut plate samples i lent lent'
   position-put lent lent' reply p {flag} e laid = record {
     flag = flag;
     told = subst (TellsFirmness plate samples i lent.metrics lent.decisions lent'.metrics lent'.decisions) e p;
@@ -46,14 +43,14 @@ module _ (plate : Plate) (samples : List ℤ) (i : ℕ) where
   }
 
   -- there is none, and the cells are as they were
-  pub position-refused : (metrics metrics' : List ℤ) (decisions decisions' fixed : List ℕ) (values : List ℤ) (reply : Flagged)
-      → TellsFirmness plate samples i metrics decisions metrics' decisions' reply → {q : Refusal} → reply ≡ F.Refused q
-      → PutsPosition plate samples i (firm_rooms metrics decisions fixed values) (firm_rooms metrics' decisions' fixed values) (Refused q)
+  pub position-refused : (metrics metrics' : List ℤ) (decisions decisions' fixed : List ℕ) (values : List ℤ) (reply : Result Flag Refusal)
+      → TellsFirmness plate samples i metrics decisions metrics' decisions' reply → {q : Refusal} → reply ≡ Err q
+      → PutsPosition plate samples i (firm_rooms metrics decisions fixed values) (firm_rooms metrics' decisions' fixed values) (Err q)
   position-refused metrics metrics' decisions decisions' fixed values reply p e =
       (subst (TellsFirmness plate samples i metrics decisions metrics' decisions') e p, refl, refl)
 
   -- by what the reply is known to be
-  pub put_as : (lent lent' : FirmRooms) (reply : Firm) → PutsPosition plate samples i lent lent' reply → {known : Firm} → reply ≡ known
+  pub put_as : (lent lent' : FirmRooms) (reply : Result (Unit {0}) Refusal) → PutsPosition plate samples i lent lent' reply → {known : Result (Unit {0}) Refusal} → reply ≡ known
       → PutsPosition plate samples i lent lent' known
   put_as lent lent' reply p e = subst (PutsPosition plate samples i lent lent') e p
 
@@ -159,17 +156,17 @@ module _ {plate : Plate} {samples : List ℤ} where
         (one_more e (record { flag = p.flag; right = p.told.1; fixed_is = refl; value_is = refl }) l k))
 
     -- a position after others: it is not refused
-    pub read-on : (reply : Firm) → ReadTo plate samples i lent rooms → PutsPosition plate samples i rooms rooms' reply → i < plate.n
+    pub read-on : (reply : Result (Unit {0}) Refusal) → ReadTo plate samples i lent rooms → PutsPosition plate samples i rooms rooms' reply → i < plate.n
         → i < length rooms.fixed → i < length rooms.values → ReadTo plate samples (i + 1) lent rooms'
     read-on reply r p n l k = go reply p
       where
-        go : (s : Firm) → PutsPosition plate samples i rooms rooms' s → ReadTo plate samples (i + 1) lent rooms'
-        go Told x = record {
+        go : (s : Result (Unit {0}) Refusal) → PutsPosition plate samples i rooms rooms' s → ReadTo plate samples (i + 1) lent rooms'
+        go (Ok _) x = record {
           passes = r.passes;
           firm = put_on r.firm x (omega (arith, r.firm.fixed_size)) (omega (arith, r.firm.values_size));
           zeroed = zeroed-again r.zeroed x.told.2;
         }
-        go (Refused q) x =
+        go (Err q) x =
             absurd
             (never_both (firmness_conditions plate samples i rooms.metrics rooms.decisions)
             (as-firmness rooms.metrics rooms.decisions (still-passes r.zeroed r.passes) n) q x.0.0)
@@ -199,20 +196,20 @@ module _ {plate : Plate} {samples : List ℤ} where
 module _ (samples : List ℤ) (lent : PositionCells) (words : List ℕ)
     (shape : PositionShape (length words) (length lent.rooms.fixed) (length lent.rooms.values) (length lent.at)) (rooms' : FirmRooms) where
   -- a code and cells that the reply crosses as
-  crossed : (reply : Firm) {out : Crossing PositionCells} → TellsEach (plate_of words) samples lent.rooms rooms' reply → out ≡ read_as lent.at rooms' reply
+  crossed : (reply : Result (Unit {0}) Refusal) {out : Crossing PositionCells} → TellsEach (plate_of words) samples lent.rooms rooms' reply → out ≡ read_as lent.at rooms' reply
       → CallsFirmnessAll words samples lent out.code out.cells
   crossed reply p e = record { by_shape = inr (shape, record { reply = record { reply = reply; rooms = rooms' }; promised = p; crosses = e }) }
 
   -- the readings are in their cells
   pub positions-read : ReadTo (plate_of words) samples (plate_of words).n lent.rooms rooms'
       → CallsFirmnessAll words samples lent done (position_cells rooms' (set lent.at 0 0))
-  positions-read p = crossed Told p refl
+  positions-read p = crossed (Ok tt) p refl
 
   -- the place is in its cell
-  pub positions-refused : {q : Refusal} {r : ℕ} {at' : List ℕ} → PutsPosition (plate_of words) samples 0 lent.rooms rooms' (Refused q)
+  pub positions-refused : {q : Refusal} {r : ℕ} {at' : List ℕ} → PutsPosition (plate_of words) samples 0 lent.rooms rooms' (Err q)
       → RefusedAt q lent.at r at' → CallsFirmnessAll words samples lent r (position_cells rooms' at')
   positions-refused {q} p f =
-      crossed (Refused q) (refused-first lent.rooms.metrics lent.rooms.decisions p.0.0, still)
+      crossed (Err q) (refused-first lent.rooms.metrics lent.rooms.decisions p.0.0, still)
       (ap₂ (λ (x : ℕ) (a : List ℕ). record { code = x; cells = position_cells rooms' a }) f.number_is f.place_is)
     where
       still : rooms' ≡ lent.rooms
@@ -226,7 +223,7 @@ module _ (samples : List ℤ) (lent : PositionCells) (words : List ℕ)
 module _ (plate : Plate) (samples : List ℤ) (lent : FirmRooms) where
   -- what is read of a position is a reply of firmness at it, from the rooms as they were lent
   pub told_at : {rooms : FirmRooms} {i f : ℕ} {v : ℤ} → ReadTo plate samples plate.n lent rooms → i < plate.n → (x : FirmAt plate samples i f v)
-      → TellsFirmness plate samples i lent.metrics lent.decisions rooms.metrics rooms.decisions (F.Found x.flag)
+      → TellsFirmness plate samples i lent.metrics lent.decisions rooms.metrics rooms.decisions (Ok x.flag)
   told_at r l x = (as-firmness lent.metrics lent.decisions r.passes l, x.right, r.zeroed)
 
   module _ {one two : FirmRooms} (a : ReadTo plate samples plate.n lent one) (b : ReadTo plate samples plate.n lent two) where
@@ -234,9 +231,9 @@ module _ (plate : Plate) (samples : List ℤ) (lent : FirmRooms) where
     flag_same : {i f g : ℕ} {v w : ℤ} → i < plate.n → (x : FirmAt plate samples i f v) (y : FirmAt plate samples i g w) → x.flag ≡ y.flag
     flag_same {i} l x y =
         let same =
-        firmness-determined plate samples i lent.metrics lent.decisions (F.Found x.flag) (F.Found y.flag) one.metrics two.metrics
+        firmness-determined plate samples i lent.metrics lent.decisions (Ok x.flag) (Ok y.flag) one.metrics two.metrics
         one.decisions two.decisions (told_at a l x) (told_at b l y) in
-        let e : F.Found x.flag ≡ F.Found y.flag = same.0 in
+        let e : Ok x.flag ≡ Ok y.flag = same.0 in
         let f : x.flag ≡ y.flag = cc in
         f
 
@@ -265,12 +262,12 @@ module _ (plate : Plate) (samples : List ℤ) (lent : FirmRooms) where
   abbrev conditions : List (Refusal → Type 0)
   conditions = decode_conditions plate samples lent.metrics lent.decisions
 
-  positions-determined : (r s : Firm) (one two : FirmRooms) → TellsEach plate samples lent one r → TellsEach plate samples lent two s → (r ≡ s) × (one ≡ two)
-  positions-determined Told Told one two a b = (refl, rooms_same a b)
-  positions-determined Told (Refused q) one two a b = absurd (never_both conditions a.passes q b.0)
-  positions-determined (Refused p) Told one two a b = absurd (never_both conditions b.passes p a.0)
-  positions-determined (Refused p) (Refused q) one two a b =
-      (ap Refused (refuses-once conditions (single plate samples lent.metrics lent.decisions) p q a.0 b.0), a.1 ∙ sym b.1)
+  positions-determined : (r s : Result (Unit {0}) Refusal) (one two : FirmRooms) → TellsEach plate samples lent one r → TellsEach plate samples lent two s → (r ≡ s) × (one ≡ two)
+  positions-determined (Ok _) (Ok _) one two a b = (refl, rooms_same a b)
+  positions-determined (Ok _) (Err q) one two a b = absurd (never_both conditions a.passes q b.0)
+  positions-determined (Err p) (Ok _) one two a b = absurd (never_both conditions b.passes p a.0)
+  positions-determined (Err p) (Err q) one two a b =
+      (ap (λ (x : Refusal). Err x) (refuses-once conditions (single plate samples lent.metrics lent.decisions) p q a.0 b.0), a.1 ∙ sym b.1)
 
 pub firmness-all-call-determined : (words : List ℕ) (samples : List ℤ) (lent a b : PositionCells) (r s : ℕ) → CallsFirmnessAll words samples lent r a
     → CallsFirmnessAll words samples lent s b → ◌≡◌ {A = Crossing PositionCells} (record { code = r; cells = a }) (record { code = s; cells = b })
@@ -280,4 +277,4 @@ firmness-all-call-determined words samples lent a b r s = calls-determined one
         → TellsEach (plate_of words) samples lent.rooms y.rooms y.reply → x ≡ y
     one x y p q =
         let same = positions-determined (plate_of words) samples lent.rooms x.reply y.reply x.rooms y.rooms p q in
-        ap₂ (λ (u : Firm) (m : FirmRooms). record { reply = u; rooms = m }) same.0 same.1
+        ap₂ (λ (u : Result (Unit {0}) Refusal) (m : FirmRooms). record { reply = u; rooms = m }) same.0 same.1

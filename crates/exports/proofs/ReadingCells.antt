@@ -11,7 +11,7 @@ use Prim.Native.Nat.{◌<◌, suc, zero, ℕ}
 use Rattle.decoding.specs.declared.firmness.Reading.{Reading}
 use Rattle.decoding.specs.declared.firmness.Reading.TheVariants.{Fixed, Open}
 use Rattle.decoding.specs.Firmness.{value}
-use Rattle.exports.specs.Judging.{FixedFits, ReadingPut, ReadingPutAt, fixed_cell}
+use Rattle.exports.specs.Judging.{FixedFits, ReadingPut, fixed_cell}
 
 bit-copy : (b : ℕ) → b < 2 → to_z w32 b ≡ pos b
 bit-copy zero h = refl
@@ -22,29 +22,17 @@ module _ (r : Reading) (fixed : List ℕ) (values : List ℤ) where
   pub bit-fits : (b : ℕ) → r ≡ Fixed b → FixedFits r → SFits w32 (pos b)
   bit-fits b e h = let k : b < 2 = subst FixedFits e h in record { sfits = omega arith }
 
-  pub put-fixed : (b : ℕ) → r ≡ Fixed b → FixedFits r → ReadingPut r fixed values (set fixed 0 1) (set values 0 (to_z w32 b))
-  put-fixed b e h = record {
-    fixed_is = ap (λ (x : Reading). set fixed 0 (fixed_cell x)) (sym e);
-    value_is = ap (λ (x : ℤ). set values 0 x) (bit-copy b (subst FixedFits e h) ∙ ap value (sym e));
-  }
-
-  pub put-open : (m : ℤ) → r ≡ Open m → SFits w32 m → ReadingPut r fixed values (set fixed 0 0) (set values 0 (to_z w32 (of_z w32 m)))
-  put-open m e h = record {
-    fixed_is = ap (λ (x : Reading). set fixed 0 (fixed_cell x)) (sym e);
-    value_is = ap (λ (x : ℤ). set values 0 x) (to_z-of_z h ∙ ap value (sym e));
-  }
-
--- the same at a place
+-- the cells at a place
 module _ (r : Reading) (place : ℕ) (fixed : List ℕ) (values : List ℤ) where
-  pub put-fixed-at : (b : ℕ) → r ≡ Fixed b → FixedFits r → ReadingPutAt r place fixed values (set fixed place 1) (set values place (to_z w32 b))
-  put-fixed-at b e h = record {
+  pub put-fixed : (b : ℕ) → r ≡ Fixed b → FixedFits r → ReadingPut r place fixed values (set fixed place 1) (set values place (to_z w32 b))
+  put-fixed b e h = record {
     fixed_is = ap (λ (x : Reading). set fixed place (fixed_cell x)) (sym e);
     value_is = ap (λ (x : ℤ). set values place x) (bit-copy b (subst FixedFits e h) ∙ ap value (sym e));
   }
 
-  pub put-open-at : (m : ℤ) → r ≡ Open m → SFits w32 m
-      → ReadingPutAt r place fixed values (set fixed place 0) (set values place (to_z w32 (of_z w32 m)))
-  put-open-at m e h = record {
+  pub put-open : (m : ℤ) → r ≡ Open m → SFits w32 m
+      → ReadingPut r place fixed values (set fixed place 0) (set values place (to_z w32 (of_z w32 m)))
+  put-open m e h = record {
     fixed_is = ap (λ (x : Reading). set fixed place (fixed_cell x)) (sym e);
     value_is = ap (λ (x : ℤ). set values place x) (to_z-of_z h ∙ ap value (sym e));
   }

@@ -1,4 +1,5 @@
 -- How the replies of why_not cross: a reason into its cells, a refusal into the cell of the place.
+use Rattle.std.proofs.Common.{Ok, Err}
 use lib.IntN.{ℤ}
 use lib.ListN.{length, set}
 use mathlib.Core.List.{List}
@@ -6,7 +7,6 @@ use mathlib.Core.Logic.{inr}
 use mathlib.Core.Path.{ap, ap₂, sym, ◌∙◌, ◌≡◌}
 use Prim.Native.Nat.{ℕ}
 use Rattle.asking.specs.declared.Reason.{Reason}
-use Rattle.asking.specs.declared.Verdict.TheVariants.{Explained, Refused}
 use Rattle.exports.specs.Calls.{Crossing, RefusedAt, done}
 use Rattle.exports.specs.Explaining.{AsksTo, CallsWhyNot, Explaining, ReasonCells, ReasonPut, explained, explained_as, reason_cells}
 use Rattle.exports.specs.Flat.{plate_of}
@@ -21,7 +21,7 @@ module _ (samples : List ℤ) (word : ℕ) (lent : ReasonCells) (x : Explaining)
   crossed e = record { by_shape = inr (shape, record { reply = x; promised = asks; crosses = e }) }
 
   -- the reason is in its cells
-  pub why-not-explained : {reason : Reason} {told' : List ℕ} {difference' : List ℤ} → x.reply ≡ Explained reason
+  pub why-not-explained : {reason : Reason} {told' : List ℕ} {difference' : List ℤ} → x.reply ≡ Ok reason
       → ReasonPut reason lent.told lent.difference told' difference'
       → CallsWhyNot words samples word lent done (reason_cells x.metrics x.decisions told' difference' (set lent.at 0 0))
   why-not-explained e laid =
@@ -30,7 +30,7 @@ module _ (samples : List ℤ) (word : ℕ) (lent : ReasonCells) (x : Explaining)
       ∙ sym (ap (explained_as lent x.metrics x.decisions) e))
 
   -- the place is in its cell
-  pub why-not-refused : {q : Refusal} {r : ℕ} {at' : List ℕ} → x.reply ≡ Refused q → RefusedAt q lent.at r at'
+  pub why-not-refused : {q : Refusal} {r : ℕ} {at' : List ℕ} → x.reply ≡ Err q → RefusedAt q lent.at r at'
       → CallsWhyNot words samples word lent r (reason_cells x.metrics x.decisions lent.told lent.difference at')
   why-not-refused e f =
       crossed

@@ -1,4 +1,5 @@
 -- How a report that is opened on a sheet crosses: its plate and its order into their cells, a refusal into the cells of the place.
+use Rattle.std.proofs.Common.{Ok, Err}
 use lib.ListN.{drop, length, set}
 use mathlib.Core.List.{◌++◌, List}
 use mathlib.Core.Logic.{inr}
@@ -8,7 +9,6 @@ use Rattle.exports.specs.Calls.{Crossing, done}
 use Rattle.exports.specs.Flat.{flat}
 use Rattle.exports.specs.Sheeting.{CallsPlateOfSheet, RefusedIn, SheetCells, SheetShape, order_number, place_put, sheet_as, sheet_cells, sheeted, verdict_of}
 use Rattle.plates.specs.declared.Refusal.{Refusal}
-use Rattle.plates.specs.declared.Verdict.TheVariants.{Accepted, Refused}
 use Rattle.reports.specs.declared.Report.{Report}
 use Rattle.reports.specs.Steps.{Opens}
 
@@ -19,7 +19,7 @@ module _ (sheet : List ℕ) (lent : SheetCells) (report : Report) (shape : Sheet
   crossed e = record { by_shape = inr (shape, record { reply = report; promised = opens; crosses = e }) }
 
   -- plate and order are in their cells
-  pub sheet-accepted : {plate' : List ℕ} {order : ℕ} → verdict_of report.stage ≡ Accepted → plate' ≡ flat report.plate ++ drop 132 lent.plate
+  pub sheet-accepted : {plate' : List ℕ} {order : ℕ} → verdict_of report.stage ≡ Ok tt → plate' ≡ flat report.plate ++ drop 132 lent.plate
       → order ≡ order_number report.order
       → CallsPlateOfSheet sheet lent done (sheet_cells plate' (set lent.order 0 order) (place_put lent.at 0 0))
   sheet-accepted e laid told =
@@ -28,7 +28,7 @@ module _ (sheet : List ℕ) (lent : SheetCells) (report : Report) (shape : Sheet
       ∙ sym (ap (sheet_as lent report.plate report.order) e))
 
   -- place and field are in their cells
-  pub sheet-refused : {q : Refusal} {r : ℕ} {at' : List ℕ} → verdict_of report.stage ≡ Refused q → RefusedIn q lent.at r at'
+  pub sheet-refused : {q : Refusal} {r : ℕ} {at' : List ℕ} → verdict_of report.stage ≡ Err q → RefusedIn q lent.at r at'
       → CallsPlateOfSheet sheet lent r (sheet_cells lent.plate lent.order at')
   sheet-refused e f =
       crossed

@@ -1,4 +1,5 @@
 -- How the replies of judging cross: a judgement into its cells, a refusal into the cell of the place.
+use Rattle.std.proofs.Common.{Ok, Err}
 use lib.ListN.{drop, length, set}
 use mathlib.Core.List.{◌++◌, List}
 use mathlib.Core.Logic.{inr}
@@ -7,9 +8,9 @@ use Prim.Native.Nat.{ℕ}
 use Rattle.exports.specs.Calls.{Crossing, RefusedAt, done}
 use Rattle.exports.specs.Flat.{plate_of}
 use Rattle.exports.specs.Verdicts.{CallsJudge, JudgementPut, VerdictCells, VerdictReply, VerdictShape}
-use Rattle.exports.specs.Verdicts.{VerdictTo, verdict_as, verdict_cells, judged_verdict, verdict_told}
+use Rattle.exports.specs.Verdicts.{VerdictTo, verdict_as, verdict_cells, verdict_told}
+use Rattle.judging.specs.declared.Judged.{Judged}
 use Rattle.plates.specs.declared.Refusal.{Refusal}
-use Rattle.plates.specs.declared.Verdict.TheVariants.{Accepted, Refused}
 
 module _ (text : List ℕ) (lent : VerdictCells) (x : VerdictReply) (words : List ℕ)
     (shape : VerdictShape (length words) (length lent.verdict) (length lent.states) (length lent.branches) (length lent.at))
@@ -19,8 +20,8 @@ module _ (text : List ℕ) (lent : VerdictCells) (x : VerdictReply) (words : Lis
   crossed e = record { by_shape = inr (shape, record { reply = x; promised = judges; crosses = e }) }
 
   -- the judgement is in its cells
-  pub judge-told : {verdict' states' branches' : List ℕ} → judged_verdict x.reply.verdict ≡ Accepted
-      → JudgementPut x.reply lent.verdict lent.states lent.branches verdict' states' branches'
+  pub judge-told : {verdict' states' branches' : List ℕ} {v : Judged} → x.reply.verdict ≡ Ok v
+      → JudgementPut v x.reply lent.verdict lent.states lent.branches verdict' states' branches'
       → CallsJudge words text lent done (verdict_cells x.room verdict' states' branches' (set lent.at 0 0))
   judge-told {verdict'} e laid =
       crossed
@@ -32,7 +33,7 @@ module _ (text : List ℕ) (lent : VerdictCells) (x : VerdictReply) (words : Lis
       ∙ sym (ap (verdict_as lent x.room x.reply) e))
 
   -- the place is in its cell
-  pub judge-refused : {q : Refusal} {r : ℕ} {at' : List ℕ} → judged_verdict x.reply.verdict ≡ Refused q → RefusedAt q lent.at r at'
+  pub judge-refused : {q : Refusal} {r : ℕ} {at' : List ℕ} → x.reply.verdict ≡ Err q → RefusedAt q lent.at r at'
       → CallsJudge words text lent r (verdict_cells x.room lent.verdict lent.states lent.branches at')
   judge-refused e f =
       crossed

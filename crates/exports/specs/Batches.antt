@@ -1,8 +1,8 @@
 -- How many blocks decoded in one call cross the interface: the cells, and the promise of the call.
-use Rattle.std.specs.Prelude.{ℤ, length, set, Bool, false, true, List, ◌≡◌, ℕ, ◌≤◌}
+use Rattle.plates.specs.declared.Refusal.{Refusal}
+use Rattle.decoding.specs.declared.Counts.{Counts}
+use Rattle.std.specs.Prelude.{ℤ, length, set, Bool, false, true, List, ◌≡◌, ℕ, ◌≤◌, Result, Ok, Err}
 use Rattle.decoding.specs.Batch.{DecodesBlocks}
-use Rattle.decoding.specs.declared.batch.Batch.{Batch}
-use Rattle.decoding.specs.declared.batch.Batch.TheVariants.{Found, Refused}
 use Rattle.exports.specs.Calls.{Calls, Crossing, done}
 use Rattle.exports.specs.Crossing.{counts_put}
 use Rattle.exports.specs.Flat.{plate_of}
@@ -25,17 +25,17 @@ batch_cells metrics decisions words scores counts at =
 
 -- what the call below replies, with what is lent to it as it leaves it
 pub record Batching : Type 0 where
-  pub reply : Batch
+  pub reply : Result Counts Refusal
   pub words : List ℕ
   pub scores : List ℤ
   pub metrics : List ℤ
   pub decisions : List ℕ
 
 -- the two counts and place 0; or the place of the refusal alone
-abbrev pub batched_as : BatchCells → List ℕ → List ℤ → List ℤ → List ℕ → Batch → Crossing BatchCells
-batched_as lent words scores metrics decisions (Found counts) =
+abbrev pub batched_as : BatchCells → List ℕ → List ℤ → List ℤ → List ℕ → Result Counts Refusal → Crossing BatchCells
+batched_as lent words scores metrics decisions (Ok counts) =
     record { code = done; cells = batch_cells metrics decisions words scores (counts_put lent.counts counts) (set lent.at 0 0) }
-batched_as lent words scores metrics decisions (Refused q) =
+batched_as lent words scores metrics decisions (Err q) =
     record { code = number q; cells = batch_cells metrics decisions words scores lent.counts (set lent.at 0 (place q)) }
 
 abbrev pub batched : BatchCells → Batching → Crossing BatchCells

@@ -1,49 +1,38 @@
 -- How the replies of the calls below cross the interface: the code, and the lent cells as they are left.
-use Rattle.std.specs.Prelude.{ℤ, drop, set, ◌++◌, List, ◌≡◌, ℕ}
-use Rattle.coding.specs.declared.Encoded.{Encoded}
-use Rattle.coding.specs.declared.ReadBack.{ReadBack}
+use Rattle.plates.specs.declared.Refusal.{Refusal}
+use Rattle.std.specs.Prelude.{ℤ, drop, set, ◌++◌, List, ◌≡◌, ℕ, Result, Ok, Err, Option, Some, None}
 use Rattle.decoding.specs.declared.Answer.{Answer}
 use Rattle.decoding.specs.declared.Counts.{Counts}
-use Rattle.decoding.specs.declared.Decoded.{Decoded}
 use Rattle.exports.specs.Calls.{Crossing, done, no_branch}
 use Rattle.exports.specs.Flat.{flat}
-use Rattle.listings.specs.declared.Written.{Written}
 use Rattle.plates.specs.declared.Plate.{Plate}
 use Rattle.plates.specs.declared.Prepared.{Prepared}
-use Rattle.plates.specs.declared.Verdict.{Verdict}
-use Rattle.plates.specs.declared.Verdict.TheVariants.{Accepted, Refused}
 use Rattle.plates.specs.Refusals.{number, place}
 use Rattle.reports.specs.Remaining.{Rooms}
-use Rattle.trellises.specs.declared.Next.{Next}
-use Rattle.coding.specs.declared.Encoded.TheVariants as E
-use Rattle.coding.specs.declared.ReadBack.TheVariants as R
-use Rattle.decoding.specs.declared.Decoded.TheVariants as D
-use Rattle.listings.specs.declared.Written.TheVariants as W
-use Rattle.trellises.specs.declared.Next.TheVariants as N
 
 -- prepare: the plate's words from the start of their run, and place 0; or the place of the refusal alone
-abbrev pub prepared_as : List ℕ → List ℕ → Plate → Verdict → Crossing (List ℕ × List ℕ)
-prepared_as run at plate Accepted = record { code = done; cells = (flat plate ++ drop 132 run, set at 0 0) }
-prepared_as run at plate (Refused q) = record { code = number q; cells = (run, set at 0 (place q)) }
+abbrev pub prepared_as : List ℕ → List ℕ → Plate → Result (Unit {0}) Refusal → Crossing (List ℕ × List ℕ)
+prepared_as run at plate (Ok _) = record { code = done; cells = (flat plate ++ drop 132 run, set at 0 0) }
+prepared_as run at plate (Err q) = record { code = number q; cells = (run, set at 0 (place q)) }
 
 abbrev pub prepared : List ℕ → List ℕ → Prepared → Crossing (List ℕ × List ℕ)
 prepared run at r = prepared_as run at r.plate r.verdict
 
 -- branch: the next state
-abbrev pub branched : List ℕ → Next → Crossing (List ℕ)
-branched cell (N.State next) = record { code = done; cells = set cell 0 next }
-branched cell N.NoBranch = record { code = no_branch; cells = cell }
-branched cell (N.Refused q) = record { code = number q; cells = cell }
+abbrev pub branched : List ℕ → Result (Option ℕ) Refusal → Crossing (List ℕ)
+branched cell (Ok (Some next)) = record { code = done; cells = set cell 0 next }
+branched cell (Ok None) = record { code = no_branch; cells = cell }
+branched cell (Err q) = record { code = number q; cells = cell }
 
 -- encode: the word
-abbrev pub encoded : List ℕ → Encoded → Crossing (List ℕ)
-encoded cell (E.Word word) = record { code = done; cells = set cell 0 word }
-encoded cell (E.Refused q) = record { code = number q; cells = cell }
+abbrev pub encoded : List ℕ → Result ℕ Refusal → Crossing (List ℕ)
+encoded cell (Ok word) = record { code = done; cells = set cell 0 word }
+encoded cell (Err q) = record { code = number q; cells = cell }
 
 -- read back: the information
-abbrev pub read_back : List ℕ → ReadBack → Crossing (List ℕ)
-read_back cell (R.Information information) = record { code = done; cells = set cell 0 information }
-read_back cell (R.Refused q) = record { code = number q; cells = cell }
+abbrev pub read_back : List ℕ → Result ℕ Refusal → Crossing (List ℕ)
+read_back cell (Ok information) = record { code = done; cells = set cell 0 information }
+read_back cell (Err q) = record { code = number q; cells = cell }
 
 -- the two counts stand in the first two cells
 abbrev pub counts_put : List ℕ → Counts → List ℕ
@@ -60,13 +49,13 @@ pub record DecodeCells : Type 0 where
 
 -- what decode replies, with the two rooms as it leaves them
 pub record Decoding : Type 0 where
-  pub reply : Decoded
+  pub reply : Result Answer Refusal
   pub metrics : List ℤ
   pub decisions : List ℕ
 
 -- decode: the word, its metric, the two counts, and place 0; or the place of the refusal alone
-abbrev pub decoded_as : DecodeCells → List ℤ → List ℕ → Decoded → Crossing DecodeCells
-decoded_as lent metrics decisions (D.Found a) = record {
+abbrev pub decoded_as : DecodeCells → List ℤ → List ℕ → Result Answer Refusal → Crossing DecodeCells
+decoded_as lent metrics decisions (Ok a) = record {
   code = done;
   cells = record {
     metrics = metrics;
@@ -77,7 +66,7 @@ decoded_as lent metrics decisions (D.Found a) = record {
     at = set lent.at 0 0;
   };
 }
-decoded_as lent metrics decisions (D.Refused q) = record {
+decoded_as lent metrics decisions (Err q) = record {
   code = number q;
   cells = record {
     metrics = metrics;
@@ -94,19 +83,19 @@ decoded lent d = decoded_as lent d.metrics d.decisions d.reply
 
 -- what a call that writes a line replies, with the room as it leaves it
 pub record Writing : Type 0 where
-  pub reply : Written
+  pub reply : Result ℕ Refusal
   pub room : List ℕ
 
 -- a line: its length
-abbrev pub written_as : List ℕ → List ℕ → Written → Crossing (List ℕ × List ℕ)
-written_as cell room (W.Bytes size) = record { code = done; cells = (room, set cell 0 size) }
-written_as cell room (W.Refused q) = record { code = number q; cells = (room, cell) }
+abbrev pub written_as : List ℕ → List ℕ → Result ℕ Refusal → Crossing (List ℕ × List ℕ)
+written_as cell room (Ok size) = record { code = done; cells = (room, set cell 0 size) }
+written_as cell room (Err q) = record { code = number q; cells = (room, cell) }
 
 abbrev pub written : List ℕ → Writing → Crossing (List ℕ × List ℕ)
 written cell w = written_as cell w.room w.reply
 
 -- a reply crosses so, with the length in its cell
-abbrev pub LengthPut : Written → List ℕ → ℕ → List ℕ → Type 0
+abbrev pub LengthPut : Result ℕ Refusal → List ℕ → ℕ → List ℕ → Type 0
 LengthPut reply cell r cell' =
     (room : List ℕ) → ◌≡◌ {A = Crossing (List ℕ × List ℕ)} (record { code = r; cells = (room, cell') }) (written_as cell room reply)
 
@@ -129,7 +118,7 @@ listing_cells working listing cell = record { working = working; listing = listi
 
 -- what writing a listing replies, with the rooms as it leaves them
 pub record Listing : Type 0 where
-  pub reply : Written
+  pub reply : Result ℕ Refusal
   pub working : Rooms
   pub listing : List ℕ
 

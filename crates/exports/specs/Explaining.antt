@@ -1,10 +1,9 @@
 -- How a reason crosses the interface: the cells, how it stands in them, and the promise of the call.
-use Rattle.std.specs.Prelude.{pos, ℤ, length, set, List, ◌≡◌, ℕ}
+use Rattle.plates.specs.declared.Refusal.{Refusal}
+use Rattle.std.specs.Prelude.{pos, ℤ, length, set, List, ◌≡◌, ℕ, Result, Ok, Err}
 use Rattle.asking.specs.Asking.{Asks}
 use Rattle.asking.specs.declared.Reason.{Reason}
 use Rattle.asking.specs.declared.Reason.TheVariants.{Chosen, NoCodeword, ScoresLess, TiesAndLoses}
-use Rattle.asking.specs.declared.Verdict.{Verdict}
-use Rattle.asking.specs.declared.Verdict.TheVariants.{Explained, Refused}
 use Rattle.exports.specs.Calls.{Calls, Crossing, done}
 use Rattle.exports.specs.Flat.{plate_of}
 use Rattle.exports.specs.Parting.{PartShape}
@@ -55,17 +54,17 @@ pub record ReasonPut (reason : Reason) (told : List ℕ) (difference : List ℤ)
 
 -- what the call below replies, with the two rooms as it leaves them
 pub record Explaining : Type 0 where
-  pub reply : Verdict
+  pub reply : Result Reason Refusal
   pub metrics : List ℤ
   pub decisions : List ℕ
 
 -- the reason and place 0; or the place of the refusal alone
-abbrev pub explained_as : ReasonCells → List ℤ → List ℕ → Verdict → Crossing ReasonCells
-explained_as lent metrics decisions (Explained reason) = record {
+abbrev pub explained_as : ReasonCells → List ℤ → List ℕ → Result Reason Refusal → Crossing ReasonCells
+explained_as lent metrics decisions (Ok reason) = record {
   code = done;
   cells = reason_cells metrics decisions (told_put lent.told reason) (set lent.difference 0 (reason_difference reason)) (set lent.at 0 0);
 }
-explained_as lent metrics decisions (Refused q) =
+explained_as lent metrics decisions (Err q) =
     record { code = number q; cells = reason_cells metrics decisions lent.told lent.difference (set lent.at 0 (place q)) }
 
 abbrev pub explained : ReasonCells → Explaining → Crossing ReasonCells

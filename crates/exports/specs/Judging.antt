@@ -1,7 +1,7 @@
 -- How a position judged crosses the interface: the cells, how a reading stands in them, and the promise of the call.
-use Rattle.std.specs.Prelude.{ℤ, length, set, Bool, cond, false, true, List, ◌≡◌, ◌<◌, ℕ, ◌≤◌}
-use Rattle.decoding.specs.declared.firmness.Flagged.{Flagged}
-use Rattle.decoding.specs.declared.firmness.Flagged.TheVariants.{Found, Refused}
+use Rattle.plates.specs.declared.Refusal.{Refusal}
+use Rattle.decoding.specs.declared.firmness.Flag.{Flag}
+use Rattle.std.specs.Prelude.{ℤ, length, set, Bool, cond, false, true, List, ◌≡◌, ◌<◌, ℕ, ◌≤◌, Result, Ok, Err}
 use Rattle.decoding.specs.declared.firmness.Reading.{Reading}
 use Rattle.decoding.specs.declared.firmness.Reading.TheVariants.{Fixed, Open}
 use Rattle.decoding.specs.Firmness.{TellsFirmness, is_fixed, value}
@@ -24,7 +24,7 @@ firmness_cells metrics decisions fixed value at = record { metrics = metrics; de
 
 -- what firmness replies, with the two rooms as it leaves them
 pub record Judging : Type 0 where
-  pub reply : Flagged
+  pub reply : Result Flag Refusal
   pub metrics : List ℤ
   pub decisions : List ℕ
 
@@ -37,19 +37,14 @@ abbrev pub FixedFits : Reading → Type 0
 FixedFits (Fixed b) = b < 2
 FixedFits (Open margin) = Unit {0}
 
--- a reading stands in its cells
-pub record ReadingPut (reading : Reading) (fixed : List ℕ) (values : List ℤ) (fixed' : List ℕ) (values' : List ℤ) : Type 0 where
-  pub fixed_is : fixed' ≡ set fixed 0 (fixed_cell reading)
-  pub value_is : values' ≡ set values 0 (value reading)
-
 -- a reading stands in its cells at a place
-pub record ReadingPutAt (reading : Reading) (place : ℕ) (fixed : List ℕ) (values : List ℤ) (fixed' : List ℕ) (values' : List ℤ) : Type 0 where
+pub record ReadingPut (reading : Reading) (place : ℕ) (fixed : List ℕ) (values : List ℤ) (fixed' : List ℕ) (values' : List ℤ) : Type 0 where
   pub fixed_is : fixed' ≡ set fixed place (fixed_cell reading)
   pub value_is : values' ≡ set values place (value reading)
 
 -- firmness: whether the reading is fixed, its value, and place 0; or the place of the refusal alone
-abbrev pub judged_as : FirmnessCells → List ℤ → List ℕ → Flagged → Crossing FirmnessCells
-judged_as lent metrics decisions (Found flag) = record {
+abbrev pub judged_as : FirmnessCells → List ℤ → List ℕ → Result Flag Refusal → Crossing FirmnessCells
+judged_as lent metrics decisions (Ok flag) = record {
   code = done;
   cells = record {
     metrics = metrics;
@@ -59,7 +54,7 @@ judged_as lent metrics decisions (Found flag) = record {
     at = set lent.at 0 0;
   };
 }
-judged_as lent metrics decisions (Refused q) = record {
+judged_as lent metrics decisions (Err q) = record {
   code = number q;
   cells = record {
     metrics = metrics;

@@ -1,13 +1,11 @@
 -- How a parity check matrix crosses the interface as alist text, written and read: the cells, and the promises of the two calls.
-use Rattle.std.specs.Prelude.{drop, length, replicate, set, ◌++◌, List, ℕ, ◌≤◌}
+use Rattle.plates.specs.declared.Refusal.{Refusal}
+use Rattle.alists.specs.declared.Matrix.{Matrix}
+use Rattle.std.specs.Prelude.{drop, length, replicate, set, ◌++◌, List, ℕ, ◌≤◌, Result, Ok, Err}
 use Rattle.alists.specs.Calls.{Reads, WritesAlist}
-use Rattle.alists.specs.declared.Alist.{Alist}
 use Rattle.exports.specs.Calls.{Calls, Crossing, done}
 use Rattle.exports.specs.Crossing.{Writing}
-use Rattle.listings.specs.declared.Written.{Written}
 use Rattle.plates.specs.Refusals.{number, place}
-use Rattle.alists.specs.declared.Alist.TheVariants as A
-use Rattle.listings.specs.declared.Written.TheVariants as W
 
 -- ---- written
 
@@ -22,9 +20,9 @@ abbrev pub alist_cells : List ℕ → List ℕ → List ℕ → AlistCells
 alist_cells room written at = record { room = room; written = written; at = at }
 
 -- the bytes of the text and place 0; or the place of the refusal alone
-abbrev pub alist_as : AlistCells → List ℕ → Written → Crossing AlistCells
-alist_as lent room (W.Bytes size) = record { code = done; cells = alist_cells room (set lent.written 0 size) (set lent.at 0 0) }
-alist_as lent room (W.Refused q) = record { code = number q; cells = alist_cells room lent.written (set lent.at 0 (place q)) }
+abbrev pub alist_as : AlistCells → List ℕ → Result ℕ Refusal → Crossing AlistCells
+alist_as lent room (Ok size) = record { code = done; cells = alist_cells room (set lent.written 0 size) (set lent.at 0 0) }
+alist_as lent room (Err q) = record { code = number q; cells = alist_cells room lent.written (set lent.at 0 (place q)) }
 
 abbrev pub alist_written : AlistCells → Writing → Crossing AlistCells
 alist_written lent w = alist_as lent w.room w.reply
@@ -56,16 +54,16 @@ matrix_cells sizes rows at = record { sizes = sizes; rows = rows; at = at }
 
 -- what reading replies, with its table as it leaves it
 pub record MatrixReading : Type 0 where
-  pub reply : Alist
+  pub reply : Result Matrix Refusal
   pub table : List ℕ
 
 -- the numbers of columns and of rows, the table in the first 64 cells, and place 0; or the place of the refusal alone
-abbrev pub matrix_as : MatrixCells → List ℕ → Alist → Crossing MatrixCells
-matrix_as lent table (A.Matrix n count) = record {
+abbrev pub matrix_as : MatrixCells → List ℕ → Result Matrix Refusal → Crossing MatrixCells
+matrix_as lent table (Ok m) = record {
   code = done;
-  cells = matrix_cells (set (set lent.sizes 0 n) 1 count) (table ++ drop 64 lent.rows) (set lent.at 0 0);
+  cells = matrix_cells (set (set lent.sizes 0 m.n) 1 m.count) (table ++ drop 64 lent.rows) (set lent.at 0 0);
 }
-matrix_as lent table (A.Refused q) = record { code = number q; cells = matrix_cells lent.sizes lent.rows (set lent.at 0 (place q)) }
+matrix_as lent table (Err q) = record { code = number q; cells = matrix_cells lent.sizes lent.rows (set lent.at 0 (place q)) }
 
 abbrev pub matrix_read : MatrixCells → MatrixReading → Crossing MatrixCells
 matrix_read lent x = matrix_as lent x.table x.reply

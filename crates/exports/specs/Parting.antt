@@ -1,17 +1,14 @@
 -- How the metric without the word and the word without its metric cross the interface: the cells, and the promises of the two calls.
-use Rattle.std.specs.Prelude.{ℤ, length, set, Bool, false, true, List, ◌≡◌, ℕ, ◌≤◌}
+use Rattle.plates.specs.declared.Refusal.{Refusal}
+use Rattle.std.specs.Prelude.{ℤ, length, set, Bool, false, true, List, ◌≡◌, ℕ, ◌≤◌, Result, Ok, Err}
 use Rattle.decoding.specs.Apart.{Chooses, Measures}
-use Rattle.decoding.specs.declared.apart.Chosen.{Chosen}
 use Rattle.decoding.specs.declared.apart.Measure.{Measure}
-use Rattle.decoding.specs.declared.apart.Measured.{Measured}
 use Rattle.decoding.specs.declared.apart.Selection.{Selection}
 use Rattle.exports.specs.Calls.{Calls, Crossing, done}
 use Rattle.exports.specs.Crossing.{counts_put}
 use Rattle.exports.specs.Flat.{plate_of}
 use Rattle.plates.specs.declared.Plate.{Plate}
 use Rattle.plates.specs.Refusals.{number, place}
-use Rattle.decoding.specs.declared.apart.Chosen.TheVariants as C
-use Rattle.decoding.specs.declared.apart.Measured.TheVariants as M
 
 -- ---- what both have in common
 
@@ -39,7 +36,7 @@ metric_cells metrics metric counts at = record { metrics = metrics; metric = met
 
 -- what the metric call replies, with the room as it leaves it
 pub record Measuring : Type 0 where
-  pub reply : Measured
+  pub reply : Result Measure Refusal
   pub metrics : List ℤ
 
 -- a measure stands in its cells
@@ -48,10 +45,10 @@ pub record MeasurePut (m : Measure) (metric : List ℤ) (counts : List ℕ) (met
   pub counts_are : counts' ≡ counts_put counts m.counts
 
 -- the metric, the two counts, and place 0; or the place of the refusal alone
-abbrev pub measured_as : MetricCells → List ℤ → Measured → Crossing MetricCells
-measured_as lent metrics (M.Found m) =
+abbrev pub measured_as : MetricCells → List ℤ → Result Measure Refusal → Crossing MetricCells
+measured_as lent metrics (Ok m) =
     record { code = done; cells = metric_cells metrics (set lent.metric 0 m.metric) (counts_put lent.counts m.counts) (set lent.at 0 0) }
-measured_as lent metrics (M.Refused q) = record { code = number q; cells = metric_cells metrics lent.metric lent.counts (set lent.at 0 (place q)) }
+measured_as lent metrics (Err q) = record { code = number q; cells = metric_cells metrics lent.metric lent.counts (set lent.at 0 (place q)) }
 
 abbrev pub measured : MetricCells → Measuring → Crossing MetricCells
 measured lent m = measured_as lent m.metrics m.reply
@@ -82,7 +79,7 @@ word_cells metrics decisions word counts at = record { metrics = metrics; decisi
 
 -- what the word call replies, with the two rooms as it leaves them
 pub record Choosing : Type 0 where
-  pub reply : Chosen
+  pub reply : Result Selection Refusal
   pub metrics : List ℤ
   pub decisions : List ℕ
 
@@ -92,10 +89,10 @@ pub record SelectionPut (c : Selection) (word counts word' counts' : List ℕ) :
   pub counts_are : counts' ≡ counts_put counts c.counts
 
 -- the word, the two counts, and place 0; or the place of the refusal alone
-abbrev pub chosen_as : WordCells → List ℤ → List ℕ → Chosen → Crossing WordCells
-chosen_as lent metrics decisions (C.Found c) =
+abbrev pub chosen_as : WordCells → List ℤ → List ℕ → Result Selection Refusal → Crossing WordCells
+chosen_as lent metrics decisions (Ok c) =
     record { code = done; cells = word_cells metrics decisions (set lent.word 0 c.word) (counts_put lent.counts c.counts) (set lent.at 0 0) }
-chosen_as lent metrics decisions (C.Refused q) =
+chosen_as lent metrics decisions (Err q) =
     record { code = number q; cells = word_cells metrics decisions lent.word lent.counts (set lent.at 0 (place q)) }
 
 abbrev pub chosen : WordCells → Choosing → Crossing WordCells

@@ -1,11 +1,11 @@
 -- The promises of the calls, but for firmness (Judging), the metric and the word (Parting): the fixed shape, the promise of the call below, and how its reply crosses.
-use Rattle.std.specs.Prelude.{ℤ, length, Bool, false, true, List, ◌≡◌, suc, zero, ℕ, ◌≤◌}
+use Rattle.plates.specs.declared.Refusal.{Refusal}
+use Rattle.std.specs.Prelude.{ℤ, length, Bool, false, true, List, ◌≡◌, suc, zero, ℕ, ◌≤◌, Result}
 use Rattle.coding.specs.Coding.{Encodes, ReadsBack}
 use Rattle.decoding.specs.Decode.{Decodes}
 use Rattle.exports.specs.Calls.{Calls}
 use Rattle.exports.specs.Crossing.{DecodeCells, Decoding, Listing, Writing, branched, decoded, encoded, listed, listing_cells, prepared, read_back, written}
 use Rattle.exports.specs.Flat.{plate_of}
-use Rattle.listings.specs.declared.Written.{Written}
 use Rattle.listings.specs.Writing.{WritesEnd, WritesPlate, WritesProfile, WritesRefused, WritesWord}
 use Rattle.plates.specs.declared.Kind.{Kind}
 use Rattle.plates.specs.declared.Kind.TheVariants.{G, H}
@@ -71,7 +71,7 @@ CallsDecode words samples lent r lent' =
     (DecodesTo (plate_of words) samples lent) (decoded lent) (record { code = r; cells = lent' })
 
 -- a call that writes a line: fixed is a cell for the length, and the plate's run where there is one
-abbrev pub CallsWrite : Type 0 → (List ℕ → Written → List ℕ → Type 0) → List ℕ → List ℕ → ℕ → List ℕ → List ℕ → Type 0
+abbrev pub CallsWrite : Type 0 → (List ℕ → Result ℕ Refusal → List ℕ → Type 0) → List ℕ → List ℕ → ℕ → List ℕ → List ℕ → Type 0
 CallsWrite shape writes room cell r room' cell' =
     Calls shape (room, cell) (λ (w : Writing). writes room w.reply w.room) (written cell) (record { code = r; cells = (room', cell') })
 

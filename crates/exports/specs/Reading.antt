@@ -1,15 +1,13 @@
 -- How all positions of a block judged cross the interface: the cells, how each reading stands in them, and the promise of the call.
-use Rattle.std.specs.Prelude.{pos, ℤ, get_or, length, set, List, ◌≡◌, ◌<◌, ℕ, ◌≤◌}
+use Rattle.std.specs.Prelude.{pos, ℤ, get_or, length, set, List, ◌≡◌, ◌<◌, ℕ, ◌≤◌, Result, Ok, Err}
 use Rattle.decoding.specs.Decode.{Zeroed, decode_conditions}
 use Rattle.decoding.specs.declared.firmness.Flag.{Flag}
-use Rattle.decoding.specs.declared.firmness.Flagged.TheVariants as F
 use Rattle.decoding.specs.Firmness.{FlagOf, TellsFirmness, value}
 use Rattle.exports.specs.Calls.{Calls, Crossing, done}
-use Rattle.exports.specs.declared.reading.Firm.{Firm}
-use Rattle.exports.specs.declared.reading.Firm.TheVariants.{Refused, Told}
 use Rattle.exports.specs.Flat.{plate_of}
 use Rattle.exports.specs.Judging.{fixed_cell}
 use Rattle.plates.specs.declared.Plate.{Plate}
+use Rattle.plates.specs.declared.Refusal.{Refusal}
 use Rattle.plates.specs.Prepare.{IsWord}
 use Rattle.plates.specs.Refusals.{Passes, Refuses, number, place}
 
@@ -48,9 +46,9 @@ pub record ReadTo (plate : Plate) (samples : List ℤ) (m : ℕ) (lent lent' : F
   pub zeroed : Zeroed plate lent.metrics lent'.metrics lent.decisions lent'.decisions
 
 -- What all positions reply: the first of decoding's refusals, 5 to 9, with all that is lent unchanged, or the readings of the n positions
-abbrev pub TellsEach : Plate → List ℤ → FirmRooms → FirmRooms → Firm → Type 0
-TellsEach plate samples lent lent' Told = ReadTo plate samples plate.n lent lent'
-TellsEach plate samples lent lent' (Refused q) = Refuses (decode_conditions plate samples lent.metrics lent.decisions) q × (lent' ≡ lent)
+abbrev pub TellsEach : Plate → List ℤ → FirmRooms → FirmRooms → Result (Unit {0}) Refusal → Type 0
+TellsEach plate samples lent lent' (Ok _) = ReadTo plate samples plate.n lent lent'
+TellsEach plate samples lent lent' (Err q) = Refuses (decode_conditions plate samples lent.metrics lent.decisions) q × (lent' ≡ lent)
 
 -- ---- how it crosses
 
@@ -65,13 +63,13 @@ position_cells rooms at = record { rooms = rooms; at = at }
 
 -- what is replied, with what is lent as it is left
 pub record Reading : Type 0 where
-  pub reply : Firm
+  pub reply : Result (Unit {0}) Refusal
   pub rooms : FirmRooms
 
 -- place 0, or the place of the refusal
-abbrev pub read_as : List ℕ → FirmRooms → Firm → Crossing PositionCells
-read_as at rooms Told = record { code = done; cells = position_cells rooms (set at 0 0) }
-read_as at rooms (Refused q) = record { code = number q; cells = position_cells rooms (set at 0 (place q)) }
+abbrev pub read_as : List ℕ → FirmRooms → Result (Unit {0}) Refusal → Crossing PositionCells
+read_as at rooms (Ok _) = record { code = done; cells = position_cells rooms (set at 0 0) }
+read_as at rooms (Err q) = record { code = number q; cells = position_cells rooms (set at 0 (place q)) }
 
 abbrev pub readings : PositionCells → Reading → Crossing PositionCells
 readings lent r = read_as lent.at r.rooms r.reply
@@ -91,15 +89,15 @@ CallsFirmnessAll words samples lent r lent' =
 -- one position: its flag in its cells
 pub record PositionPut (plate : Plate) (samples : List ℤ) (position : ℕ) (lent lent' : FirmRooms) : Type 0 where
   pub flag : Flag
-  pub told : TellsFirmness plate samples position lent.metrics lent.decisions lent'.metrics lent'.decisions (F.Found flag)
+  pub told : TellsFirmness plate samples position lent.metrics lent.decisions lent'.metrics lent'.decisions (Ok flag)
   pub fixed_is : lent'.fixed ≡ set lent.fixed position (fixed_cell flag.reading)
   pub value_is : lent'.values ≡ set lent.values position (value flag.reading)
 
 -- or why there is none, with the cells as they were
-abbrev pub PutsPosition : Plate → List ℤ → ℕ → FirmRooms → FirmRooms → Firm → Type 0
-PutsPosition plate samples position lent lent' Told = PositionPut plate samples position lent lent'
-PutsPosition plate samples position lent lent' (Refused q) =
-    TellsFirmness plate samples position lent.metrics lent.decisions lent'.metrics lent'.decisions (F.Refused q)
+abbrev pub PutsPosition : Plate → List ℤ → ℕ → FirmRooms → FirmRooms → Result (Unit {0}) Refusal → Type 0
+PutsPosition plate samples position lent lent' (Ok _) = PositionPut plate samples position lent lent'
+PutsPosition plate samples position lent lent' (Err q) =
+    TellsFirmness plate samples position lent.metrics lent.decisions lent'.metrics lent'.decisions (Err q)
     × (lent'.fixed ≡ lent.fixed) × (lent'.values ≡ lent.values)
 
 -- where the first i positions were read, the first j are

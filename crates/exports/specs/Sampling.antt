@@ -1,15 +1,12 @@
 -- How the level of a value and the levels of a block cross the interface: the cells, and the promises of the two calls.
-use Rattle.std.specs.Prelude.{Float, ℤ, length, set, List, ◌≡◌, ◌<◌, ℕ, ◌≤◌}
+use Rattle.plates.specs.declared.Refusal.{Refusal}
+use Rattle.std.specs.Prelude.{Float, ℤ, length, set, List, ◌≡◌, ◌<◌, ℕ, ◌≤◌, Result, Ok, Err}
 use Rattle.exports.specs.Calls.{Calls, Crossing, done}
 use Rattle.exports.specs.Promises.{HasCell}
 use Rattle.levels.specs.Choosing.{sample_of}
-use Rattle.levels.specs.declared.Level.{Level}
-use Rattle.levels.specs.declared.Levels.{Levels}
 use Rattle.levels.specs.declared.Setting.{Setting}
 use Rattle.levels.specs.Giving.{GivesLevel, GivesLevels}
 use Rattle.plates.specs.Refusals.{number, place}
-use Rattle.levels.specs.declared.Level.TheVariants as L
-use Rattle.levels.specs.declared.Levels.TheVariants as B
 
 -- the setting of a step and a top level: the top crosses as 64 bits, and as it stands has to be 1 to 127 for the setting to be permitted
 abbrev pub setting_of : Float → ℕ → Setting
@@ -23,9 +20,9 @@ pub record Narrows (top r : ℕ) : Type 0 where
 -- ---- one level
 
 -- the level in its cell; a refusal leaves it
-abbrev pub level_as : List ℤ → Level → Crossing (List ℤ)
-level_as cell (L.Is level) = record { code = done; cells = set cell 0 level }
-level_as cell (L.Refused q) = record { code = number q; cells = cell }
+abbrev pub level_as : List ℤ → Result ℤ Refusal → Crossing (List ℤ)
+level_as cell (Ok level) = record { code = done; cells = set cell 0 level }
+level_as cell (Err q) = record { code = number q; cells = cell }
 
 -- fixed is a cell for the level; the value is erased unless `erased` is 0
 abbrev pub CallsLevel : Float → ℕ → Float → ℕ → List ℤ → ℕ → List ℤ → Type 0
@@ -45,13 +42,13 @@ level_cells levels at = record { levels = levels; at = at }
 
 -- what the call below replies, with the room as it leaves it
 pub record Sampling : Type 0 where
-  pub reply : Levels
+  pub reply : Result (Unit {0}) Refusal
   pub levels : List ℤ
 
 -- place 0, or the place of the refusal
-abbrev pub sampled_as : LevelCells → List ℤ → Levels → Crossing LevelCells
-sampled_as lent levels B.Written = record { code = done; cells = level_cells levels (set lent.at 0 0) }
-sampled_as lent levels (B.Refused q) = record { code = number q; cells = level_cells levels (set lent.at 0 (place q)) }
+abbrev pub sampled_as : LevelCells → List ℤ → Result (Unit {0}) Refusal → Crossing LevelCells
+sampled_as lent levels (Ok _) = record { code = done; cells = level_cells levels (set lent.at 0 0) }
+sampled_as lent levels (Err q) = record { code = number q; cells = level_cells levels (set lent.at 0 (place q)) }
 
 abbrev pub sampled : LevelCells → Sampling → Crossing LevelCells
 sampled lent s = sampled_as lent s.levels s.reply

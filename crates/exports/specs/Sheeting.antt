@@ -1,11 +1,9 @@
 -- How the plate of a sheet crosses the interface: the cells, and the promise of the call.
-use Rattle.std.specs.Prelude.{drop, length, set, ◌++◌, List, ◌≡◌, ℕ, ◌≤◌}
+use Rattle.std.specs.Prelude.{drop, length, set, ◌++◌, List, ◌≡◌, ℕ, ◌≤◌, Result, Ok, Err}
 use Rattle.exports.specs.Calls.{Calls, Crossing, done}
 use Rattle.exports.specs.Flat.{flat}
 use Rattle.plates.specs.declared.Plate.{Plate}
 use Rattle.plates.specs.declared.Refusal.{Refusal}
-use Rattle.plates.specs.declared.Verdict.{Verdict}
-use Rattle.plates.specs.declared.Verdict.TheVariants.{Accepted, Refused}
 use Rattle.plates.specs.Refusals.{field, number, place}
 use Rattle.reports.specs.declared.Report.{Report}
 use Rattle.reports.specs.declared.Stage.{Stage}
@@ -30,13 +28,13 @@ order_number First = 0
 order_number Last = 1
 
 -- whether a report that is opened on an input refuses it
-abbrev pub verdict_of : Stage → Verdict
-verdict_of (S.Refused q) = Refused q
-verdict_of S.PlateLine = Accepted
-verdict_of S.ProfileLine = Accepted
-verdict_of S.BlockLines = Accepted
-verdict_of S.EndLine = Accepted
-verdict_of S.Done = Accepted
+abbrev pub verdict_of : Stage → Result (Unit {0}) Refusal
+verdict_of (S.Refused q) = Err q
+verdict_of S.PlateLine = Ok tt
+verdict_of S.ProfileLine = Ok tt
+verdict_of S.BlockLines = Ok tt
+verdict_of S.EndLine = Ok tt
+verdict_of S.Done = Ok tt
 
 -- place and field stand in the first two cells
 abbrev pub place_put : List ℕ → ℕ → ℕ → List ℕ
@@ -48,12 +46,12 @@ pub record RefusedIn (refusal : Refusal) (at : List ℕ) (r : ℕ) (at' : List �
   pub place_is : at' ≡ place_put at (place refusal) (field refusal)
 
 -- the plate's words from the start of their run, the cover's order, place 0 and field 0; or place and field of the refusal alone
-abbrev pub sheet_as : SheetCells → Plate → Order → Verdict → Crossing SheetCells
-sheet_as lent plate order Accepted = record {
+abbrev pub sheet_as : SheetCells → Plate → Order → Result (Unit {0}) Refusal → Crossing SheetCells
+sheet_as lent plate order (Ok _) = record {
   code = done;
   cells = sheet_cells (flat plate ++ drop 132 lent.plate) (set lent.order 0 (order_number order)) (place_put lent.at 0 0);
 }
-sheet_as lent plate order (Refused q) =
+sheet_as lent plate order (Err q) =
     record { code = number q; cells = sheet_cells lent.plate lent.order (place_put lent.at (place q) (field q)) }
 
 abbrev pub sheeted : SheetCells → Report → Crossing SheetCells

@@ -1,13 +1,12 @@
 -- How a listing of branches judged against a plate crosses the interface: the cells, and the promise of the call.
-use Rattle.std.specs.Prelude.{drop, length, set, Bool, false, true, ◌++◌, List, ◌≡◌, ℕ, ◌≤◌}
+use Rattle.plates.specs.declared.Refusal.{Refusal}
+use Rattle.std.specs.Prelude.{drop, length, set, Bool, false, true, ◌++◌, List, ◌≡◌, ℕ, ◌≤◌, Result, Ok, Err}
 use Rattle.exports.specs.Calls.{Calls, Crossing, done}
 use Rattle.exports.specs.Flat.{plate_of}
 use Rattle.judging.specs.declared.Judged.{Judged}
 use Rattle.judging.specs.declared.Judgement.{Judgement}
 use Rattle.judging.specs.Judging.{Judges, shown}
 use Rattle.plates.specs.declared.Plate.{Plate}
-use Rattle.plates.specs.declared.Verdict.{Verdict}
-use Rattle.plates.specs.declared.Verdict.TheVariants.{Accepted, Refused}
 use Rattle.plates.specs.Refusals.{number, place}
 use Rattle.judging.specs.declared.Judged.TheVariants as J
 
@@ -28,22 +27,14 @@ abbrev pub verdict_number : Judged → ℕ
 verdict_number J.Right = 0
 verdict_number (J.SpelledWrongly w) = 1
 verdict_number (J.NotSpelled w) = 2
-verdict_number (J.Refused q) = 0
-
--- whether it judged, or is a refusal
-abbrev pub judged_verdict : Judged → Verdict
-judged_verdict J.Right = Accepted
-judged_verdict (J.SpelledWrongly w) = Accepted
-judged_verdict (J.NotSpelled w) = Accepted
-judged_verdict (J.Refused q) = Refused q
 
 -- the number and the word that is shown stand in the first two cells
 abbrev pub verdict_put : List ℕ → Judged → List ℕ
 verdict_put cells v = set (set cells 0 (verdict_number v)) 1 (shown v)
 
--- a judgement stands in its cells
-pub record JudgementPut (j : Judgement) (verdict states branches verdict' states' branches' : List ℕ) : Type 0 where
-  pub verdict_is : verdict' ≡ verdict_put verdict j.verdict
+-- a judgement with the verdict v stands in its cells
+pub record JudgementPut (v : Judged) (j : Judgement) (verdict states branches verdict' states' branches' : List ℕ) : Type 0 where
+  pub verdict_is : verdict' ≡ verdict_put verdict v
   pub states_are : states' ≡ j.states ++ drop 65 states
   pub branches_are : branches' ≡ j.branches ++ drop 64 branches
 
@@ -53,17 +44,17 @@ pub record VerdictReply : Type 0 where
   pub room : List ℕ
 
 -- the verdict, the surplus by depth and by section, and place 0; or the place of the refusal alone
-abbrev pub verdict_as : VerdictCells → List ℕ → Judgement → Verdict → Crossing VerdictCells
-verdict_as lent room j Accepted = record {
+abbrev pub verdict_as : VerdictCells → List ℕ → Judgement → Result Judged Refusal → Crossing VerdictCells
+verdict_as lent room j (Ok v) = record {
   code = done;
-  cells = verdict_cells room (verdict_put lent.verdict j.verdict) (j.states ++ drop 65 lent.states) (j.branches ++ drop 64 lent.branches)
+  cells = verdict_cells room (verdict_put lent.verdict v) (j.states ++ drop 65 lent.states) (j.branches ++ drop 64 lent.branches)
       (set lent.at 0 0);
 }
-verdict_as lent room j (Refused q) =
+verdict_as lent room j (Err q) =
     record { code = number q; cells = verdict_cells room lent.verdict lent.states lent.branches (set lent.at 0 (place q)) }
 
 abbrev pub verdict_told : VerdictCells → VerdictReply → Crossing VerdictCells
-verdict_told lent x = verdict_as lent x.room x.reply (judged_verdict x.reply.verdict)
+verdict_told lent x = verdict_as lent x.room x.reply x.reply.verdict
 
 -- how long the plate's run, the cells of the verdict, of the surplus and that of the place must be
 abbrev pub VerdictShape : ℕ → ℕ → ℕ → ℕ → ℕ → Type 0

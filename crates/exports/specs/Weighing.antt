@@ -1,18 +1,15 @@
 -- How the weights of a plate and its largest profile entry cross the interface: the cells, and the promises of the two calls.
-use Rattle.std.specs.Prelude.{set, List, [], ◌∷◌, ◌≡◌, ℕ}
+use Rattle.std.specs.Prelude.{set, List, [], ◌∷◌, ◌≡◌, ℕ, Option, Some, None}
 use Rattle.decoding.specs.Decode.{widest}
 use Rattle.exports.specs.Calls.{Calls, Crossing, done}
-use Rattle.exports.specs.declared.weighing.Width.{Width}
+use Rattle.std.specs.Prelude.{Err, Ok, Result}
 use Rattle.exports.specs.Flat.{plate_of}
 use Rattle.exports.specs.Promises.{HasCell, PlateLong}
 use Rattle.plates.specs.declared.Plate.{Plate}
 use Rattle.plates.specs.declared.Refusal.{Refusal}
 use Rattle.plates.specs.Prepare.{not_prepared}
 use Rattle.plates.specs.Refusals.{Passes, Refuses, number}
-use Rattle.weights.specs.declared.Counted.{Counted}
-use Rattle.weights.specs.declared.Counted.TheVariants.{Least, OnlyZero, Refused}
 use Rattle.weights.specs.Weights.{CountsWeights}
-use Rattle.exports.specs.declared.weighing.Width.TheVariants as W
 
 -- ---- the weights
 
@@ -28,15 +25,15 @@ weight_cells counts working least = record { counts = counts; working = working;
 
 -- what the call below replies, with the two rooms as it leaves them
 pub record Weighing : Type 0 where
-  pub reply : Counted
+  pub reply : Result (Option ℕ) Refusal
   pub counts : List ℕ
   pub working : List ℕ
 
 -- the smallest weight above 0, and 0 where there is none; a refusal leaves its cell
-abbrev pub weighed_as : WeightCells → List ℕ → List ℕ → Counted → Crossing WeightCells
-weighed_as lent counts working (Least w) = record { code = done; cells = weight_cells counts working (set lent.least 0 w) }
-weighed_as lent counts working OnlyZero = record { code = done; cells = weight_cells counts working (set lent.least 0 0) }
-weighed_as lent counts working (Refused q) = record { code = number q; cells = weight_cells counts working lent.least }
+abbrev pub weighed_as : WeightCells → List ℕ → List ℕ → Result (Option ℕ) Refusal → Crossing WeightCells
+weighed_as lent counts working (Ok (Some w)) = record { code = done; cells = weight_cells counts working (set lent.least 0 w) }
+weighed_as lent counts working (Ok None) = record { code = done; cells = weight_cells counts working (set lent.least 0 0) }
+weighed_as lent counts working (Err q) = record { code = number q; cells = weight_cells counts working lent.least }
 
 abbrev pub weighed : WeightCells → Weighing → Crossing WeightCells
 weighed lent w = weighed_as lent w.counts w.working w.reply
@@ -57,14 +54,14 @@ abbrev pub widest_conditions : Plate → List (Refusal → Type 0)
 widest_conditions plate = not_prepared plate ∷ []
 
 -- m of a prepared plate, or the refusal
-abbrev pub TellsWidest : Plate → Width → Type 0
-TellsWidest plate (W.Is m) = Passes (widest_conditions plate) × (m ≡ widest plate)
-TellsWidest plate (W.Refused q) = Refuses (widest_conditions plate) q
+abbrev pub TellsWidest : Plate → Result ℕ Refusal → Type 0
+TellsWidest plate (Ok m) = Passes (widest_conditions plate) × (m ≡ widest plate)
+TellsWidest plate (Err q) = Refuses (widest_conditions plate) q
 
 -- m in its cell
-abbrev pub width_as : List ℕ → Width → Crossing (List ℕ)
-width_as cell (W.Is m) = record { code = done; cells = set cell 0 m }
-width_as cell (W.Refused q) = record { code = number q; cells = cell }
+abbrev pub width_as : List ℕ → Result ℕ Refusal → Crossing (List ℕ)
+width_as cell (Ok m) = record { code = done; cells = set cell 0 m }
+width_as cell (Err q) = record { code = number q; cells = cell }
 
 -- fixed are the plate's run and a cell for the answer
 abbrev pub CallsWidest : List ℕ → List ℕ → ℕ → List ℕ → Type 0

@@ -3,14 +3,13 @@ ghost use Rattle.std.specs.Prelude.{◌≡◌, ◌<◌, ◌≤◌, length};
 ghost use Rattle.exports.specs.Batches.{BatchTested};
 ghost use Rattle.exports.specs.Calls.{RefusedAt};
 ghost use Rattle.exports.specs.Crossing.{AnswerPut, LengthPut, counts_put};
-ghost use Rattle.exports.specs.Judging.{FirmnessTested, FixedFits, ReadingPut, ReadingPutAt};
+ghost use Rattle.exports.specs.Judging.{FirmnessTested, FixedFits, ReadingPut};
 ghost use Rattle.exports.specs.Parting.{MeasurePut, PartTested, SelectionPut};
 ghost use Rattle.exports.specs.Promises.{ShapeTested, kind_of};
 
 use decoding::apart::{Measure, Selection};
 use decoding::firmness::{Flag, Reading};
 use decoding::{Answer, Counts};
-use listings::Written;
 use plates::{Kind, Refusal};
 
 // The number of a refusal, with its place in the first cell.
@@ -135,29 +134,10 @@ pub fn put_selection(selection: Selection, word: &mut [u64], counts: &mut [u64])
     put_counts(selection.counts, counts);
 }
 
-// A reading into its cells: 1 where it is fixed and 0 where it is open, and its bit or its margin.
-pub fn put_reading(flag: Flag, fixed: &mut [u64], value: &mut [i32])
-    requires { (1 ≤ length fixed.old) × (1 ≤ length value.old) × FixedFits flag.reading }
-    ensures { ReadingPut flag.reading fixed.old value.old fixed.new value.new }
-{
-    let reading = flag.reading;
-    match reading {
-        Reading::Fixed(bit) => {
-            let shown = bit as i32;
-            fixed[0] = 1;
-            value[0] = shown;
-        }
-        Reading::Open(margin) => {
-            fixed[0] = 0;
-            value[0] = margin;
-        }
-    }
-}
-
-// The same into the cells at a place.
-pub fn put_reading_at(flag: Flag, place: usize, fixed: &mut [u64], value: &mut [i32])
+// A reading into the cells at a place: 1 where it is fixed and 0 where it is open, and its bit or its margin.
+pub fn put_reading(flag: Flag, place: usize, fixed: &mut [u64], value: &mut [i32])
     requires { (place < length fixed.old) × (place < length value.old) × FixedFits flag.reading }
-    ensures { ReadingPutAt flag.reading place fixed.old value.old fixed.new value.new }
+    ensures { ReadingPut flag.reading place fixed.old value.old fixed.new value.new }
 {
     let reading = flag.reading;
     match reading {
@@ -174,15 +154,15 @@ pub fn put_reading_at(flag: Flag, place: usize, fixed: &mut [u64], value: &mut [
 }
 
 // The length of a line that was written, in the first cell, or why it was refused.
-pub fn written_length(reply: Written, size: &mut [u64]) -> u64
+pub fn written_length(reply: Result<usize, Refusal>, size: &mut [u64]) -> u64
     requires { 1 ≤ length size.old }
     ensures { LengthPut reply size.old result size.new }
 {
     match reply {
-        Written::Bytes(bytes) => {
+        Ok(bytes) => {
             size[0] = bytes as u64;
             0
         }
-        Written::Refused(refusal) => plates::refusal_number(refusal),
+        Err(refusal) => plates::refusal_number(refusal),
     }
 }

@@ -5,10 +5,6 @@
 ghost use Rattle.exports.specs.Promises.{CallsBranch, CallsEncode, CallsListing, CallsPrepare, CallsReadBack, CallsWriteEnd, CallsWritePlate, CallsWriteProfile, CallsWriteRefused, CallsWriteWord};
 ghost use Rattle.reports.specs.Remaining.{rooms};
 
-use coding::{Encoded, ReadBack};
-use plates::Verdict;
-use trellises::Next;
-
 mod cells;
 mod flat;
 mod matrices;
@@ -24,9 +20,6 @@ mod weighing;
 
 // The reply where a run is too short for its fixed use, or the kind is neither G nor H.
 const MISSHAPEN: u64 = 101;
-
-// The place of the mask in the run of a plate: n, k, 64 rows and 65 profile entries stand before it.
-const MASK: usize = 131;
 
 // The reply where a state has no branch with the bit that was asked for.
 const NO_BRANCH: u64 = 100;
@@ -55,19 +48,12 @@ pub extern "C" fn yendrufal_prepare(
     let made = plates::prepare(n as usize, cells::kind_of(kind), rows, mask);
     let verdict = made.verdict;
     match verdict {
-        Verdict::Accepted => {
-            flat::put_plate(
-                plate,
-                made.plate.n,
-                made.plate.k,
-                made.plate.mask,
-                &made.plate.rows,
-                &made.plate.profile,
-            );
+        Ok(()) => {
+            flat::put_plate(plate, &made.plate);
             at[0] = 0;
             0
         }
-        Verdict::Refused(refusal) => cells::refused_at(refusal, at),
+        Err(refusal) => cells::refused_at(refusal, at),
     }
 }
 
@@ -88,22 +74,13 @@ pub extern "C" fn yendrufal_branch(
     if next.len() < 1 {
         return MISSHAPEN;
     }
-    match trellises::branch_parts(
-        plate[0] as usize,
-        plate[1] as usize,
-        plate[MASK],
-        &plate[2..66],
-        &plate[66..131],
-        depth as usize,
-        state as usize,
-        bit,
-    ) {
-        Next::State(found) => {
+    match trellises::branch_parts(flat::parts_of(plate), depth as usize, state as usize, bit) {
+        Ok(Some(found)) => {
             next[0] = found as u64;
             0
         }
-        Next::NoBranch => NO_BRANCH,
-        Next::Refused(refusal) => plates::refusal_number(refusal),
+        Ok(None) => NO_BRANCH,
+        Err(refusal) => plates::refusal_number(refusal),
     }
 }
 
@@ -118,19 +95,12 @@ pub extern "C" fn yendrufal_encode(plate: &[u64], information: u64, word: &mut [
     if word.len() < 1 {
         return MISSHAPEN;
     }
-    match coding::encode_parts(
-        plate[0] as usize,
-        plate[1] as usize,
-        plate[MASK],
-        &plate[2..66],
-        &plate[66..131],
-        information,
-    ) {
-        Encoded::Word(found) => {
+    match coding::encode_parts(flat::parts_of(plate), information) {
+        Ok(found) => {
             word[0] = found;
             0
         }
-        Encoded::Refused(refusal) => plates::refusal_number(refusal),
+        Err(refusal) => plates::refusal_number(refusal),
     }
 }
 
@@ -145,19 +115,12 @@ pub extern "C" fn yendrufal_read_back(plate: &[u64], word: u64, information: &mu
     if information.len() < 1 {
         return MISSHAPEN;
     }
-    match coding::read_back_parts(
-        plate[0] as usize,
-        plate[1] as usize,
-        plate[MASK],
-        &plate[2..66],
-        &plate[66..131],
-        word,
-    ) {
-        ReadBack::Information(found) => {
+    match coding::read_back_parts(flat::parts_of(plate), word) {
+        Ok(found) => {
             information[0] = found;
             0
         }
-        ReadBack::Refused(refusal) => plates::refusal_number(refusal),
+        Err(refusal) => plates::refusal_number(refusal),
     }
 }
 
@@ -173,14 +136,7 @@ pub extern "C" fn yendrufal_write_plate(plate: &[u64], line: &mut [u8], written:
         return MISSHAPEN;
     }
     cells::written_length(
-        listings::write_plate_parts(
-            plate[0] as usize,
-            plate[1] as usize,
-            plate[MASK],
-            &plate[2..66],
-            &plate[66..131],
-            line,
-        ),
+        listings::write_plate_parts(flat::parts_of(plate), line),
         written,
     )
 }
@@ -201,14 +157,7 @@ pub extern "C" fn yendrufal_write_profile(
         return MISSHAPEN;
     }
     cells::written_length(
-        listings::write_profile_parts(
-            plate[0] as usize,
-            plate[1] as usize,
-            plate[MASK],
-            &plate[2..66],
-            &plate[66..131],
-            line,
-        ),
+        listings::write_profile_parts(flat::parts_of(plate), line),
         written,
     )
 }
@@ -234,11 +183,7 @@ pub extern "C" fn yendrufal_write_word(
     }
     cells::written_length(
         listings::write_word_parts(
-            plate[0] as usize,
-            plate[1] as usize,
-            plate[MASK],
-            &plate[2..66],
-            &plate[66..131],
+            flat::parts_of(plate),
             word,
             metric,
             additions,

@@ -3,8 +3,7 @@ ghost use Rattle.exports.specs.Matrices.{CallsReadAlist, CallsWriteAlist, alist_
 
 use crate::tables::put_table;
 use crate::{MISSHAPEN, cells};
-use alists::Alist;
-use listings::Written;
+use alists::Matrix;
 
 // The alist text of a parity check matrix of n columns.
 #[unsafe(no_mangle)]
@@ -24,12 +23,12 @@ pub extern "C" fn yendrufal_write_alist(
         return MISSHAPEN;
     }
     match alists::write(n as usize, rows, room) {
-        Written::Bytes(bytes) => {
+        Ok(bytes) => {
             written[0] = bytes as u64;
             at[0] = 0;
             0
         }
-        Written::Refused(refusal) => cells::refused_at(refusal, at),
+        Err(reason) => cells::refused_at(reason, at),
     }
 }
 
@@ -54,13 +53,13 @@ pub extern "C" fn yendrufal_read_alist(
     }
     let mut table = [0u64; 64];
     match alists::read(text, &mut table) {
-        Alist::Matrix { n, count } => {
+        Ok(Matrix { n, count }) => {
             put_table(rows, &table);
             sizes[0] = n as u64;
             sizes[1] = count as u64;
             at[0] = 0;
             0
         }
-        Alist::Refused(refusal) => cells::refused_at(refusal, at),
+        Err(refusal) => cells::refused_at(refusal, at),
     }
 }

@@ -3,18 +3,11 @@ ghost use Rattle.std.specs.Prelude.{get_or, length, ◌<◌, ◌≤◌};
 ghost use Rattle.exports.specs.Flat.{plate_of};
 ghost use Rattle.exports.specs.Reading.{CallsFirmnessAll, PutsPosition, ReadsOn, firm_rooms, position_cells};
 
-use crate::{MASK, MISSHAPEN, cells};
-use decoding::firmness::Flagged;
+use crate::flat::parts_of;
+use crate::{MISSHAPEN, cells};
 use plates::Refusal;
 
-// The readings asked for are in their cells, or why there are none.
-#[derive(Clone, Copy)]
-pub enum Firm {
-    Told,
-    Refused(Refusal),
-}
-
-// The reading of one position, into its cells.
+// The reading of one position, into its cells, or why there is none.
 fn put_position(
     plate: &[u64],
     samples: &[i16],
@@ -23,27 +16,19 @@ fn put_position(
     decisions: &mut [u64],
     fixed: &mut [u64],
     values: &mut [i32],
-) -> Firm
+) -> Result<(), Refusal>
     requires { (132 ≤ length plate.now) × (position < length fixed.old) × (position < length values.old) }
     ensures { PutsPosition (plate_of plate.now) samples.now position (firm_rooms metrics.old decisions.old fixed.old values.old) (firm_rooms metrics.new decisions.new fixed.new values.new) result }
 {
-    match decoding::firmness::firmness_parts(
-        plate[0] as usize,
-        plate[1] as usize,
-        plate[MASK],
-        &plate[2..66],
-        &plate[66..131],
+    let flag = decoding::firmness::firmness_parts(
+        parts_of(plate),
         samples,
         position,
         metrics,
         decisions,
-    ) {
-        Flagged::Found(flag) => {
-            cells::put_reading_at(flag, position, fixed, values);
-            Firm::Told
-        }
-        Flagged::Refused(refusal) => Firm::Refused(refusal),
-    }
+    )?;
+    cells::put_reading(flag, position, fixed, values);
+    Ok(())
 }
 
 // The readings of the positions from 1 on.
@@ -60,9 +45,8 @@ fn put_others(
     ensures { ReadsOn (plate_of plate.now) samples.now 1 (get_or plate.now 0 0) (firm_rooms metrics.old decisions.old fixed.old values.old) (firm_rooms metrics.new decisions.new fixed.new values.new) }
 {
     let n = plate[0] as usize;
-    let mut i = 1;
-    while i < n {
-        put_position(
+    for i in 1..n {
+        let _ = put_position(
             plate,
             samples,
             i,
@@ -71,7 +55,6 @@ fn put_others(
             &mut *fixed,
             &mut *values,
         );
-        i += 1;
     }
 }
 
@@ -109,11 +92,11 @@ pub extern "C" fn yendrufal_firmness_all(
         &mut *fixed,
         &mut *values,
     ) {
-        Firm::Told => {
+        Ok(()) => {
             put_others(plate, samples, metrics, decisions, fixed, values);
             at[0] = 0;
             0
         }
-        Firm::Refused(refusal) => cells::refused_at(refusal, at),
+        Err(refusal) => cells::refused_at(refusal, at),
     }
 }

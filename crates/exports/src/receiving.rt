@@ -6,12 +6,8 @@ ghost use Rattle.exports.specs.Judging.{CallsFirmness, firmness_cells};
 ghost use Rattle.exports.specs.Parting.{CallsMetric, CallsWord, metric_cells, word_cells};
 ghost use Rattle.exports.specs.Promises.{CallsDecode, decode_cells};
 
-use crate::{MASK, MISSHAPEN, cells, reasons};
-use asking::Verdict;
-use decoding::Decoded;
-use decoding::apart::{Chosen, Measured};
-use decoding::batch::Batch;
-use decoding::firmness::Flagged;
+use crate::flat::parts_of;
+use crate::{MISSHAPEN, cells, reasons};
 
 // The codeword of greatest metric.
 #[unsafe(no_mangle)]
@@ -36,22 +32,13 @@ pub extern "C" fn yendrufal_decode(
     ) {
         return MISSHAPEN;
     }
-    match decoding::decode_parts(
-        plate[0] as usize,
-        plate[1] as usize,
-        plate[MASK],
-        &plate[2..66],
-        &plate[66..131],
-        samples,
-        metrics,
-        decisions,
-    ) {
-        Decoded::Found(answer) => {
+    match decoding::decode_parts(parts_of(plate), samples, metrics, decisions) {
+        Ok(answer) => {
             cells::put_answer(answer, word, metric, counts);
             at[0] = 0;
             0
         }
-        Decoded::Refused(refusal) => cells::refused_at(refusal, at),
+        Err(refusal) => cells::refused_at(refusal, at),
     }
 }
 
@@ -70,21 +57,13 @@ pub extern "C" fn yendrufal_metric(
     if !cells::part_shaped(plate.len(), metric.len(), counts.len(), at.len()) {
         return MISSHAPEN;
     }
-    match decoding::apart::best_metric_parts(
-        plate[0] as usize,
-        plate[1] as usize,
-        plate[MASK],
-        &plate[2..66],
-        &plate[66..131],
-        samples,
-        metrics,
-    ) {
-        Measured::Found(measure) => {
+    match decoding::apart::best_metric_parts(parts_of(plate), samples, metrics) {
+        Ok(measure) => {
             cells::put_measure(measure, metric, counts);
             at[0] = 0;
             0
         }
-        Measured::Refused(refusal) => cells::refused_at(refusal, at),
+        Err(refusal) => cells::refused_at(refusal, at),
     }
 }
 
@@ -104,22 +83,13 @@ pub extern "C" fn yendrufal_word(
     if !cells::part_shaped(plate.len(), word.len(), counts.len(), at.len()) {
         return MISSHAPEN;
     }
-    match decoding::apart::best_word_parts(
-        plate[0] as usize,
-        plate[1] as usize,
-        plate[MASK],
-        &plate[2..66],
-        &plate[66..131],
-        samples,
-        metrics,
-        decisions,
-    ) {
-        Chosen::Found(selection) => {
+    match decoding::apart::best_word_parts(parts_of(plate), samples, metrics, decisions) {
+        Ok(selection) => {
             cells::put_selection(selection, word, counts);
             at[0] = 0;
             0
         }
-        Chosen::Refused(refusal) => cells::refused_at(refusal, at),
+        Err(refusal) => cells::refused_at(refusal, at),
     }
 }
 
@@ -141,23 +111,19 @@ pub extern "C" fn yendrufal_decode_blocks(
         return MISSHAPEN;
     }
     match decoding::batch::decode_blocks(
-        plate[0] as usize,
-        plate[1] as usize,
-        plate[MASK],
-        &plate[2..66],
-        &plate[66..131],
+        parts_of(plate),
         samples,
         words,
         scores,
         metrics,
         decisions,
     ) {
-        Batch::Found(counted) => {
+        Ok(counted) => {
             cells::put_counts(counted, counts);
             at[0] = 0;
             0
         }
-        Batch::Refused(refusal) => cells::refused_at(refusal, at),
+        Err(reason) => cells::refused_at(reason, at),
     }
 }
 
@@ -179,22 +145,18 @@ pub extern "C" fn yendrufal_firmness(
         return MISSHAPEN;
     }
     match decoding::firmness::firmness_parts(
-        plate[0] as usize,
-        plate[1] as usize,
-        plate[MASK],
-        &plate[2..66],
-        &plate[66..131],
+        parts_of(plate),
         samples,
         position as usize,
         metrics,
         decisions,
     ) {
-        Flagged::Found(flag) => {
-            cells::put_reading(flag, fixed, value);
+        Ok(flag) => {
+            cells::put_reading(flag, 0, fixed, value);
             at[0] = 0;
             0
         }
-        Flagged::Refused(refusal) => cells::refused_at(refusal, at),
+        Err(refusal) => cells::refused_at(refusal, at),
     }
 }
 
@@ -215,22 +177,12 @@ pub extern "C" fn yendrufal_why_not(
     if !cells::part_shaped(plate.len(), difference.len(), reason.len(), at.len()) {
         return MISSHAPEN;
     }
-    match asking::why_not_parts(
-        plate[0] as usize,
-        plate[1] as usize,
-        plate[MASK],
-        &plate[2..66],
-        &plate[66..131],
-        samples,
-        word,
-        metrics,
-        decisions,
-    ) {
-        Verdict::Explained(explained) => {
+    match asking::why_not_parts(parts_of(plate), samples, word, metrics, decisions) {
+        Ok(explained) => {
             reasons::put_reason(explained, reason, difference);
             at[0] = 0;
             0
         }
-        Verdict::Refused(refusal) => cells::refused_at(refusal, at),
+        Err(refusal) => cells::refused_at(refusal, at),
     }
 }

@@ -1,10 +1,9 @@
 // The calls of a single-precision receiver over the C interface: the level of one value, and the levels of a block.
 ghost use Rattle.std.specs.Prelude.{◌≡◌};
-ghost use Rattle.levels.specs.Choosing.{sample_of};
 ghost use Rattle.exports.specs.Sampling.{CallsLevel, CallsLevels, Narrows, level_cells};
 
 use crate::{MISSHAPEN, cells};
-use levels::{Level, Levels, Sample, Setting};
+use levels::{Setting, sample_of};
 
 // A top level as a byte: 0, which is refused like it, in the place of one over 127.
 fn narrowed(top: u64) -> u8
@@ -14,16 +13,6 @@ fn narrowed(top: u64) -> u8
         return 0;
     }
     top as u8
-}
-
-// A value that is heard, or erased where the mark is not 0.
-fn marked(value: f32, erased: u64) -> Sample
-    ensures { result ≡ sample_of value erased }
-{
-    if erased == 0 {
-        return Sample::Heard(value);
-    }
-    Sample::Erased
 }
 
 // The levels of a block of n values.
@@ -47,11 +36,11 @@ pub extern "C" fn yendrufal_levels(
         top: narrowed(top),
     };
     match levels::levels_of(n as usize, setting, values, erased, room) {
-        Levels::Written => {
+        Ok(()) => {
             at[0] = 0;
             0
         }
-        Levels::Refused(refusal) => cells::refused_at(refusal, at),
+        Err(refusal) => cells::refused_at(refusal, at),
     }
 }
 
@@ -73,11 +62,11 @@ pub extern "C" fn yendrufal_level(
         step,
         top: narrowed(top),
     };
-    match levels::level_of(setting, marked(value, erased)) {
-        Level::Is(found) => {
+    match levels::level_of(setting, sample_of(value, erased)) {
+        Ok(found) => {
             level[0] = found;
             0
         }
-        Level::Refused(refusal) => plates::refusal_number(refusal),
+        Err(refusal) => plates::refusal_number(refusal),
     }
 }

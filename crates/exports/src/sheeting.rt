@@ -3,21 +3,21 @@ ghost use Rattle.std.specs.Prelude.{◌≡◌, ◌≤◌, length};
 ghost use Rattle.exports.specs.Sheeting.{CallsPlateOfSheet, RefusedIn, order_number, sheet_cells, verdict_of};
 
 use crate::{MISSHAPEN, flat};
-use plates::{Refusal, Verdict};
+use plates::Refusal;
 use reports::Stage;
 use sheets::Order;
 
 // Whether a report that is opened on an input refuses it.
-fn verdict_of(stage: Stage) -> Verdict
+fn verdict_of(stage: Stage) -> Result<(), Refusal>
     ensures { result ≡ verdict_of stage }
 {
     match stage {
-        Stage::Refused(refusal) => Verdict::Refused(refusal),
-        Stage::PlateLine => Verdict::Accepted,
-        Stage::ProfileLine => Verdict::Accepted,
-        Stage::BlockLines => Verdict::Accepted,
-        Stage::EndLine => Verdict::Accepted,
-        Stage::Done => Verdict::Accepted,
+        Stage::Refused(refusal) => Err(refusal),
+        Stage::PlateLine => Ok(()),
+        Stage::ProfileLine => Ok(()),
+        Stage::BlockLines => Ok(()),
+        Stage::EndLine => Ok(()),
+        Stage::Done => Ok(()),
     }
 }
 
@@ -64,20 +64,13 @@ pub extern "C" fn yendrufal_plate_of_sheet(
     let report = reports::open(sheet);
     let verdict = verdict_of(report.stage);
     match verdict {
-        Verdict::Accepted => {
-            flat::put_plate(
-                plate,
-                report.plate.n,
-                report.plate.k,
-                report.plate.mask,
-                &report.plate.rows,
-                &report.plate.profile,
-            );
+        Ok(()) => {
+            flat::put_plate(plate, &report.plate);
             order[0] = order_number(report.order);
             at[0] = 0;
             at[1] = 0;
             0
         }
-        Verdict::Refused(refusal) => refused_in(refusal, at),
+        Err(refusal) => refused_in(refusal, at),
     }
 }

@@ -6,9 +6,5 @@ pub fn put_table(run: &mut [u64], table: &[u64])
     requires { length table.now ≤ length run.old }
     ensures { run.new ≡ table.now ++ drop (length table.now) run.old }
 {
-    let mut i = 0;
-    while i < table.len() {
-        run[i] = table[i];
-        i += 1;
-    }
+    run[..table.len()].copy_from_slice(table);
 }

@@ -1,12 +1,12 @@
 // A listing of branches judged against a plate, over the C interface.
 ghost use Rattle.std.specs.Prelude.{◌≡◌, ◌≤◌, length};
-ghost use Rattle.exports.specs.Verdicts.{CallsJudge, JudgementPut, VerdictTested, verdict_cells, verdict_number, judged_verdict};
+ghost use Rattle.exports.specs.Verdicts.{CallsJudge, JudgementPut, VerdictTested, verdict_cells, verdict_number};
 ghost use Rattle.judging.specs.Judging.{shown};
 
+use crate::flat::parts_of;
 use crate::tables::put_table;
-use crate::{MASK, MISSHAPEN, cells};
+use crate::{MISSHAPEN, cells};
 use judging::{Judged, Judgement};
-use plates::Verdict;
 
 // Whether the runs that are lent are long enough for their fixed use.
 fn judge_shaped(plate: usize, verdict: usize, states: usize, branches: usize, at: usize) -> bool
@@ -35,45 +35,30 @@ fn number_of(verdict: Judged) -> u64
         Judged::Right => 0,
         Judged::SpelledWrongly(_) => 1,
         Judged::NotSpelled(_) => 2,
-        Judged::Refused(_) => 0,
     }
 }
 
-// The word that a verdict shows; 0 for the others.
+// The word that a verdict shows; 0 for right.
 fn word_of(verdict: Judged) -> u64
     ensures { result ≡ shown verdict }
 {
     match verdict {
         Judged::Right => 0,
-        Judged::SpelledWrongly(word) => word,
-        Judged::NotSpelled(word) => word,
-        Judged::Refused(_) => 0,
+        Judged::SpelledWrongly(word) | Judged::NotSpelled(word) => word,
     }
 }
 
-// Whether the listing was judged, or why not.
-fn refused_by(verdict: Judged) -> Verdict
-    ensures { result ≡ judged_verdict verdict }
-{
-    match verdict {
-        Judged::Right => Verdict::Accepted,
-        Judged::SpelledWrongly(_) => Verdict::Accepted,
-        Judged::NotSpelled(_) => Verdict::Accepted,
-        Judged::Refused(refusal) => Verdict::Refused(refusal),
-    }
-}
-
-// A judgement into its cells: the number of its verdict and the word that it shows, the surplus by depth and by section.
+// A judgement that is no refusal into its cells: the number of its verdict and the word that it shows, the surplus by depth and by section.
 fn put_judgement(
+    found: Judged,
     judgement: Judgement,
     verdict: &mut [u64],
     states: &mut [u64],
     branches: &mut [u64],
 )
     requires { (2 ≤ length verdict.old) × (65 ≤ length states.old) × (64 ≤ length branches.old) }
-    ensures { JudgementPut judgement verdict.old states.old branches.old verdict.new states.new branches.new }
+    ensures { JudgementPut found judgement verdict.old states.old branches.old verdict.new states.new branches.new }
 {
-    let found = judgement.verdict;
     verdict[0] = number_of(found);
     verdict[1] = word_of(found);
     put_table(states, &judgement.states);
@@ -102,23 +87,13 @@ pub extern "C" fn yendrufal_judge(
     ) {
         return MISSHAPEN;
     }
-    let judgement = judging::judge_parts(
-        plate[0] as usize,
-        plate[1] as usize,
-        plate[MASK],
-        &plate[2..66],
-        &plate[66..131],
-        text,
-        room,
-    );
-    let found = judgement.verdict;
-    let judged = refused_by(found);
-    match judged {
-        Verdict::Accepted => {
-            put_judgement(judgement, verdict, states, branches);
+    let judgement = judging::judge_parts(parts_of(plate), text, room);
+    match judgement.verdict {
+        Ok(found) => {
+            put_judgement(found, judgement, verdict, states, branches);
             at[0] = 0;
             0
         }
-        Verdict::Refused(refusal) => cells::refused_at(refusal, at),
+        Err(refusal) => cells::refused_at(refusal, at),
     }
 }

@@ -16,22 +16,22 @@ returns-then-plate-lt132 c = misshaped (λ s. omega (arith, s.1))
 pub returns-then-at-lt1 : goal.returns-then-at-lt1
 returns-then-at-lt1 c = misshaped (λ s. omega (arith, s.2))
 
-pub returns-in-Accepted : goal.returns-in-Accepted
-returns-in-Accepted c =
+pub returns-in-Ok : goal.returns-in-Ok
+returns-in-Ok c =
     let made = c.prepare-made.result in
     replied (search rules) made made
     (subst (λ (k : Kind). Prepares c.args.n k c.args.rows.now c.args.mask made)
     c.kind_of.ensures c.prepare-made.ensures)
     refl
     (crossed-accepted c.args.plate.now c.args.at.now made.plate
-    c.in-Accepted.is c.put_plate.ensures)
+    c.in-Ok.is c.put_plate.ensures)
 
-pub returns-in-Refused : goal.returns-in-Refused
-returns-in-Refused c =
+pub returns-in-Err : goal.returns-in-Err
+returns-in-Err c =
     let made = c.prepare-made.result in
     replied (search rules) made made
     (subst (λ (k : Kind). Prepares c.args.n k c.args.rows.now c.args.mask made)
     c.kind_of.ensures c.prepare-made.ensures)
     refl
     (crossed-refused c.args.plate.now c.args.at.now made.plate
-    c.in-Refused.is c.refused_at.ensures)
+    c.in-Err.is c.refused_at.ensures)

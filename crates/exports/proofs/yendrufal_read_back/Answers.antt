@@ -11,10 +11,10 @@ returns-then-plate-lt132 c = misshaped (λ s. omega (arith, s.0))
 pub returns-then-information-lt1 : goal.returns-then-information-lt1
 returns-then-information-lt1 c = misshaped (λ s. omega (arith, s.1))
 
-pub returns-in-Information : goal.returns-in-Information
-returns-in-Information c = replied (search rules) c.read_back_parts.result _ c.read_back_parts.ensures c.in-Information.is refl
+pub returns-in-Ok : goal.returns-in-Ok
+returns-in-Ok c = replied (search rules) c.read_back_parts.result _ (rw c.parts_of.ensures at c.read_back_parts.ensures) c.in-Ok.is refl
 
-pub returns-in-Refused : goal.returns-in-Refused
-returns-in-Refused c =
-    replied (search rules) c.read_back_parts.result _ c.read_back_parts.ensures c.in-Refused.is
+pub returns-in-Err : goal.returns-in-Err
+returns-in-Err c =
+    replied (search rules) c.read_back_parts.result _ (rw c.parts_of.ensures at c.read_back_parts.ensures) c.in-Err.is
     (same_code c.refusal_number.ensures)

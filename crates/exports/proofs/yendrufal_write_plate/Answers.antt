@@ -1,6 +1,8 @@
 -- `exports::yendrufal_write_plate` meets its promise.
 use borrow.Author.Rules.{rules}
+use mathlib.Core.Path.{subst}
 use native.Mathlib.Omega.{arith}
+use Rattle.plates.specs.declared.Plate.{Plate}
 use Rattle.exports.proofs.CallsMade.{misshaped, wrote}
 use Rattle.exports.specs.Flat.{plate_of}
 use Rattle.listings.specs.Writing.{WritesPlate}
@@ -16,5 +18,6 @@ pub returns : goal.returns
 returns c =
     let a = c.args in
     wrote (WritesPlate (plate_of a.plate.now)) _ _ _ _ _ c.write_plate_parts.result (search rules)
-    c.write_plate_parts.ensures
+    (subst (λ (p : Plate). WritesPlate p a.line.now c.write_plate_parts.result c.write_plate_parts.new.room) c.parts_of.ensures
+    c.write_plate_parts.ensures)
     c.written_length.ensures

@@ -6,8 +6,9 @@ pub overflow_cast-shown : goal.overflow_cast-shown
 overflow_cast-shown c = bit-fits c.args.flag.reading c.args.fixed.now c.args.value.now _ c.in-Fixed.is c.requires.2
 
 pub returns-in-Fixed : goal.returns-in-Fixed
-returns-in-Fixed c = put-fixed c.args.flag.reading c.args.fixed.now c.args.value.now _ c.in-Fixed.is c.requires.2
+returns-in-Fixed c = put-fixed c.args.flag.reading c.args.place c.args.fixed.now c.args.value.now _ c.in-Fixed.is c.requires.2
 
 pub returns-in-Open : goal.returns-in-Open
 returns-in-Open c =
-    put-open c.args.flag.reading c.args.fixed.now c.args.value.now _ c.in-Open.is (record { sfits = c.in-Open.known_told-in-Open-1-own.given.0.1 })
+    put-open c.args.flag.reading c.args.place c.args.fixed.now c.args.value.now _ c.in-Open.is
+    (record { sfits = c.in-Open.known_told-in-Open-1-own.given.0.1 })

@@ -4,9 +4,9 @@ use Rattle.exports.proofs.CallsMade.{same_code}
 use Rattle.exports.specs.Crossing.{written_as}
 use Rattle.exports.proofs.cells.written_length.Goals as goal
 
-pub returns-in-Bytes : goal.returns-in-Bytes
-returns-in-Bytes c = λ room. sym (ap (written_as c.args.size.now room) c.in-Bytes.is)
+pub returns-in-Ok : goal.returns-in-Ok
+returns-in-Ok c = λ room. sym (ap (written_as c.args.size.now room) c.in-Ok.is)
 
-pub returns-in-Refused : goal.returns-in-Refused
-returns-in-Refused c =
-    λ room. same_code c.refusal_number.ensures ∙ sym (ap (written_as c.args.size.now room) c.in-Refused.is)
+pub returns-in-Err : goal.returns-in-Err
+returns-in-Err c =
+    λ room. same_code c.refusal_number.ensures ∙ sym (ap (written_as c.args.size.now room) c.in-Err.is)

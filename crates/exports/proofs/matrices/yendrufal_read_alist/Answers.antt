@@ -21,12 +21,12 @@ slice_bounds-put_table-end c = sym (table-length c.args.text.now c.read.ensures)
 pub put_table-requires : goal.put_table-requires
 put_table-requires c = omega (arith, table-length c.args.text.now c.read.ensures, c.if-rows-lt64.false)
 
-pub returns-in-Matrix : goal.returns-in-Matrix
-returns-in-Matrix c =
-    matrix-read _ _ (record { reply = c.read.result; table = _ }) (search rules) c.read.ensures c.in-Matrix.is
+pub returns-in-Ok : goal.returns-in-Ok
+returns-in-Ok c =
+    matrix-read _ _ (record { reply = c.read.result; table = _ }) (search rules) c.read.ensures c.in-Ok.is
     c.put_table.ensures
 
-pub returns-in-Refused : goal.returns-in-Refused
-returns-in-Refused c =
+pub returns-in-Err : goal.returns-in-Err
+returns-in-Err c =
     matrix-not-read _ _ (record { reply = c.read.result; table = _ }) (search rules) c.read.ensures
-    c.in-Refused.is c.refused_at.ensures
+    c.in-Err.is c.refused_at.ensures

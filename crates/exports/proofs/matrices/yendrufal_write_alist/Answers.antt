@@ -11,11 +11,11 @@ returns-then-written-lt1 c = misshaped (λ s. omega (arith, s.0))
 pub returns-then-at-lt1 : goal.returns-then-at-lt1
 returns-then-at-lt1 c = misshaped (λ s. omega (arith, s.1))
 
-pub returns-in-Bytes : goal.returns-in-Bytes
-returns-in-Bytes c =
-    alist-written _ _ _ (record { reply = c.write.result; room = _ }) (search rules) c.write.ensures c.in-Bytes.is
+pub returns-in-Ok : goal.returns-in-Ok
+returns-in-Ok c =
+    alist-written _ _ _ (record { reply = c.write.result; room = _ }) (search rules) c.write.ensures c.in-Ok.is
 
-pub returns-in-Refused : goal.returns-in-Refused
-returns-in-Refused c =
+pub returns-in-Err : goal.returns-in-Err
+returns-in-Err c =
     alist-not-written _ _ _ (record { reply = c.write.result; room = _ }) (search rules) c.write.ensures
-    c.in-Refused.is c.refused_at.ensures
+    c.in-Err.is c.refused_at.ensures

@@ -1,5 +1,5 @@
 -- The loop's invariant: the first i positions are read. The measure is what is left of n.
-use Prim.Native.Nat.{◌-◌, ◌≤◌}
+use Prim.Native.Nat.{◌≤◌}
 use Rattle.exports.specs.Flat.{plate_of}
 use Rattle.exports.specs.Reading.{ReadsOn, firm_rooms}
 use Rattle.exports.proofs.reading.put_others.Given as goal
@@ -10,6 +10,3 @@ invariant-loop-i l = record {
   reads : ReadsOn (plate_of l.plate) l.samples 1 l.i (firm_rooms l.initial.metrics l.initial.decisions l.initial.fixed l.initial.values)
       (firm_rooms l.metrics l.decisions l.fixed l.values);
 }
-
-abbrev pub decreases-loop-i : goal.decreases-loop-i
-decreases-loop-i l = l.n - l.i

@@ -24,25 +24,25 @@ put_others-requires c =
     let a = c.args in
     record {
       in_bounds = (c.if-plate-lt132.false, search rules, search rules);
-      bound = some-positions (put_as (plate_of a.plate.now) a.samples.now 0 _ _ c.put_position.result c.put_position.ensures c.in-Told.is);
+      bound = some-positions (put_as (plate_of a.plate.now) a.samples.now 0 _ _ c.put_position.result c.put_position.ensures c.in-Ok.is);
     }
 
-pub returns-in-Told : goal.returns-in-Told
-returns-in-Told c =
+pub returns-in-Ok : goal.returns-in-Ok
+returns-in-Ok c =
     let a = c.args in
     let rooms = firm_rooms a.metrics.now a.decisions.now a.fixed.now a.values.now in
     positions-read a.samples.now _ a.plate.now
     (c.if-plate-lt132.false, c.if-fixed-lt64.false, c.if-values-lt64.false, c.if-at-lt1.false) _
     (c.put_others.ensures rooms
     (read_first
-    (put_as (plate_of a.plate.now) a.samples.now 0 rooms _ c.put_position.result c.put_position.ensures c.in-Told.is)
+    (put_as (plate_of a.plate.now) a.samples.now 0 rooms _ c.put_position.result c.put_position.ensures c.in-Ok.is)
     (omega (arith, c.if-fixed-lt64.false)) (omega (arith, c.if-values-lt64.false))))
 
-pub returns-in-Refused : goal.returns-in-Refused
-returns-in-Refused c =
+pub returns-in-Err : goal.returns-in-Err
+returns-in-Err c =
     let a = c.args in
     let rooms = firm_rooms a.metrics.now a.decisions.now a.fixed.now a.values.now in
     positions-refused a.samples.now _ a.plate.now
     (c.if-plate-lt132.false, c.if-fixed-lt64.false, c.if-values-lt64.false, c.if-at-lt1.false) _
-    (put_as (plate_of a.plate.now) a.samples.now 0 rooms _ c.put_position.result c.put_position.ensures c.in-Refused.is)
+    (put_as (plate_of a.plate.now) a.samples.now 0 rooms _ c.put_position.result c.put_position.ensures c.in-Err.is)
     c.refused_at.ensures

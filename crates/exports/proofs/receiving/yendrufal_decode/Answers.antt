@@ -1,5 +1,4 @@
 -- `exports::receiving::yendrufal_decode` meets its promise.
-use native.Mathlib.Omega.{arith}
 use Rattle.exports.proofs.CallsMade.{misshaped}
 use Rattle.exports.proofs.DecodeCrossed.{decode-found, decode-refused}
 use Rattle.exports.proofs.receiving.yendrufal_decode.Goals as goal
@@ -7,30 +6,10 @@ use Rattle.exports.proofs.receiving.yendrufal_decode.Goals as goal
 pub returns-then-not-decode_shaped : goal.returns-then-not-decode_shaped
 returns-then-not-decode_shaped c = misshaped (c.decode_shaped.ensures.no_is c.if-not-decode_shaped.true)
 
-pub bounds-plate-0 : goal.bounds-plate-0
-bounds-plate-0 c =
+pub parts_of-requires : goal.parts_of-requires
+parts_of-requires c =
     let shaped = c.decode_shaped.ensures.yes_is c.if-not-decode_shaped.false in
-    omega (arith, shaped.0)
-
-pub bounds-plate-1 : goal.bounds-plate-1
-bounds-plate-1 c =
-    let shaped = c.decode_shaped.ensures.yes_is c.if-not-decode_shaped.false in
-    omega (arith, shaped.0)
-
-pub bounds-plate-131 : goal.bounds-plate-131
-bounds-plate-131 c =
-    let shaped = c.decode_shaped.ensures.yes_is c.if-not-decode_shaped.false in
-    omega (arith, shaped.0)
-
-pub slice_bounds-decode_parts-end : goal.slice_bounds-decode_parts-end
-slice_bounds-decode_parts-end c =
-    let shaped = c.decode_shaped.ensures.yes_is c.if-not-decode_shaped.false in
-    omega (arith, shaped.0)
-
-pub slice_bounds-decode_parts-end-2 : goal.slice_bounds-decode_parts-end-2
-slice_bounds-decode_parts-end-2 c =
-    let shaped = c.decode_shaped.ensures.yes_is c.if-not-decode_shaped.false in
-    omega (arith, shaped.0)
+    shaped.0
 
 pub put_answer-requires : goal.put_answer-requires
 put_answer-requires c =
@@ -47,18 +26,18 @@ refused_at-requires c =
     let shaped = c.decode_shaped.ensures.yes_is c.if-not-decode_shaped.false in
     shaped.4
 
-pub returns-in-Found : goal.returns-in-Found
-returns-in-Found c =
+pub returns-in-Ok : goal.returns-in-Ok
+returns-in-Ok c =
     let shaped = c.decode_shaped.ensures.yes_is c.if-not-decode_shaped.false in
     let a = c.args in
     decode-found a.samples.now _ (record { reply = c.decode_parts.result; metrics = _; decisions = _ }) a.plate.now shaped
-    c.decode_parts.ensures c.in-Found.is
+    (rw c.parts_of.ensures at c.decode_parts.ensures) c.in-Ok.is
     c.put_answer.ensures
 
-pub returns-in-Refused : goal.returns-in-Refused
-returns-in-Refused c =
+pub returns-in-Err : goal.returns-in-Err
+returns-in-Err c =
     let shaped = c.decode_shaped.ensures.yes_is c.if-not-decode_shaped.false in
     let a = c.args in
     decode-refused a.samples.now _ (record { reply = c.decode_parts.result; metrics = _; decisions = _ }) a.plate.now shaped
-    c.decode_parts.ensures c.in-Refused.is
+    (rw c.parts_of.ensures at c.decode_parts.ensures) c.in-Err.is
     c.refused_at.ensures

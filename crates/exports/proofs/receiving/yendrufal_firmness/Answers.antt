@@ -1,5 +1,4 @@
 -- `exports::receiving::yendrufal_firmness` meets its promise.
-use native.Mathlib.Omega.{arith}
 use Rattle.exports.proofs.CallsMade.{misshaped}
 use Rattle.exports.proofs.FirmnessCrossed.{firmness-found, firmness-refused, reading-fits}
 use Rattle.exports.specs.Judging.{FirmnessCells, Judging, firmness_cells}
@@ -9,30 +8,10 @@ use Rattle.exports.proofs.receiving.yendrufal_firmness.Goals as goal
 pub returns-then-not-firmness_shaped : goal.returns-then-not-firmness_shaped
 returns-then-not-firmness_shaped c = misshaped (c.firmness_shaped.ensures.no_is c.if-not-firmness_shaped.true)
 
-pub bounds-plate-0 : goal.bounds-plate-0
-bounds-plate-0 c =
+pub parts_of-requires : goal.parts_of-requires
+parts_of-requires c =
     let shaped = c.firmness_shaped.ensures.yes_is c.if-not-firmness_shaped.false in
-    omega (arith, shaped.0)
-
-pub bounds-plate-1 : goal.bounds-plate-1
-bounds-plate-1 c =
-    let shaped = c.firmness_shaped.ensures.yes_is c.if-not-firmness_shaped.false in
-    omega (arith, shaped.0)
-
-pub bounds-plate-131 : goal.bounds-plate-131
-bounds-plate-131 c =
-    let shaped = c.firmness_shaped.ensures.yes_is c.if-not-firmness_shaped.false in
-    omega (arith, shaped.0)
-
-pub slice_bounds-firmness_parts-end : goal.slice_bounds-firmness_parts-end
-slice_bounds-firmness_parts-end c =
-    let shaped = c.firmness_shaped.ensures.yes_is c.if-not-firmness_shaped.false in
-    omega (arith, shaped.0)
-
-pub slice_bounds-firmness_parts-end-2 : goal.slice_bounds-firmness_parts-end-2
-slice_bounds-firmness_parts-end-2 c =
-    let shaped = c.firmness_shaped.ensures.yes_is c.if-not-firmness_shaped.false in
-    omega (arith, shaped.0)
+    shaped.0
 
 pub put_reading-requires : goal.put_reading-requires
 put_reading-requires c =
@@ -42,8 +21,8 @@ put_reading-requires c =
     let reply : Judging = record { reply = c.firmness_parts.result; metrics = c.firmness_parts.new.metrics; decisions = c.firmness_parts.new.decisions } in (
       shaped.1,
       shaped.2,
-      reading-fits (plate_of a.plate.now) a.samples.now a.position lent reply c.firmness_parts.ensures _
-          c.in-Found.is,
+      reading-fits (plate_of a.plate.now) a.samples.now a.position lent reply (rw c.parts_of.ensures at c.firmness_parts.ensures) _
+          c.in-Ok.is,
     )
 
 pub bounds-at-0 : goal.bounds-at-0
@@ -56,20 +35,20 @@ refused_at-requires c =
     let shaped = c.firmness_shaped.ensures.yes_is c.if-not-firmness_shaped.false in
     shaped.3
 
-pub returns-in-Found : goal.returns-in-Found
-returns-in-Found c =
+pub returns-in-Ok : goal.returns-in-Ok
+returns-in-Ok c =
     let shaped = c.firmness_shaped.ensures.yes_is c.if-not-firmness_shaped.false in
     let a = c.args in
     firmness-found a.samples.now a.position _ (record { reply = c.firmness_parts.result; metrics = _; decisions = _ }) a.plate.now
     shaped
-    c.firmness_parts.ensures c.in-Found.is
+    (rw c.parts_of.ensures at c.firmness_parts.ensures) c.in-Ok.is
     c.put_reading.ensures
 
-pub returns-in-Refused : goal.returns-in-Refused
-returns-in-Refused c =
+pub returns-in-Err : goal.returns-in-Err
+returns-in-Err c =
     let shaped = c.firmness_shaped.ensures.yes_is c.if-not-firmness_shaped.false in
     let a = c.args in
     firmness-refused a.samples.now a.position _ (record { reply = c.firmness_parts.result; metrics = _; decisions = _ }) a.plate.now
     shaped
-    c.firmness_parts.ensures c.in-Refused.is
+    (rw c.parts_of.ensures at c.firmness_parts.ensures) c.in-Err.is
     c.refused_at.ensures

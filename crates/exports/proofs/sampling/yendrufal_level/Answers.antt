@@ -8,18 +8,18 @@ use Rattle.exports.proofs.sampling.yendrufal_level.Goals as goal
 pub returns-then-level-lt1 : goal.returns-then-level-lt1
 returns-then-level-lt1 c = misshaped (λ s. omega (arith, s))
 
-pub returns-in-Is : goal.returns-in-Is
-returns-in-Is c =
+pub returns-in-Ok : goal.returns-in-Ok
+returns-in-Ok c =
     replied (search rules) c.level_of.result _
-    (level-given c.args.step c.narrowed.ensures c.marked.result c.level_of.result c.marked.ensures
+    (level-given c.args.step c.narrowed.ensures c.sample_of.result c.level_of.result c.sample_of.ensures
     c.level_of.ensures)
-    c.in-Is.is
-    (level-written c.args.level.now _ (record { sfits = c.in-Is.known_told-1-own.given.0.1 }))
+    c.in-Ok.is
+    (level-written c.args.level.now _ (record { sfits = c.in-Ok.known_told-1-own.given.0.1 }))
 
-pub returns-in-Refused : goal.returns-in-Refused
-returns-in-Refused c =
+pub returns-in-Err : goal.returns-in-Err
+returns-in-Err c =
     replied (search rules) c.level_of.result _
-    (level-given c.args.step c.narrowed.ensures c.marked.result c.level_of.result c.marked.ensures
+    (level-given c.args.step c.narrowed.ensures c.sample_of.result c.level_of.result c.sample_of.ensures
     c.level_of.ensures)
-    c.in-Refused.is
+    c.in-Err.is
     (same_code c.refusal_number.ensures)

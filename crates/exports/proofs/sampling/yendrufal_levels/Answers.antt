@@ -8,18 +8,18 @@ use Rattle.exports.proofs.sampling.yendrufal_levels.Goals as goal
 pub returns-then-at-lt1 : goal.returns-then-at-lt1
 returns-then-at-lt1 c = misshaped (λ s. omega (arith, s))
 
-pub returns-in-Written : goal.returns-in-Written
-returns-in-Written c =
+pub returns-in-Ok : goal.returns-in-Ok
+returns-in-Ok c =
     let a = c.args in
     levels-written a.n a.step a.top a.values.now a.erased _ _ c.levels_of.result (search rules)
     (levels-given a.step c.narrowed.ensures a.n a.values.now a.erased a.room.now _ c.levels_of.result
     c.levels_of.ensures)
-    c.in-Written.is
+    c.in-Ok.is
 
-pub returns-in-Refused : goal.returns-in-Refused
-returns-in-Refused c =
+pub returns-in-Err : goal.returns-in-Err
+returns-in-Err c =
     let a = c.args in
     levels-refused a.n a.step a.top a.values.now a.erased _ _ c.levels_of.result (search rules)
     (levels-given a.step c.narrowed.ensures a.n a.values.now a.erased a.room.now _ c.levels_of.result
     c.levels_of.ensures)
-    c.in-Refused.is c.refused_at.ensures
+    c.in-Err.is c.refused_at.ensures

@@ -15,14 +15,14 @@ returns-then-order-lt1 c = misshaped (λ s. omega (arith, s.1))
 pub returns-then-at-lt2 : goal.returns-then-at-lt2
 returns-then-at-lt2 c = misshaped (λ s. omega (arith, s.2))
 
-pub returns-in-Accepted : goal.returns-in-Accepted
-returns-in-Accepted c =
+pub returns-in-Ok : goal.returns-in-Ok
+returns-in-Ok c =
     sheet-accepted _ _ _ (search rules) c.open-report.ensures
-    (sym c.verdict_of-verdict.ensures ∙ c.in-Accepted.is)
+    (sym c.verdict_of-verdict.ensures ∙ c.in-Ok.is)
     c.put_plate.ensures c.order_number.ensures
 
-pub returns-in-Refused : goal.returns-in-Refused
-returns-in-Refused c =
+pub returns-in-Err : goal.returns-in-Err
+returns-in-Err c =
     sheet-refused _ _ _ (search rules) c.open-report.ensures
-    (sym c.verdict_of-verdict.ensures ∙ c.in-Refused.is)
+    (sym c.verdict_of-verdict.ensures ∙ c.in-Err.is)
     c.refused_in.ensures

@@ -1,6 +1,4 @@
 -- `exports::verdicts::yendrufal_judge` meets its promise.
-use mathlib.Core.Path.{sym, ◌∙◌}
-use native.Mathlib.Omega.{arith}
 use Rattle.exports.proofs.CallsMade.{misshaped}
 use Rattle.exports.proofs.VerdictCrossed.{judge-refused, judge-told}
 use Rattle.exports.proofs.verdicts.yendrufal_judge.Goals as goal
@@ -8,30 +6,10 @@ use Rattle.exports.proofs.verdicts.yendrufal_judge.Goals as goal
 pub returns-then-not-judge_shaped : goal.returns-then-not-judge_shaped
 returns-then-not-judge_shaped c = misshaped (c.judge_shaped.ensures.no_is c.if-not-judge_shaped.true)
 
-pub bounds-plate-0 : goal.bounds-plate-0
-bounds-plate-0 c =
+pub parts_of-requires : goal.parts_of-requires
+parts_of-requires c =
     let shaped = c.judge_shaped.ensures.yes_is c.if-not-judge_shaped.false in
-    omega (arith, shaped.0)
-
-pub bounds-plate-1 : goal.bounds-plate-1
-bounds-plate-1 c =
-    let shaped = c.judge_shaped.ensures.yes_is c.if-not-judge_shaped.false in
-    omega (arith, shaped.0)
-
-pub bounds-plate-131 : goal.bounds-plate-131
-bounds-plate-131 c =
-    let shaped = c.judge_shaped.ensures.yes_is c.if-not-judge_shaped.false in
-    omega (arith, shaped.0)
-
-pub slice_bounds-judge_parts-end : goal.slice_bounds-judge_parts-end
-slice_bounds-judge_parts-end c =
-    let shaped = c.judge_shaped.ensures.yes_is c.if-not-judge_shaped.false in
-    omega (arith, shaped.0)
-
-pub slice_bounds-judge_parts-end-2 : goal.slice_bounds-judge_parts-end-2
-slice_bounds-judge_parts-end-2 c =
-    let shaped = c.judge_shaped.ensures.yes_is c.if-not-judge_shaped.false in
-    omega (arith, shaped.0)
+    shaped.0
 
 pub put_judgement-requires : goal.put_judgement-requires
 put_judgement-requires c =
@@ -48,18 +26,20 @@ refused_at-requires c =
     let shaped = c.judge_shaped.ensures.yes_is c.if-not-judge_shaped.false in
     shaped.4
 
-pub returns-in-Accepted : goal.returns-in-Accepted
-returns-in-Accepted c =
+pub returns-in-Ok : goal.returns-in-Ok
+returns-in-Ok c =
     let shaped = c.judge_shaped.ensures.yes_is c.if-not-judge_shaped.false in
     let a = c.args in
-    judge-told a.text.now _ (record { reply = c.judge_parts-judgement.result; room = _ }) a.plate.now shaped c.judge_parts-judgement.ensures
-    (sym c.refused_by-judged.ensures ∙ c.in-Accepted.is)
+    judge-told a.text.now _ (record { reply = c.judge_parts-judgement.result; room = _ }) a.plate.now shaped
+    (rw c.parts_of.ensures at c.judge_parts-judgement.ensures)
+    c.in-Ok.is
     c.put_judgement.ensures
 
-pub returns-in-Refused : goal.returns-in-Refused
-returns-in-Refused c =
+pub returns-in-Err : goal.returns-in-Err
+returns-in-Err c =
     let shaped = c.judge_shaped.ensures.yes_is c.if-not-judge_shaped.false in
     let a = c.args in
-    judge-refused a.text.now _ (record { reply = c.judge_parts-judgement.result; room = _ }) a.plate.now shaped c.judge_parts-judgement.ensures
-    (sym c.refused_by-judged.ensures ∙ c.in-Refused.is)
+    judge-refused a.text.now _ (record { reply = c.judge_parts-judgement.result; room = _ }) a.plate.now shaped
+    (rw c.parts_of.ensures at c.judge_parts-judgement.ensures)
+    c.in-Err.is
     c.refused_at.ensures

@@ -14,7 +14,7 @@ pub loop-t-preserved : goal.loop-t-preserved
 loop-t-preserved c =
     let profile = c.args.profile.now in (
       omega (arith, c.loop-t-test.true),
-      c.greater-most.ensures ∙ ap (max (get_or profile _ 0)) c.loop-t.invariant.1
+      c.max-most.ensures ∙ ap (max (get_or profile _ 0)) c.loop-t.invariant.1
           ∙ ap (λ (x : ℕ). max (get_or profile x 0) (widest_entry profile c.loop-t.t)) (add-one c.loop-t.t)
           ∙ ap (widest_entry profile) (sym (add-one c.loop-t.t)),
     )

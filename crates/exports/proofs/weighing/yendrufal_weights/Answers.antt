@@ -11,17 +11,17 @@ returns-then-plate-lt132 c = misshaped (λ s. omega (arith, s.0))
 pub returns-then-least-lt1 : goal.returns-then-least-lt1
 returns-then-least-lt1 c = misshaped (λ s. omega (arith, s.1))
 
-pub returns-in-Least : goal.returns-in-Least
-returns-in-Least c =
-    weights-least c.args.plate.now _ _ _ c.count_weights_parts.result (search rules) c.count_weights_parts.ensures
-    c.in-Least.is
+pub returns-in-Ok-Some : goal.returns-in-Ok-Some
+returns-in-Ok-Some c =
+    weights-least c.args.plate.now _ _ _ c.count_weights_parts.result (search rules) (rw c.parts_of.ensures at c.count_weights_parts.ensures)
+    (rw c.in-Ok-Some.field-0-is at c.in-Ok-Some.is)
 
-pub returns-in-OnlyZero : goal.returns-in-OnlyZero
-returns-in-OnlyZero c =
-    weights-none c.args.plate.now _ _ _ c.count_weights_parts.result (search rules) c.count_weights_parts.ensures
-    c.in-OnlyZero.is
+pub returns-in-Ok-None : goal.returns-in-Ok-None
+returns-in-Ok-None c =
+    weights-none c.args.plate.now _ _ _ c.count_weights_parts.result (search rules) (rw c.parts_of.ensures at c.count_weights_parts.ensures)
+    (rw c.in-Ok-None.field-0-is at c.in-Ok-None.is)
 
-pub returns-in-Refused : goal.returns-in-Refused
-returns-in-Refused c =
-    weights-refused c.args.plate.now _ _ _ c.count_weights_parts.result (search rules) c.count_weights_parts.ensures
-    c.in-Refused.is c.refusal_number.ensures
+pub returns-in-Err : goal.returns-in-Err
+returns-in-Err c =
+    weights-refused c.args.plate.now _ _ _ c.count_weights_parts.result (search rules) (rw c.parts_of.ensures at c.count_weights_parts.ensures)
+    c.in-Err.is c.refusal_number.ensures

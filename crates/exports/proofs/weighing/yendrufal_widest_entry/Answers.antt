@@ -11,10 +11,10 @@ returns-then-plate-lt132 c = misshaped (λ s. omega (arith, s.0))
 pub returns-then-widest-lt1 : goal.returns-then-widest-lt1
 returns-then-widest-lt1 c = misshaped (λ s. omega (arith, s.1))
 
-pub returns-in-Is : goal.returns-in-Is
-returns-in-Is c = replied (search rules) c.width_of.result _ c.width_of.ensures c.in-Is.is refl
+pub returns-in-Ok : goal.returns-in-Ok
+returns-in-Ok c = replied (search rules) c.width_of.result _ (rw c.parts_of.ensures at c.width_of.ensures) c.in-Ok.is refl
 
-pub returns-in-Refused : goal.returns-in-Refused
-returns-in-Refused c =
-    replied (search rules) c.width_of.result _ c.width_of.ensures c.in-Refused.is
+pub returns-in-Err : goal.returns-in-Err
+returns-in-Err c =
+    replied (search rules) c.width_of.result _ (rw c.parts_of.ensures at c.width_of.ensures) c.in-Err.is
     (same_code c.refusal_number.ensures)
