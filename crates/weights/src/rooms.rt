@@ -45,7 +45,10 @@ pub fn copy_out(working: &[u64], from: usize, counts: &mut [u64])
     requires { (65 ≤ length counts.old) × (from + 65 ≤ length working.now) }
     ensures { Copied working.now from counts.old 65 counts.new }
 {
-    counts[..65].copy_from_slice(&working[from..from + 65]);
+    // one by one: a slice copied at once is memmove, which the controller's library does not have
+    for w in 0..65 {
+        counts[w] = working[from + w];
+    }
 }
 
 // The smallest weight above zero whose count is above zero.
