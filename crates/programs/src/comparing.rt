@@ -1,16 +1,15 @@
 // The verb same: two inputs, and one line about their words.
-ghost use Rattle.std.specs.Prelude.{take, IfOk, ◌≡◌};
+ghost use Rattle.std.specs.Prelude.{take, IfErr, IfOk, ◌≡◌};
 ghost use Rattle.programs.specs.Ending.{IsStatus};
 ghost use Rattle.programs.specs.Input.{IsPrefixLen};
 ghost use Rattle.programs.specs.Same.{IsTold, SaysSame, outcome_status};
 
 use crate::endings::Ending;
-use crate::streams::Got;
+use crate::streams::{Failed, Got};
 use crate::writer::{Output, Sent};
 use crate::{endings, refusing, streams, verbs, writer};
 use outlines::{Compared, Uncompared};
 use std::env::Env;
-use std::io;
 use std::io::{Error, ErrorKind, Read, Write};
 use std::rt::Files;
 
@@ -97,14 +96,17 @@ fn read_named<F: Files, R: Read>(
     from: &mut R,
     name: &[u8],
     room: &mut [u8],
-) -> io::Result<Got>
-    ensures { IfOk result (λ got. IsPrefixLen got.size room.new) }
+) -> Result<Got, Failed>
+    ensures prefix_len { IfOk result (λ got. IsPrefixLen got.size room.new) }
+    ensures failed { IfErr result (λ failed. IsPrefixLen failed.size room.new) }
 {
     if verbs::is_minus(name) {
         return streams::read_all(from, room);
     }
-    let mut file = verbs::open(files, name)?;
-    streams::read_all(&mut file, room)
+    match verbs::open(files, name) {
+        Ok(mut file) => streams::read_all(&mut file, room),
+        Err(reason) => Err(Failed { size: 0, reason }),
+    }
 }
 
 // The exit status where a file cannot be read.
@@ -131,7 +133,7 @@ fn run_second<F: Files, R: Read, W: Write + Drop, E: Write>(
     let mut input = [0u8; 32769];
     let size = match read_named(files, from, name, &mut input) {
         Ok(got) => got.size,
-        Err(reason) => return name_fault(errors, name, reason),
+        Err(failed) => return name_fault(errors, name, failed.reason),
     };
     let mut output = Output::new(to);
     let outcome = print_same(&mut output, first, &input[..size]);
@@ -152,7 +154,7 @@ fn run_first<F: Files, R: Read, W: Write + Drop, E: Write>(
     let mut input = [0u8; 32769];
     let size = match read_named(files, &mut *from, first, &mut input) {
         Ok(got) => got.size,
-        Err(reason) => return name_fault(errors, first, reason),
+        Err(failed) => return name_fault(errors, first, failed.reason),
     };
     run_second(files, &input[..size], second, from, to, errors)
 }

@@ -38,7 +38,11 @@ pub fn trellis_main<A: Env, R: Read, W: Write + Drop, E: Write>(
     let mut input = [0u8; 32769];
     let got = match streams::read_all(from, &mut input) {
         Ok(got) => got,
-        Err(reason) => return endings::fault(errors, b"trellis: standard input", Some(reason)),
+        Err(failed) => return endings::fault(
+            errors,
+            b"trellis: standard input",
+            Some(failed.reason),
+        ),
     };
     let size = got.size;
     let mut output = Output::new(to);
@@ -67,10 +71,10 @@ pub fn plate_weights_main<A: Env, R: Read, W: Write + Drop, E: Write>(
     let mut sheet = [0u8; 32769];
     let got = match streams::read_all(from, &mut sheet) {
         Ok(got) => got,
-        Err(reason) => return endings::fault(
+        Err(failed) => return endings::fault(
             errors,
             b"plate_weights: standard input",
-            Some(reason),
+            Some(failed.reason),
         ),
     };
     let size = got.size;

@@ -67,7 +67,12 @@ fn run_on<R: Read, W: Write + Drop, E: Write>(
     let mut input = [0u8; 32769];
     let got = match streams::read_all(from, &mut input) {
         Ok(got) => got,
-        Err(reason) => return endings::file_fault(errors, b"yendrufal: ", name, Some(reason)),
+        Err(failed) => return endings::file_fault(
+            errors,
+            b"yendrufal: ",
+            name,
+            Some(failed.reason),
+        ),
     };
     let size = got.size;
     let mut output = Output::new(to);
