@@ -66,7 +66,7 @@ pub fn levels_of(
         return Err(Refusal::Length);
     }
     if !settings::is_good(setting) {
-        return Err(Refusal::BadSetting);
+        return Err(Refusal::BadSetting); // before the counts
     }
     if values.len() != n {
         return Err(Refusal::SampleCount);
