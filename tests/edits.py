@@ -53,10 +53,10 @@ class Edit:
 
 
 def functions_of(file, text):
-    """The functions of a file of src/: name as under proofs/ (a method's has its type before it), where its text begins, where its body begins and ends."""
+    """The functions of a file of src/: name as under proofs/ (a method's has its type before it), where its text begins, its attributes too, where its body begins and ends."""
     module = pathlib.Path(file).stem
     module = "" if module in ("lib", "main") else module + "/"
-    at, name, begin, body, owner, margin = 0, None, 0, None, "", ""
+    at, name, begin, body, owner, margin, above = 0, None, 0, None, "", "", None
     for line in text.split("\n"):
         if not line.startswith((" ", "}")) and line:
             methods = METHODS.match(line)
@@ -64,12 +64,13 @@ def functions_of(file, text):
         head = FUNCTION.match(line)
         if head:
             margin = head.group(1)
-            name, begin, body = module + (owner if margin else "") + head.group(2), at, None
+            name, begin, body = module + (owner if margin else "") + head.group(2), at if above is None else above, None
         if name and body is None and (line == margin + "{" or (line.endswith("{") and not line.startswith(margin + " "))):
             body = at + len(line)
         elif name and body is not None and line == margin + "}":
             yield name, begin, body, at
             name = None
+        above = (at if above is None else above) if line.lstrip().startswith("#[") else None
         at += len(line) + 1
 
 
