@@ -2,7 +2,7 @@
 use Rattle.std.proofs.Common.{Result, Ok, Err}
 use lib.Ieee.{Float}
 use lib.IntN.{ℤ}
-use lib.ListN.{set}
+use lib.ListN.{length, set}
 use mathlib.Core.List.{List}
 use mathlib.Core.Logic.{inl, inr}
 use mathlib.Core.Path.{ap, ap₂, refl, subst, sym, ◌∙◌, ◌≡◌}
@@ -11,9 +11,10 @@ use mir.Syntax.{w16}
 use mir.Val.{SFits, of_z, to_z}
 use native.Mathlib.Decide.{dec_lt}
 use native.Mathlib.Omega.{arith}
-use Prim.Native.Nat.{◌<◌, ℕ}
+use Prim.Native.Nat.{◌<◌, ◌≤◌, ℕ}
 use Rattle.exports.proofs.CallsDetermined.{calls-determined}
-use Rattle.exports.specs.Calls.{Crossing, RefusedAt, done}
+use Rattle.exports.proofs.CallsMade.{replied}
+use Rattle.exports.specs.Calls.{Calls, Crossing, RefusedAt, done}
 use Rattle.exports.specs.Promises.{HasCell}
 use Rattle.exports.specs.Sampling.{CallsLevel, CallsLevels, LevelCells, Narrows, SamplesTo, Sampling, level_as, level_cells, sampled_as, setting_of}
 use Rattle.levels.proofs.LevelsDetermined.{level-determined, levels-determined}
@@ -43,6 +44,12 @@ module _ (step : Float) {top narrow : ℕ} (h : Narrows top narrow) where
       go (yes l) (Ok y) x = absurd (x.0.0 BadSetting (bad-narrow l))
       go (yes l) (Err q) (inl x) = inl (bad-top l x)
       go (yes l) (Err q) (inr x) = absurd (x.0 BadSetting (bad-narrow l))
+
+  -- the reply about a sample, told of the value and the mark that it is of
+  pub level-replied : {sample other : Sample} {r reply : Result ℤ Refusal} {cell : List ℤ} {out : Crossing (List ℤ)} → 1 ≤ length cell
+      → sample ≡ other → GivesLevel (setting_of step narrow) sample r → r ≡ reply → out ≡ level_as cell reply
+      → Calls (1 ≤ length cell) cell (GivesLevel (setting_of step top) other) (level_as cell) out
+  level-replied {sample} {r = r} shape s g = replied shape r _ (level-given sample r s g)
 
   module _ (n : ℕ) (values : List Float) (erased : ℕ) (room room' : List ℤ) where
     refused-alike : {q : Refusal} → 127 < top → Refuses (block_conditions n (setting_of step narrow) values erased room) q
