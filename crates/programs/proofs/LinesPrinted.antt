@@ -83,8 +83,6 @@ all_lines input lines report g n r = record {
   only = λ handed m x. in-place-same input handed lines (m ∙ sym n) x (given-in-place input lines report g);
 }
 
--- ---- before the first line
-
 -- ---- one call of `next_line`
 
 module _ {report : Report} {input : List ℕ} {lent left : Lent} {step : Step} {count : ℕ} (rooms : Enough lent) (b : Before input count report)
