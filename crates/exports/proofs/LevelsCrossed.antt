@@ -45,7 +45,7 @@ module _ (step : Float) {top narrow : ℕ} (h : Narrows top narrow) where
       go (yes l) (Err q) (inl x) = inl (bad-top l x)
       go (yes l) (Err q) (inr x) = absurd (x.0 BadSetting (bad-narrow l))
 
-  -- so crosses the reply about a sample, told of the top level itself and of an equal sample
+  -- a reply below, given of the narrowed top level and an equal sample, crosses as the call promises of the top level itself
   pub level-replied : {sample other : Sample} {r reply : Result ℤ Refusal} {cell : List ℤ} {out : Crossing (List ℤ)} → 1 ≤ length cell
       → sample ≡ other → GivesLevel (setting_of step narrow) sample r → r ≡ reply → out ≡ level_as cell reply
       → Calls (1 ≤ length cell) cell (GivesLevel (setting_of step top) other) (level_as cell) out
